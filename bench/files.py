@@ -23,14 +23,20 @@ def data16(text):
     return struct.pack(">H", len(text)) + text
 
 
-def keytab_record(index):
-    body = struct.pack(">H", 2) + data16(b"EXAMPLE.TEST") + data16(b"host") + data16(b"web%d.example.test" % index)
+def keytab_record(index, name=None):
+    """An entry of a name and a version number of its own, or of the name of this index."""
+    body = struct.pack(">H", 2) + data16(b"EXAMPLE.TEST") + data16(b"host") + data16(b"web%d.example.test" % (index if name is None else name))
     body += struct.pack(">iIBh", 3, 1_700_000_000, index % 256, 19) + data16(bytes(16)) + struct.pack(">I", index + 1)
     return struct.pack(">i", len(body)) + body
 
 
-def keytab(entries, first=0):
-    return b"\x05\x02" + b"".join(keytab_record(index) for index in range(first, first + entries))
+def keytab(entries, first=0, name=None):
+    return b"\x05\x02" + b"".join(keytab_record(index, name) for index in range(first, first + entries))
+
+
+def holes(count, size):
+    """A keytab of so many holes, each with so many bytes after its size."""
+    return b"\x05\x02" + (struct.pack(">i", -size) + bytes(size)) * count
 
 
 def small_keytab(limit):

@@ -56,12 +56,12 @@ def commands(program, folder):
 
         return run_of
 
-    def adding(first):
-        """As many entries as the keytab has, from an index of the first of its names on."""
+    def adding(held_of, others_of):
+        """A keytab is added to another; the two calls make them for a size."""
         def run_of(size):
             others = folder / "others"
-            keys.write_bytes(files.keytab(size))
-            others.write_bytes(files.keytab(size, first(size)))
+            keys.write_bytes(held_of(size))
+            others.write_bytes(others_of(size))
             return files.processor_time([program, "add-keys", str(keys), str(others), str(out)])
 
         return run_of
@@ -77,8 +77,12 @@ def commands(program, folder):
     yield "check-keytab, entries", 10_000, on_keytab("check-keytab")
     yield "convert-keytab, entries", 10_000, on_keytab("convert-keytab", "{out}")
     yield "remove-key, entries", 10_000, on_keytab("remove-key", "{out}", "{last}")
-    yield "add-keys, entries of other names", 1_000, adding(lambda size: size)
-    yield "add-keys, the same entries", 1_000, adding(lambda size: 0)
+    yield "add-keys, entries of other names", 1_000, adding(files.keytab, lambda size: files.keytab(size, size))
+    yield "add-keys, the same entries", 1_000, adding(files.keytab, files.keytab)
+    yield "add-keys, version numbers of one name", 1_000, adding(
+        lambda size: files.keytab(size, name=0), lambda size: files.keytab(size, size, name=0))
+    yield "add-keys, holes that take an entry each", 1_000, adding(lambda size: files.holes(size, 100), files.keytab)
+    yield "add-keys, holes that are too short", 1_000, adding(lambda size: files.holes(size, 5), files.keytab)
     yield "pick-key, entries", 10_000, on_keytab("pick-key", "host/web{last}.example.test@EXAMPLE.TEST", "19")
     yield "list-ccache, credentials", 1_500, on_cache("list-ccache")
     yield "check-ccache, credentials", 1_500, on_cache("check-ccache")

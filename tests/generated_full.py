@@ -117,6 +117,33 @@ def many_keys():
            "files": {"f": data, "g": keys}, "stdout": f"wrote {len(made)}\n", "after": {"f": data, "g": keys, "out": made}}
 
 
+def many_versions():
+    """Very many version numbers of one key are added. The keytab already has some of them. (To compare each two of them would take minutes.)"""
+    records = [reference.record_of(entry([b"host", b"web"], 1 + at, 19, bytes(16))) for at in range(90_000)]
+    data, keys = (KEYTAB + b"".join(it) for it in (records[:60_000], records[30_000:]))
+    made = KEYTAB + b"".join(records)
+    yield {"name": "add-keys: 60,000 keys of one name, half of them there already, to 60,000", "args": ["add-keys", "f", "g", "out"],
+           "files": {"f": data, "g": keys}, "stdout": f"wrote {len(made)}\n", "after": {"f": data, "g": keys, "out": made}}
+
+
+def many_holes():
+    """Very many keys are added to a keytab of very many holes. Every second key finds its hole only after those that are too short."""
+    keys = [entry([b"host", b"n%06d" % at], 3, 19, struct.pack(">QQ", at, 0)) for at in range(40_000)]
+    keys = [{**it, "components": [*it["components"], b"longer"]} if at % 2 else it for at, it in enumerate(keys)]
+    records = [reference.record_of(it) for it in keys]
+    short, long = (hole_of(len(it)) for it in records[:2])
+    data = KEYTAB + short * 20_000 + long * 10_000
+    made = KEYTAB + b"".join([*records[0::2], *records[1:20_000:2], *records[20_001::2]])
+    yield {"name": "add-keys: 40,000 keys to 30,000 holes, of which 20,000 are too short for half of them", "args": ["add-keys", "f", "g", "out"],
+           "files": {"f": data, "g": KEYTAB + b"".join(records)}, "stdout": f"wrote {len(made)}\n",
+           "after": {"f": data, "g": KEYTAB + b"".join(records), "out": made}}
+
+
+def hole_of(size):
+    """A hole of so many bytes, its size among them."""
+    return struct.pack(">i", 4 - size) + bytes(size - 4)
+
+
 def cases():
-    for part in (full_listings, long_names, last_ones, many_lines, many_keys):
+    for part in (full_listings, long_names, last_ones, many_lines, many_keys, many_versions, many_holes):
         yield from part()

@@ -11,7 +11,7 @@ use Rattle.krb_keytab.specs.Edit.{Appends, IsMadeOf}
 use Rattle.krb_keytab.specs.Inner.Finding.{HasRoom, HasNone}
 use Rattle.krb_keytab.specs.Inner.Putting.{Puts}
 use Rattle.krb_keytab.specs.Inner.Room.{holes_of, KnowsRoom, IsTaken, PutsIn}
-use Rattle.krb_keytab.specs.declared.adder.Hole.{Hole}
+use Rattle.krb_keytab.specs.declared.holes.Hole.{Hole}
 use Rattle.krb_keytab.specs.declared.fault.KeytabFault.{KeytabFault}
 use Rattle.krb_keytab.specs.declared.finding.Extent.{Extent}
 use Rattle.krb_keytab.specs.declared.finding.Room.TheVariants as room

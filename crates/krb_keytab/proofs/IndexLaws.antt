@@ -1,5 +1,5 @@
--- An index of entries by name is made from the last entry to the first, and passes over entries of
--- other names alone.
+-- An index of entries is made from the last entry to the first, and passes over entries of other
+-- names or keys alone.
 use Rattle.std.proofs.Common.{◌≡◌, ℕ, zero, suc, ◌+◌, ◌-◌, ◌<◌, ◌≤◌, ◌%◌, ℤ, pos, subst, List, [], length, take, get_or, Option, sym, ap, ◌∙◌, inl, inr, arith}
 use Rattle.std.specs.Prelude.{◌≢◌, slice_index, slice_set}
 use Rattle.std.proofs.lemmas.Bool.{cases_eq, cases_lt}
@@ -10,7 +10,8 @@ use Rattle.krb_name.specs.Name.{SameName, name_hash}
 use Rattle.krb_name.proofs.Names.{same_hash}
 use Rattle.krb_keytab.specs.Entry.{KeytabEntry}
 use Rattle.krb_keytab.specs.Pick.{IsChoice, Choice, choice_of, IsPicked}
-use Rattle.krb_keytab.specs.Inner.Index.{bucket_of, buckets_of, LeadsTo, IsLinkedFrom}
+use Rattle.krb_keytab.specs.Inner.Index.{buckets_of, hash_by, LeadsTo, IsLinkedFrom}
+use Rattle.krb_keytab.specs.declared.index.By.TheVariants.{Name}
 use Rattle.krb_keytab.specs.declared.pick.Picked.{Picked}
 use Rattle.krb_keytab.proofs.PickLaws.{other_name}
 
@@ -51,10 +52,13 @@ one_linked buckets firsts nexts count place bucket within small here h = record 
   ];
 }
 
--- ---- names and buckets
+-- ---- buckets
 
-pub bucket_at : (count : ℕ) (entries : List KeytabEntry) (k : ℕ) (e : KeytabEntry) → k < length entries → slice_index (buckets_of count entries) k ≡ bucket_of count (get_or entries k e).principal
-bucket_at count entries k e lt = get_or-map (λ entry. bucket_of count entry.principal) entries k e 0 lt
+pub bucket_at : (hash : KeytabEntry → ℕ) (count : ℕ) (entries : List KeytabEntry) (k : ℕ) (e : KeytabEntry) → k < length entries → slice_index (buckets_of hash count entries) k ≡ hash (get_or entries k e) % count
+bucket_at hash count entries k e lt = get_or-map (λ entry. hash entry % count) entries k e 0 lt
+
+pub in_buckets : (hash : KeytabEntry → ℕ) (count : ℕ) (entries : List KeytabEntry) (k : ℕ) → k < length entries → k < length (buckets_of hash count entries)
+in_buckets hash count entries k lt = subst (λ n. k < n) (sym (length-map entries (λ (entry : KeytabEntry). hash entry % count))) lt
 
 -- ---- passing over other names
 
@@ -78,37 +82,37 @@ pass_some entries name etype kvno choice from (suc count) others h =
     let place : from + count + 1 ≡ from + suc count = omega arith in
     subst (λ n. IsChoice (take n entries) name etype kvno choice) place here
 
-pub passed_over : (entries : List KeytabEntry) (name : Principal) (etype : ℤ) (kvno : Option ℕ) (picked : Picked) (count from to : ℕ) → LeadsTo (buckets_of count entries) (bucket_of count name) from to
+pub passed_over : (entries : List KeytabEntry) (name : Principal) (etype : ℤ) (kvno : Option ℕ) (picked : Picked) (count from to : ℕ) → LeadsTo (buckets_of (hash_by Name) count entries) (name_hash name % count) from to
     → IsPicked (take from entries) name etype kvno picked → IsPicked (take to entries) name etype kvno picked
 passed_over entries name etype kvno picked count from to leads h =
     let f = leads.forward in
     let place : from + (to - from) ≡ to = omega arith in
     subst (λ n. IsChoice (take n entries) name etype kvno (choice_of picked)) place
     (pass_some entries name etype kvno (choice_of picked) from (to - from) (λ k ge lt within same.
-    leads.skips k ge (omega arith) (subst (λ n. k < n) (sym (length-map entries (λ (entry : KeytabEntry). bucket_of count entry.principal))) within)
-    (bucket_at count entries k (nobody name) within ∙ ap (λ n. n % count) (same_hash _ name same))) h)
+    leads.skips k ge (omega arith) (in_buckets (hash_by Name) count entries k within)
+    (bucket_at (hash_by Name) count entries k (nobody name) within ∙ ap (λ n. n % count) (same_hash _ name same))) h)
 
 -- ---- as a loop over the places of a bucket does it
 
--- what an index leads to: the places of a name
-pub record LeadsOn (entries : List KeytabEntry) (count : ℕ) (name : Principal) (from to : ℕ) : Type 0 where
-  pub leads : LeadsTo (buckets_of count entries) (bucket_of count name) from to
-  pub lands : to < length entries → slice_index (buckets_of count entries) to ≡ bucket_of count name
+-- what an index leads to: the places of a hash
+pub record LeadsOn (hash : KeytabEntry → ℕ) (entries : List KeytabEntry) (count wanted from to : ℕ) : Type 0 where
+  pub leads : LeadsTo (buckets_of hash count entries) (wanted % count) from to
+  pub lands : to < length entries → slice_index (buckets_of hash count entries) to ≡ wanted % count
 
-leads_on : (entries : List KeytabEntry) (count : ℕ) (name : Principal) (from to : ℕ) → LeadsTo (buckets_of count entries) (bucket_of count name) from to → LeadsOn entries count name from to
-leads_on entries count name from to h = record {
+leads_on : (hash : KeytabEntry → ℕ) (entries : List KeytabEntry) (count wanted from to : ℕ) → LeadsTo (buckets_of hash count entries) (wanted % count) from to → LeadsOn hash entries count wanted from to
+leads_on hash entries count wanted from to h = record {
   leads = h;
-  lands = λ within. h.lands (subst (λ n. to < n) (sym (length-map entries (λ (entry : KeytabEntry). bucket_of count entry.principal))) within);
+  lands = λ within. h.lands (in_buckets hash count entries to within);
 }
 
-pub first_leads : (entries : List KeytabEntry) (count : ℕ) (name : Principal) (firsts nexts : List ℕ) (to : ℕ) → 0 < count → IsLinkedFrom (buckets_of count entries) count 0 firsts nexts → to ≡ slice_index firsts (bucket_of count name)
-    → LeadsOn entries count name 0 to
-first_leads entries count name firsts nexts to some linked is =
-    leads_on entries count name 0 to (subst (LeadsTo (buckets_of count entries) (bucket_of count name) 0) (sym is) (linked.first (bucket_of count name) (mod-lt (name_hash name) some)))
+pub first_leads : (hash : KeytabEntry → ℕ) (entries : List KeytabEntry) (count wanted : ℕ) (firsts nexts : List ℕ) (to : ℕ) → 0 < count → IsLinkedFrom (buckets_of hash count entries) count 0 firsts nexts → to ≡ slice_index firsts (wanted % count)
+    → LeadsOn hash entries count wanted 0 to
+first_leads hash entries count wanted firsts nexts to some linked is =
+    leads_on hash entries count wanted 0 to (subst (LeadsTo (buckets_of hash count entries) (wanted % count) 0) (sym is) (linked.first (wanted % count) (mod-lt wanted some)))
 
-pub next_leads : (entries : List KeytabEntry) (count : ℕ) (name : Principal) (firsts nexts : List ℕ) (at to : ℕ) → at < length entries → slice_index (buckets_of count entries) at ≡ bucket_of count name → IsLinkedFrom (buckets_of count entries) count 0 firsts nexts → to ≡ slice_index nexts at
-    → LeadsOn entries count name (at + 1) to
-next_leads entries count name firsts nexts at to within here linked is =
-    leads_on entries count name (at + 1) to (subst (LeadsTo (buckets_of count entries) (bucket_of count name) (at + 1)) (sym is)
-    (subst (λ b. LeadsTo (buckets_of count entries) b (at + 1) (slice_index nexts at)) here
-    (linked.next at (omega arith) (subst (λ n. at < n) (sym (length-map entries (λ (entry : KeytabEntry). bucket_of count entry.principal))) within))))
+pub next_leads : (hash : KeytabEntry → ℕ) (entries : List KeytabEntry) (count wanted : ℕ) (firsts nexts : List ℕ) (at to : ℕ) → at < length entries → slice_index (buckets_of hash count entries) at ≡ wanted % count → IsLinkedFrom (buckets_of hash count entries) count 0 firsts nexts → to ≡ slice_index nexts at
+    → LeadsOn hash entries count wanted (at + 1) to
+next_leads hash entries count wanted firsts nexts at to within here linked is =
+    leads_on hash entries count wanted (at + 1) to (subst (LeadsTo (buckets_of hash count entries) (wanted % count) (at + 1)) (sym is)
+    (subst (λ b. LeadsTo (buckets_of hash count entries) b (at + 1) (slice_index nexts at)) here
+    (linked.next at (omega arith) (in_buckets hash count entries at within))))

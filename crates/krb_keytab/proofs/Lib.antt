@@ -19,5 +19,7 @@ pub mod StandLaws
 pub mod ToldLaws
 pub mod OnePlace
 pub mod RoomLaws
+pub mod MaximaLaws
+pub mod HoleLaws
 pub mod AdderLaws
 pub mod KeyLaws

@@ -8,7 +8,7 @@ use Rattle.krb_keytab.specs.Format.{version, KeytabRecord, hole, entry, record_b
 use Rattle.krb_keytab.specs.Entry.{KeytabEntry}
 use Rattle.krb_keytab.specs.Edit.{LacksRoom}
 use Rattle.krb_keytab.specs.Inner.Room.{holes_of}
-use Rattle.krb_keytab.specs.declared.adder.Hole.{Hole}
+use Rattle.krb_keytab.specs.declared.holes.Hole.{Hole}
 
 further : (one : KeytabRecord) (before : List KeytabRecord) (at : ℕ) → at + length (record_bytes one) + length (flat_map record_bytes before) ≡ at + length (flat_map record_bytes (one ∷ before))
 further one before at = omega (arith, length-append (record_bytes one) (flat_map record_bytes before))

@@ -1,39 +1,32 @@
 //! Adding entries one after another to the bytes of a keytab.
 
-ghost use Rattle.std.specs.Prelude.{◌≡◌, ◌≢◌, ◌⊎◌, List, All, ◌<◌, IfOk, IfErr, OnOk, OnErr, MatchOption, Err};
+ghost use Rattle.std.specs.Prelude.{◌≡◌, ◌≢◌, List, IfOk, IfErr, OnOk, OnErr, Err};
 ghost use Rattle.krb_keytab.specs.Edit.{AddsEntry, GainsEntry, IsUnadded, WouldPass};
 ghost use Rattle.krb_keytab.specs.Entry.{KeytabEntry};
 ghost use Rattle.krb_keytab.specs.Format.{IsFaultOf, IsKeytab};
-ghost use Rattle.krb_keytab.specs.Inner.Room.{IsTaken, KnowsRoom};
+ghost use Rattle.krb_keytab.specs.Inner.Room.{KnowsRoom};
 ghost use Rattle.krb_keytab.specs.declared.fault.KeytabFault.{KeytabFault};
 
 use crate::entry::Entry;
 use crate::fault::KeytabFault;
-use crate::finding::{Extent, Gather, Room, read_all};
+use crate::finding::{Extent, Room, read_all};
+use crate::holes::Holes;
 use crate::keytab::fault_of;
 use crate::writing::put_in;
-use std::alloc::{AllocError, Global};
+use std::alloc::Global;
 use std::marker::Model;
 
 /// The bytes of a keytab, to which entries are added one after another. A contract sees it as the
 /// bytes.
 ///
 /// The bytes become the same as by `Keytab::add_in`, which reads the whole file for each entry. The
-/// time for an entry grows with its length and with the number of holes that are left.
+/// time for an entry grows with its length, and hardly with the number of holes.
 #[derive(Drop)]
 pub struct EntryAdder {
     file: Vec<u8>,
-    // The holes, in the order of the file.
-    holes: Vec<Hole>,
+    holes: Holes,
     // Where the records end.
     end: usize,
-}
-
-/// A hole: the offset of its size, and how many bytes it has with that size.
-#[derive(Drop)]
-pub(crate) struct Hole {
-    pub(crate) from: usize,
-    pub(crate) size: usize,
 }
 
 impl Model for EntryAdder {
@@ -44,13 +37,13 @@ impl Model for EntryAdder {
 
     ghost view = { λ a. a.file.items };
 
-    ghost invariant = { λ a. KnowsRoom a.file.items a.holes.items a.end };
+    ghost invariant = { λ a. KnowsRoom a.file.items a.holes a.end };
 }
 
 impl EntryAdder {
     /// Takes the bytes of a file, and reads where its holes are.
     ///
-    /// Allocates memory for the list of holes, 16 bytes or more for each.
+    /// Allocates memory for the list of holes, 32 bytes or more for each.
     ///
     /// # Errors
     /// The bytes are freed.
@@ -88,7 +81,7 @@ impl EntryAdder {
         ensures err { OnErr result (self.new ≡ self.old) }
     {
         let size = entry.record_length();
-        match take_hole(&mut self.holes, size) {
+        match self.holes.take(size) {
             Some(hole) => {
                 let to = hole.from + hole.size;
                 let from = hole.from;
@@ -112,52 +105,15 @@ impl EntryAdder {
 
 // Finds the holes of a keytab, and where its records end. Looks for a fault again if there was no
 // memory, so that none is hidden.
-fn read_room(alloc: Global, bytes: &[u8]) -> Result<(Vec<Hole>, usize), KeytabFault>
-    ensures room { IfOk result (λ found. KnowsRoom bytes.now found.0.items found.1) }
+fn read_room(alloc: Global, bytes: &[u8]) -> Result<(Holes, usize), KeytabFault>
+    ensures room { IfOk result (λ found. KnowsRoom bytes.now found.0 found.1) }
     ensures fault { IfErr result (λ fault.
         fault ≢ KeytabFault.OutOfMemory → IsFaultOf bytes.now fault) }
     ensures faulty { (fault : KeytabFault) → IsFaultOf bytes.now fault → result ≡ Err fault }
 {
     let mut holes = Vec::new(alloc);
     match read_all(bytes, &mut holes) {
-        Ok(end) => Ok((holes, end)),
+        Ok(end) => Ok((Holes::new(alloc, holes)?, end)),
         Err(_) => Err(fault_of(bytes)),
     }
-}
-
-impl Gather for Vec<Hole> {
-    ghost use Rattle.std.specs.Prelude.{⊤, length};
-    ghost use Rattle.krb_keytab.specs.Format.{version};
-    ghost use Rattle.krb_keytab.specs.Inner.Room.{holes_of};
-
-    ghost has = { λ start records now. now.items ≡ holes_of (length version) records };
-
-    ghost allocates = { ⊤ };
-
-    fn hole(&mut self, place: Extent) -> Result<(), AllocError> {
-        let size = place.to - place.from;
-        Ok(self.push(Hole {
-            from: place.from,
-            size,
-        })?)
-    }
-
-    #[tactic(auto, using(crate::proofs::RoomLaws::entry_more))]
-    fn entry(&mut self, _place: Extent) -> Result<(), AllocError> {
-        Ok(())
-    }
-}
-
-// Takes the first hole of at least so many bytes out of the list.
-fn take_hole(holes: &mut Vec<Hole>, size: usize) -> Option<Hole>
-    ensures { MatchOption result
-        (All (λ hole. hole.size < size) holes.old.items × (holes.new.items ≡ holes.old.items))
-        (λ hole. IsTaken holes.old.items size hole holes.new.items) }
-{
-    for at in 0..holes.len() {
-        if size <= holes[at].size {
-            return Some(holes.remove(at));
-        }
-    }
-    None
 }

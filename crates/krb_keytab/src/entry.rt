@@ -3,12 +3,14 @@
 ghost use Rattle.std.specs.Prelude.{◌≡◌, ◌↔◌, ◌<◌, ◌≤◌, ◌*◌, ◌^◌, length, All, IsTrue, SomeIff, Some};
 ghost use Rattle.krb_name.specs.Name.{name_hash};
 ghost use Rattle.krb_keytab.specs.Entry.{KeytabEntry, LengthsFit, FitsEntry};
+ghost use Rattle.krb_keytab.specs.Inner.Index.{key_hash};
 ghost use Rattle.krb_keytab.specs.Written.{record_length};
 
 use crate::part::Part;
 use crate::step::SIZE_LENGTH;
 use krb_name::{Bytes, Principal};
 use std::fmt;
+use std::hash::{FoldHasher, Hasher};
 use std::marker::Model;
 
 /// An entry of a keytab: one key of a principal. A contract sees it as the record of its parts.
@@ -138,6 +140,19 @@ impl Entry {
         ensures { result ≡ name_hash self.now.principal }
     {
         self.hash
+    }
+
+    // The hash of the whole key.
+    #[tactic(auto, unfolding(crate::specs::Inner::Index::key_hash))]
+    pub(crate) fn key_hash(&self) -> u32
+        ensures { result ≡ key_hash self.now }
+    {
+        let mut hasher = FoldHasher::default();
+        hasher.write_u32(self.hash);
+        hasher.write_i16(self.etype);
+        hasher.write_u32(self.kvno);
+        hasher.write(self.key.as_slice());
+        (hasher.finish() % (1 << 32)) as u32
     }
 
     // How many bytes its record has, the size at its front among them.

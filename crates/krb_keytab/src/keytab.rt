@@ -6,7 +6,6 @@ ghost use Rattle.krb_keytab.specs.Entry.{KeytabEntry};
 ghost use Rattle.krb_keytab.specs.Fault.{offset_of, failed_reads};
 ghost use Rattle.krb_keytab.specs.Only.{KeepsOnly};
 ghost use Rattle.krb_keytab.specs.Pick.{IsPicked};
-ghost use Rattle.krb_keytab.specs.SameKey.{HasKeyOf};
 ghost use Rattle.krb_name.specs.Name.{SameName};
 ghost use Rattle.krb_name.specs.File.{file_limit, ReadsFile};
 ghost use Rattle.krb_keytab.specs.Format.{IsKeytab, IsFaultOf, IsAnswerOf};
@@ -16,9 +15,8 @@ use crate::entry::Entry;
 use crate::fault::KeytabFault;
 use crate::feed::{Feed, Slice};
 use crate::finding::find_entry;
-use crate::index::{NameIndex, renew};
+use crate::index::{By, EntryIndex, renew};
 use crate::pick::{Picked, pick_each, pick_indexed};
-use crate::same_key::{has_key_of, is_indexed_before};
 use crate::step::{VERSION, read_entries};
 use crate::writing::put_record;
 use krb_name::{FILE_LIMIT, Principal, Source, Window};
@@ -31,19 +29,19 @@ use std::marker::Model;
 pub struct Keytab {
     entries: Vec<Entry>,
     // None if there are few entries.
-    index: Option<NameIndex>,
+    index: Option<EntryIndex>,
 }
 
 impl Model for Keytab {
     ghost use Rattle.std.specs.Prelude.{List, IfSome};
     ghost use Rattle.krb_keytab.specs.Entry.{KeytabEntry};
-    ghost use Rattle.krb_keytab.specs.Inner.Index.{IsIndexOf};
+    ghost use Rattle.krb_keytab.specs.Inner.Index.{IsNameIndex};
 
     ghost Value = { List KeytabEntry };
 
     ghost view = { λ k. k.entries.items };
 
-    ghost invariant = { λ k. IfSome k.index (λ index. IsIndexOf index k.entries.items) };
+    ghost invariant = { λ k. IfSome k.index (λ index. IsNameIndex index k.entries.items) };
 }
 
 // As many entries have no index. They are looked at one by one.
@@ -134,7 +132,7 @@ impl Keytab {
         ensures { IfOk result (λ keytab. keytab ≡ entries.items) }
     {
         let index = if entries.len() > FEW {
-            Some(NameIndex::new(alloc, entries.as_slice())?)
+            Some(EntryIndex::new(alloc, By::Name, entries.as_slice())?)
         } else {
             None
         };
@@ -210,26 +208,6 @@ impl Keytab {
         match &self.index {
             Some(index) => pick_indexed(entries, index, name, etype, kvno),
             None => pick_each(entries, name, etype, kvno),
-        }
-    }
-}
-
-impl Keytab {
-    /// Returns whether one of the first `place` entries has the key of `entry`: its name, encryption
-    /// type, version number and bytes.
-    ///
-    /// Names are compared as by `Principal::same_name`. Timestamps aren't compared. Allocates no
-    /// memory. If there are more than 8 entries, it looks only at those that `pick` looks at.
-    ///
-    /// Condition: there are at least `place` entries.
-    pub fn has_key_before(&self, place: usize, entry: &Entry) -> bool
-        requires { place ≤ length self.now }
-        ensures { IsTrue result ↔ HasKeyOf (take place self.now) entry.now }
-    {
-        let entries = self.entries.as_slice();
-        match &self.index {
-            Some(index) => is_indexed_before(entries, index, place, entry),
-            None => has_key_of(&entries[..place], entry),
         }
     }
 }

@@ -2,11 +2,11 @@
 
 ghost use Rattle.std.specs.Prelude.{◌≡◌, ◌∷◌, ◌++◌, [], List};
 ghost use Rattle.krb_keytab.specs.Entry.{KeytabEntry};
-ghost use Rattle.krb_keytab.specs.Inner.Index.{IsIndexOf};
+ghost use Rattle.krb_keytab.specs.Inner.Index.{IsNameIndex};
 ghost use Rattle.krb_keytab.specs.Pick.{IsPicked};
 
 use crate::entry::Entry;
-use crate::index::NameIndex;
+use crate::index::EntryIndex;
 use crate::usable::{has_version, is_key};
 use krb_name::Principal;
 
@@ -91,16 +91,16 @@ pub(crate) fn pick_each<'a>(
 /// Picks an entry, and looks at those that the index leads to.
 pub(crate) fn pick_indexed<'a>(
     entries: &'a [Entry],
-    index: &NameIndex,
+    index: &EntryIndex,
     name: &Principal,
     etype: i32,
     kvno: Option<u32>,
 ) -> Picked<'a>
-    requires { IsIndexOf index.now entries.now }
+    requires { IsNameIndex index.now entries.now }
     ensures { IsPicked entries.now name.now etype kvno result }
 {
     let mut picked = Picked::NoName;
-    let mut at = index.first(name);
+    let mut at = index.first(name.name_hash());
     while at < entries.len() {
         picked = picked.or_entry(&entries[at], name, etype, kvno);
         at = index.next(at);

@@ -16,7 +16,7 @@ ghost use Rattle.krbtool.specs.Inner.Reading.{ReadsKeytab};
 use crate::fault::EngineFault;
 use crate::whole::{read_bytes, write_bytes};
 use krb_keytab::laws::each_file_has_one_answer;
-use krb_keytab::{Entry, EntryAdder, Keytab, KeytabFault};
+use krb_keytab::{Entry, EntryAdder, KeyIndex, Keytab, KeytabFault};
 use krb_name::{Sink, Source};
 use std::alloc::Global;
 
@@ -25,7 +25,7 @@ use std::alloc::Global;
 /// An entry of `others` is added unless the keytab, or an earlier entry of `others`, has its name,
 /// encryption type, version number and key. Each goes into the first hole that is long enough, else
 /// to the end, as by `Keytab::add_in`. All other bytes stay the same. Both sources are read before
-/// a byte is written. Looks for keys by the keytabs' indexes, and finds the holes once.
+/// a byte is written. Looks for keys by an index of each keytab, and finds the holes once.
 ///
 /// # Errors
 /// The first that applies:
@@ -138,8 +138,10 @@ fn add_each(
         ⊎ ((fault ≡ KeytabFault.TooLong) × PassesLimit file.items others.now)) }
 {
     let mut adder = adder_of(alloc, file)?;
+    let held_keys = KeyIndex::new(alloc, held.entries())?;
+    let other_keys = KeyIndex::new(alloc, others.entries())?;
     for (at, entry) in others.entries().iter().enumerate() {
-        add_lacking(&mut adder, held, others, at, entry)?;
+        add_lacking(&mut adder, &held_keys, &other_keys, at, entry)?;
     }
     Ok(adder.into_bytes())
 }
@@ -156,8 +158,8 @@ fn adder_of(alloc: Global, file: Vec<u8>) -> Result<EntryAdder, KeytabFault>
 // Adds the entry, unless `held`, or an earlier entry of `others`, has its key.
 fn add_lacking(
     adder: &mut EntryAdder,
-    held: &Keytab,
-    others: &Keytab,
+    held: &KeyIndex,
+    others: &KeyIndex,
     at: usize,
     entry: &Entry,
 ) -> Result<(), KeytabFault>
@@ -174,9 +176,9 @@ fn add_lacking(
     adder.add(entry)
 }
 
-fn is_known(held: &Keytab, others: &Keytab, at: usize, entry: &Entry) -> bool
+fn is_known(held: &KeyIndex, others: &KeyIndex, at: usize, entry: &Entry) -> bool
     requires { at ≤ length others.now }
     ensures { IsTrue result ↔ HasKeyOf (held.now ++ take at others.now) entry.now }
 {
-    held.has_key_before(held.entries().len(), entry) || others.has_key_before(at, entry)
+    held.has(entry) || others.has_before(at, entry)
 }

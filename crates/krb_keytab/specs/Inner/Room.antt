@@ -6,7 +6,7 @@ use Rattle.krb_keytab.specs.Format.{version, KeytabRecord, hole, entry, record_b
 use Rattle.krb_keytab.specs.Inner.Finding.{Divides, end_of}
 use Rattle.krb_keytab.specs.Inner.Putting.{Puts}
 use Rattle.krb_keytab.specs.Written.{padded_record, record_length}
-use Rattle.krb_keytab.specs.declared.adder.Hole.{Hole}
+use Rattle.krb_keytab.specs.declared.holes.Hole.{Hole}
 use Rattle.krb_keytab.specs.declared.fault.KeytabFault.{KeytabFault}
 use Rattle.krb_keytab.specs.declared.finding.Room.{Room}
 use Rattle.krb_keytab.specs.declared.finding.Room.TheVariants as room

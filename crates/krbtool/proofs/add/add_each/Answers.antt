@@ -1,4 +1,4 @@
-use Rattle.std.proofs.Common.{◌≡◌, ◌<◌, arith, ap, get_or, length, subst}
+use Rattle.std.proofs.Common.{◌≡◌, ◌<◌, ◌∙◌, arith, ap, get_or, length, subst}
 use Rattle.std.proofs.lemmas.Result.{err_from_is_err_and}
 use Rattle.krbtool.proofs.AddLaws.{not_added, so_far_next}
 use Rattle.krbtool.proofs.add.add_each.Goals as goal
@@ -12,8 +12,10 @@ returns-in_err-add_lacking-clause-fault c =
     let items = c.entries-entry-items.ensures in
     let within : at < length entries = omega (arith, c.loop-at-test.true, ap length items) in
     let is : entry ≡ get_or entries at entry = subst (λ l. entry ≡ get_or l at entry) items c.entry-item.is in
+    let held = c.in_ok-held_keys.ensures ∙ c.entries.ensures in
+    let others = c.in_ok-other_keys.ensures ∙ c.entries-2.ensures in
     rw (p.1, p.2) (not_added c.args.file.items c.args.held.now entries at entry c.loop-at.adder c.in_err-add_lacking.field-0.0
-    c.requires within is c.loop-at.invariant c.in_err-add_lacking.ensures.fault)
+    c.requires within is c.loop-at.invariant (rw (held, others) at c.in_err-add_lacking.ensures.fault))
 
 pub loop-at-preserved : goal.loop-at-preserved
 loop-at-preserved c =
@@ -23,5 +25,7 @@ loop-at-preserved c =
     let items = c.entries-entry-items.ensures in
     let within : at < length entries = omega (arith, c.loop-at-test.true, ap length items) in
     let is : entry ≡ get_or entries at entry = subst (λ l. entry ≡ get_or l at entry) items c.entry-item.is in
+    let held = c.in_ok-held_keys.ensures ∙ c.entries.ensures in
+    let others = c.in_ok-other_keys.ensures ∙ c.entries-2.ensures in
     so_far_next c.args.file.items c.args.held.now entries at entry c.loop-at.adder c.add_lacking.new.adder within is c.loop-at.invariant
-    c.in_ok-add_lacking.ensures.taken
+    (rw (held, others) at c.in_ok-add_lacking.ensures.taken)

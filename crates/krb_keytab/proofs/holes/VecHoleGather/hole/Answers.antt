@@ -1,6 +1,6 @@
 use Rattle.std.proofs.Common.{◌∙◌, arith}
 use Rattle.krb_keytab.proofs.RoomLaws.{hole_more}
-use Rattle.krb_keytab.proofs.adder.VecHoleGather.hole.Goals as goal
+use Rattle.krb_keytab.proofs.holes.VecHoleGather.hole.Goals as goal
 
 pub returns-clause-has : goal.returns-clause-has
 returns-clause-has c = λ start before ignored lies has.
