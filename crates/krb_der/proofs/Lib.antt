@@ -24,5 +24,4 @@ pub mod ListWrites
 pub mod Listed
 pub mod FlagLaws
 pub mod Sizes
-pub mod Dates
 pub mod Spelled
