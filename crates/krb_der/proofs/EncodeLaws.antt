@@ -3,6 +3,7 @@ use Rattle.std.proofs.Common.{◌≡◌, ℕ, ◌+◌, ◌≤◌, ltb, List, [],
 use Rattle.std.specs.Prelude.{OnOk, OnErr, Vec}
 use Rattle.std.proofs.lemmas.Bool.{ltb-true, ltb-false, cond_both}
 use Rattle.std.proofs.lemmas.List.{take_at, drop_at, append-nil}
+use Rattle.std.proofs.lemmas.Result.{on_err_weaker}
 use Rattle.krb_der.specs.declared.fault.EncodeFault.{EncodeFault}
 use Rattle.krb_der.specs.declared.fault.EncodeFault.TheVariants.{TooLong, OutOfMemory}
 use Rattle.krb_der.specs.Kind.{Kind, Fields, ValueOf, FieldsOf}
@@ -47,9 +48,7 @@ limited_at Part size sized (Ok u) start old mid at a kept =
 pub encodes-limited : {E : Type 0} (Part : List ℕ → Type 0) (size : ℕ) → HasSize Part size → (written : Result (Unit {0}) E) (r : Result (Unit {0}) EncodeFault) (start : ℕ) (old mid new : List ℕ)
     → start ≡ length old → OnOk written (Appends Part old mid) → OnErr written (take start mid ≡ old) → r ≡ limited_of written mid → new ≡ settled r start mid
     → Encodes Part size r old new
-encodes-limited Part size sized written r start old mid new at a kept l n =
-    subst (λ x. Encodes Part size x old new) (sym l)
-    (subst (λ x. Encodes Part size (limited_of written mid) old x) (sym (n ∙ ap (λ x. settled x start mid) l)) (limited_at Part size sized written start old mid at a kept))
+encodes-limited Part size sized written r start old mid new at a kept l n = rw (n, l) (limited_at Part size sized written start old mid at a kept)
 
 pub value_size : (k : Kind) (v : ValueOf k) → HasSize (Writes k v) (size_of k v)
 value_size k v = (spelled_is k v).sized
@@ -57,11 +56,7 @@ value_size k v = (spelled_is k v).sized
 pub encodes_leaf : {E : Type 0} (k : Kind) (v : ValueOf k) (written : Result (Unit {0}) E) (r : Result (Unit {0}) EncodeFault) (start : ℕ) (old mid new : List ℕ)
     → start ≡ length old → AppendsElement k v written old mid → r ≡ limited_of written mid → new ≡ settled r start mid → Encodes (Writes k v) (size_of k v) r old new
 encodes_leaf k v written r start old mid new at w l n =
-    encodes-limited (Writes k v) (size_of k v) (value_size k v) written r start old mid new at w.ok (by written w.kept) l n
-  where
-    by : {E : Type 0} (written : Result (Unit {0}) E) → OnErr written (mid ≡ old) → OnErr written (take start mid ≡ old)
-    by (Ok u) e = tt
-    by (Err f) e = before_same start old mid at e
+    encodes-limited (Writes k v) (size_of k v) (value_size k v) written r start old mid new at w.ok (on_err_weaker written (before_same start old mid at) w.kept) l n
 
 -- ---- an element round what was written
 wrapped-appends : (tag start : ℕ) (Part : List ℕ → Type 0) (old mid new : List ℕ) → start ≡ length old → Appends Part old mid → Wraps tag start mid new → Appends (IsElement tag Part) old new
@@ -113,9 +108,7 @@ joined_at First Rest size others sized (Err f) start old mid end at a e =
 pub encodes-joined : (First Rest : List ℕ → Type 0) (size others : ℕ) → HasSize First size → (written r : Result (Unit {0}) EncodeFault) (start : ℕ) (old mid end new : List ℕ)
     → start ≡ length old → Appends First old mid → Encodes Rest others written mid end → r ≡ written → new ≡ settled r start end → Encodes (IsJoined First Rest) (size + others) r old new
 encodes-joined First Rest size others sized written r start old mid end new at a e same n =
-    subst (λ x. Encodes (IsJoined First Rest) (size + others) x old new) (sym same)
-    (subst (λ x. Encodes (IsJoined First Rest) (size + others) written old x) (sym (n ∙ ap (λ x. settled x start end) same))
-    (joined_at First Rest size others sized written start old mid end at a e))
+    rw (n, same) (joined_at First Rest size others sized written start old mid end at a e)
 
 -- ---- a whole message, from nothing
 pub encoded_ok : {Z : Type 0} (k : Kind) (v : ValueOf k) (made : Vec ℕ Z) (old new : List ℕ) → old ≡ [] → Appends (Writes k v) old new → length new ≤ limit → made.items ≡ new

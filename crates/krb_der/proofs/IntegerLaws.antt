@@ -1,41 +1,15 @@
 -- A whole number is read exactly where one is spelled, and it has one content.
-use Rattle.std.proofs.Common.{◌≡◌, ◌≢◌, inl, inr, ℕ, zero, suc, ◌+◌, ◌-◌, ◌*◌, ◌^◌, ◌<◌, ◌≤◌, pos, negsuc, ◌-ℤ◌, Bool, true, false, not, ◌&&◌, ◌||◌, cond, ltb, leb, eqb, List, [], ◌∷◌, length, Option, Some, None, refl, sym, ap, subst, ◌∙◌, arith, lit<}
+use Rattle.std.proofs.Common.{◌≡◌, ℤ, inl, inr, ℕ, zero, suc, ◌+◌, ◌-◌, ◌*◌, ◌^◌, ◌<◌, ◌≤◌, pos, negsuc, ◌-ℤ◌, Bool, true, false, not, ◌&&◌, ◌||◌, cond, leb, List, [], ◌∷◌, length, Option, Some, None, refl, sym, ap, subst, ◌∙◌, arith, lit<}
 use Rattle.std.specs.Prelude.{IfSome}
-use Rattle.std.proofs.lemmas.Bool.{le-ltb, lt-leb, le-leb, ltb-false, leb-true, leb-false, ne_eqb, or_parts, cases_lt, cases_eq, cond_both, and_cases, eqb-false, not-false, true≢false}
-use Rattle.std.proofs.lemmas.List.{length-map}
+use Rattle.std.proofs.lemmas.Bool.{and_parts, le-ltb, lt-leb, le-leb, leb-true, leb-false, ne_eqb, or_parts, cases_lt, cond_both, not-false, true≢false}
+use Rattle.std.proofs.lemmas.Bool.Decides.{nat_tests}
+use Rattle.std.proofs.lemmas.Option.{cond_some}
 use Rattle.std.proofs.lemmas.Int.{ints}
 use Rattle.std.proofs.Math.Nat.{mul-le-mul_right, pow-le-pow_right}
 use Rattle.krb_der.specs.Whole.{AreBytes, number, IsShortest, IsNatural, turned, IsInteger}
 use Rattle.krb_der.specs.Computed.Steps.{◌>>?◌, only_if}
 use Rattle.krb_der.specs.Computed.Whole.{are_bytes, is_redundant, is_negative, contents_of, whole_of}
-use Rattle.krb_der.proofs.Numbers.{AreBytes-true, pow_step}
-use Rattle.krb_der.proofs.WholeSteps.{whole_of-some}
-
--- ---- turned bits
-pub length-turned : (bytes : List ℕ) → length (turned bytes) ≡ length bytes
-length-turned bytes = length-map bytes (λ b. 255 - b)
-
-pub AreBytes-turned : (bytes : List ℕ) → AreBytes (turned bytes)
-AreBytes-turned [] = tt
-AreBytes-turned (b ∷ bytes) = (omega arith, AreBytes-turned bytes)
-
-split_255 : (k b p : ℕ) → k + b ≡ 255 → b * p + k * p ≡ 255 * p
-split_255 k b p e = omega (arith, ap (λ x. x * p) e)
-
-pub number-turned : (bytes : List ℕ) → AreBytes bytes → number bytes + number (turned bytes) + 1 ≡ 256 ^ length bytes
-number-turned [] h = refl
-number-turned (b ∷ bytes) h =
-    let ih = number-turned bytes h.1 in
-    let wide : 256 ^ length (turned bytes) ≡ 256 ^ length bytes = ap (λ n. 256 ^ n) (length-turned bytes) in
-    let parts = split_255 (255 - b) b (256 ^ length bytes) (omega (arith, h.0)) in
-    rw wide (omega (arith, ih, parts, pow_step (length bytes)))
-
-pub turned-turned : (bytes : List ℕ) → AreBytes bytes → turned (turned bytes) ≡ bytes
-turned-turned [] h = refl
-turned-turned (b ∷ bytes) h =
-    let first : 255 - (255 - b) ≡ b = omega (arith, h.0) in
-    let rest = turned-turned bytes h.1 in
-    cc
+use Rattle.krb_der.proofs.Numbers.{are_bytes-true, AreBytes-true, pow_step, length-turned, AreBytes-turned, number-turned}
 
 -- ---- few bytes
 pub natural_least : (x y : ℕ) (ys : List ℕ) → IsShortest (x ∷ y ∷ ys) → 128 * 256 ^ length ys ≤ number (x ∷ y ∷ ys)
@@ -62,6 +36,25 @@ natural_few n content h lt = few content h.shortest (omega (arith, h.value))
               absurd (omega (arith, natural_least x y ys s, wide))
         ]
 
+-- ---- reading, step by step
+pub contents_of-some : (len : ℕ) (z : ℤ) → contents_of len ≡ Some z → (1 ≤ len) × (len ≤ 5) × (pos (256 ^ len) ≡ z)
+unfolding contents_of
+contents_of-some len z e =
+    let p = cond_some (leb 1 len && leb len 5) (pos (256 ^ len)) z e in
+    let q = and_parts (leb 1 len) (leb len 5) p.0 in
+    (leb-true 1 len q.0, leb-true len 5 q.1, p.1)
+
+-- few enough that differences fit
+pub contents_of-small : (len : ℕ) (z : ℤ) → contents_of len ≡ Some z → (n : ℕ) × (z ≡ pos n) × (n ≤ 2 ^ 40)
+contents_of-small len z e =
+    let p = contents_of-some len z e in
+    (256 ^ len, sym p.2, pow-le-pow_right (lit< tt) p.1)
+
+pub whole_of-some : (content : List ℕ) (all : ℤ) → is_redundant content ≡ false → AreBytes content → contents_of (length content) ≡ Some all
+    → whole_of content ≡ Some (cond (is_negative content) (pos (number content) -ℤ all) (pos (number content)))
+unfolding whole_of
+whole_of-some content all short bytes e = rw (short, are_bytes-true content bytes, e) refl
+
 -- ---- what is spelled is read
 contents_of-few : (len : ℕ) → 1 ≤ len → len ≤ 5 → contents_of len ≡ Some (pos (256 ^ len))
 unfolding contents_of
@@ -78,20 +71,14 @@ not_negative [] h = refl
 not_negative (a ∷ []) h = lt-leb 128 a h
 not_negative (a ∷ b ∷ bytes) h = lt-leb 128 a h.0
 
+-- turning the bits changes nothing of this
+redundant-turned : (content : List ℕ) → AreBytes content → is_redundant (turned content) ≡ is_redundant content
+redundant-turned [] h = refl
+redundant-turned (a ∷ []) h = refl
+redundant-turned (a ∷ b ∷ bytes) h = grind (arith, nat_tests, h.0, h.1.0)
+
 redundant_turned : (content : List ℕ) → AreBytes content → IsShortest (turned content) → is_redundant content ≡ false
-redundant_turned [] h s = absurd s
-redundant_turned (a ∷ []) h s = refl
-redundant_turned (a ∷ b ∷ bytes) h s =
-    elim (cases_eq a 255) [
-      | inl e ↦
-          let low : 128 ≤ 255 - b = s.1 (omega (arith, e)) in
-          let under : b < 128 = omega (arith, low) in
-          ap (λ x. is_redundant (x ∷ b ∷ bytes)) e ∙ rw (lt-leb 128 b under) refl
-      | inr ne ↦
-          let high : 128 ≤ a = omega (arith, s.0, h.0) in
-          let some : a ≢ 0 = λ e. absurd (omega (arith, e)) in
-          rw (ne_eqb a 0 some, ne_eqb a 255 ne) refl
-    ]
+redundant_turned content h s = sym (redundant-turned content h) ∙ not_redundant (turned content) s
 
 negative_turned : (content : List ℕ) → IsShortest (turned content) → is_negative content ≡ true
 negative_turned [] s = absurd s
@@ -133,27 +120,14 @@ none_some x e = cc
 pub shortest_kept : (content : List ℕ) → is_redundant content ≡ false → is_negative content ≡ false → IsShortest content
 shortest_kept [] r n = true≢false r
 shortest_kept (a ∷ []) r n = leb-false 128 a n
-shortest_kept (a ∷ b ∷ bytes) r n =
-    let p = or_parts (eqb a 0 && ltb b 128) (eqb a 255 && leb 128 b) r in (
-      leb-false 128 a n,
-      λ e. elim (and_cases (eqb a 0) (ltb b 128) p.0) [
-        | inl q ↦ absurd (eqb-false a 0 q e)
-        | inr q ↦ ltb-false b 128 q
-      ],
-    )
+shortest_kept (a ∷ b ∷ bytes) r n = (leb-false 128 a n, λ e. grind (arith, nat_tests))
+
+turned_kept : (content : List ℕ) → is_negative content ≡ true → is_negative (turned content) ≡ false
+turned_kept [] n = absurd (true≢false (sym n))
+turned_kept (a ∷ bytes) n = lt-leb 128 (255 - a) (omega (arith, leb-true 128 a n))
 
 pub shortest_turned : (content : List ℕ) → AreBytes content → is_redundant content ≡ false → is_negative content ≡ true → IsShortest (turned content)
-shortest_turned [] h r n = true≢false r
-shortest_turned (a ∷ []) h r n = let high = leb-true 128 a n in omega (arith, high)
-shortest_turned (a ∷ b ∷ bytes) h r n =
-    let p = or_parts (eqb a 0 && ltb b 128) (eqb a 255 && leb 128 b) r in
-    let high = leb-true 128 a n in (
-      omega (arith, high),
-      λ e. elim (and_cases (eqb a 255) (leb 128 b) p.1) [
-        | inl q ↦ absurd (eqb-false a 255 q (omega (arith, e, h.0)))
-        | inr q ↦ let low = leb-false 128 b q in omega (arith, low, h.1.0)
-      ],
-    )
+shortest_turned content h r n = shortest_kept (turned content) (redundant-turned content h ∙ r) (turned_kept content n)
 
 contents_found : (len : ℕ) → IfSome (contents_of len) (λ all. pos (256 ^ len) ≡ all)
 unfolding contents_of

@@ -65,8 +65,7 @@ module _ {X : Type 0} (k : Kind) (view : X → ValueOf k) (items : List X) where
     pub items_refused : (f : EncodeFault) (r : Result (Unit {0}) EncodeFault) (start : ℕ) (old mid end new : List ℕ) → start ≡ length old → Appends (Items (take i items)) old mid
         → Encodes (Writes k (view x)) (size_of k (view x)) (Err f) mid end → r ≡ Err f → new ≡ settled r start end → Encodes (Items items) (items_size items) r old new
     items_refused f r start old mid end new at a e same left =
-        subst (λ y. Encodes (Items items) (items_size items) y old new) (sym same)
-        (record {
+        rw (left, same) (record {
           ok = tt;
           too_long = λ t. omega (
             arith,
@@ -76,7 +75,7 @@ module _ {X : Type 0} (k : Kind) (view : X → ValueOf k) (items : List X) where
             row_size (each k) (map view (take i items)) a.bytes a.is,
             before_and_after,
           );
-          kept = left ∙ ap (λ y. settled y start end) same ∙ ap (take start) e.kept ∙ before_appended (Items (take i items)) start old mid at a;
+          kept = ap (take start) e.kept ∙ before_appended (Items (take i items)) start old mid at a;
         })
 
   -- all of them

@@ -10,8 +10,6 @@ use Rattle.krb_der.specs.Kind.{Kind, ends, must, ValueOf}
 use Rattle.krb_der.specs.Content.{Elementary}
 use Rattle.krb_der.specs.Place.{Place, begin_at}
 use Rattle.krb_der.specs.Spells.{Spells, IsMessage, limit}
-use Rattle.krb_der.specs.Numbers.{SpellsNegative}
-use Rattle.krb_der.specs.Writing.{Writes}
 use Rattle.krb_der.specs.Fault.{IsFault, IsFaulty, too_long, faulty, start, after_element}
 use Rattle.krb_der.specs.Computed.Steps.{◌>>=◌}
 use Rattle.krb_der.specs.Reading.{Parses}
@@ -21,7 +19,6 @@ use Rattle.krb_der.proofs.LengthLaws.{no_value, same_error}
 use Rattle.krb_der.proofs.ElementSteps.{answer, bind_at, same_ok}
 use Rattle.krb_der.proofs.ElementLaws.{element_read, finished}
 use Rattle.krb_der.proofs.Outcomes.{bind_by, ElementOut, FieldsOut, element_out, end_out, alone}
-use Rattle.krb_der.proofs.Spelled.{spelled_is}
 use Rattle.krb_der.proofs.Offsets.{fault_within}
 
 -- what is spelled is read, whatever follows
@@ -39,12 +36,6 @@ no_prefix k clear v w a b x y s t e =
 
 pub one_value : (k : Kind) → is_clear k ≡ true → (v w : ValueOf k) (bytes : List ℕ) → Spells k v bytes → Spells k w bytes → v ≡ w
 one_value k clear v w bytes s t = (no_prefix k clear v w bytes bytes [] [] s t refl).1
-
-pub one_written : (k : Kind) (v : ValueOf k) (a b : List ℕ) → Writes k v a → Writes k v b → a ≡ b
-one_written k v a b s t = (spelled_is k v).one a b s t
-
-pub one_negative : (k : Kind) (v : ValueOf k) (a b : List ℕ) → SpellsNegative k v a → SpellsNegative k v b → a ≡ b
-one_negative k v a b s t = (spelled_is k v).one_negative a b s.0 t.0
 
 -- ---- reading a whole message
 message-short : (k : Kind) (bytes : List ℕ) → length bytes ≤ limit → message_of k bytes ≡ (element_at k (begin_at bytes) >>= λ x. finish_at x.1 >>= λ _. Ok x.0)

@@ -1,6 +1,5 @@
 -- The laws of a part of a message, from those of the parts that it is made of.
 use Rattle.std.proofs.Common.{◌≡◌, ◌⊎◌, inl, inr, ℕ, ◌+◌, ◌^◌, ◌<◌, ◌≤◌, List, [], ◌∷◌, ◌++◌, length, refl, sym, ap, subst, ◌∙◌, arith}
-use Rattle.std.specs.Int.{w32, to_be_bytes}
 use Rattle.std.proofs.lemmas.Bool.{cases_lt, cases_eq}
 use Rattle.krb_der.specs.Spells.{IsLength, IsElement, IsJoined}
 use Rattle.krb_der.specs.Size.{element_size}
@@ -84,14 +83,14 @@ element_unique tag P one a b h k =
 head_made : (n : ℕ) → n < 2 ^ 32 → (head : List ℕ) × IsHeadOf 0 n head
 head_made n lt =
     elim (cases_lt n 128) [
-      | inl a ↦ (_, head-1 0 n (to_be_bytes w32 n) refl a)
+      | inl a ↦ (_, head-1 0 n a)
       | inr a ↦ elim (cases_lt n 256) [
-        | inl b ↦ (_, head-2 0 n (to_be_bytes w32 n) refl a b)
+        | inl b ↦ (_, head-2 0 n a b)
         | inr b ↦ elim (cases_lt n 0x1_0000) [
-          | inl c ↦ (_, head-3 0 n (to_be_bytes w32 n) refl b c)
+          | inl c ↦ (_, head-3 0 n b c)
           | inr c ↦ elim (cases_lt n 0x100_0000) [
-            | inl d ↦ (_, head-4 0 n (to_be_bytes w32 n) refl c d)
-            | inr d ↦ (_, head-5 0 n (to_be_bytes w32 n) refl d lt)
+            | inl d ↦ (_, head-4 0 n c d)
+            | inr d ↦ (_, head-5 0 n d lt)
           ]
         ]
       ]

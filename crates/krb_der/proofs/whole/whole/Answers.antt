@@ -2,7 +2,7 @@ use Rattle.std.proofs.Common.{◌∙◌, sym, ap, pos, ◌-ℤ◌, cond, Some, a
 use Rattle.std.proofs.lemmas.Int.{ints}
 use Rattle.krb_der.specs.Whole.{AreBytes, number}
 use Rattle.krb_der.proofs.Numbers.{AreBytes-from}
-use Rattle.krb_der.proofs.WholeSteps.{contents_of-small, whole_of-some}
+use Rattle.krb_der.proofs.IntegerLaws.{contents_of-small, whole_of-some}
 use Rattle.krb_der.proofs.whole.whole.Goals as goal
 
 pub returns-then-is_negative : goal.returns-then-is_negative
