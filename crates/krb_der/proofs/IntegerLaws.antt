@@ -1,14 +1,13 @@
 -- A whole number is read exactly where one is spelled, and it has one content.
-use Rattle.std.proofs.Common.{◌≡◌, ℤ, inl, inr, ℕ, zero, suc, ◌+◌, ◌-◌, ◌*◌, ◌^◌, ◌<◌, ◌≤◌, pos, negsuc, ◌-ℤ◌, Bool, true, false, not, ◌&&◌, ◌||◌, cond, leb, List, [], ◌∷◌, length, Option, Some, None, refl, sym, ap, subst, ◌∙◌, arith, lit<}
+use Rattle.std.proofs.Common.{◌≡◌, inl, inr, ℕ, zero, suc, ◌+◌, ◌-◌, ◌*◌, ◌^◌, ◌<◌, ◌≤◌, pos, negsuc, ◌-ℤ◌, Bool, true, false, not, ◌||◌, cond, ltb, List, [], ◌∷◌, length, Option, Some, None, refl, sym, ap, subst, ◌∙◌, arith, lit<}
 use Rattle.std.specs.Prelude.{IfSome}
-use Rattle.std.proofs.lemmas.Bool.{and_parts, le-ltb, lt-leb, le-leb, leb-true, leb-false, ne_eqb, or_parts, cases_lt, cond_both, not-false, true≢false}
+use Rattle.std.proofs.lemmas.Bool.{le-ltb, lt-leb, le-leb, leb-true, leb-false, ne_eqb, or_parts, cases_lt, cond_both, not-false, true≢false}
 use Rattle.std.proofs.lemmas.Bool.Decides.{nat_tests}
-use Rattle.std.proofs.lemmas.Option.{cond_some}
 use Rattle.std.proofs.lemmas.Int.{ints}
 use Rattle.std.proofs.Math.Nat.{mul-le-mul_right, pow-le-pow_right}
 use Rattle.krb_der.specs.Whole.{AreBytes, number, IsShortest, IsNatural, turned, IsInteger}
 use Rattle.krb_der.specs.Computed.Steps.{◌>>?◌, only_if}
-use Rattle.krb_der.specs.Computed.Whole.{are_bytes, is_redundant, is_negative, contents_of, whole_of}
+use Rattle.krb_der.specs.Computed.Whole.{are_bytes, is_redundant, is_negative, whole_of}
 use Rattle.krb_der.proofs.Numbers.{are_bytes-true, AreBytes-true, pow_step, length-turned, AreBytes-turned, number-turned}
 
 -- ---- few bytes
@@ -22,43 +21,25 @@ natural_least (suc x) y ys h =
     let first : 1 * 256 ^ suc (length ys) ≤ suc x * 256 ^ suc (length ys) = mul-le-mul_right (256 ^ suc (length ys)) some in
     omega (arith, first, pow_step (length ys))
 
-pub natural_few : (n : ℕ) (content : List ℕ) → IsNatural n content → n < 2 ^ 39 → (1 ≤ length content) × (length content ≤ 5)
+pub natural_few : (n : ℕ) (content : List ℕ) → IsNatural n content → n < 2 ^ 39 → length content ≤ 5
 natural_few n content h lt = few content h.shortest (omega (arith, h.value))
   where
-    few : (c : List ℕ) → IsShortest c → number c < 2 ^ 39 → (1 ≤ length c) × (length c ≤ 5)
+    few : (c : List ℕ) → IsShortest c → number c < 2 ^ 39 → length c ≤ 5
     few [] s l = absurd s
-    few (x ∷ []) s l = (omega arith, omega arith)
+    few (x ∷ []) s l = omega arith
     few (x ∷ y ∷ ys) s l =
         elim (cases_lt (length ys) 4) [
-          | inl short ↦ (omega arith, omega arith)
+          | inl short ↦ omega arith
           | inr many ↦
               let wide : 256 ^ 4 ≤ 256 ^ length ys = pow-le-pow_right (lit< tt) many in
               absurd (omega (arith, natural_least x y ys s, wide))
         ]
 
--- ---- reading, step by step
-pub contents_of-some : (len : ℕ) (z : ℤ) → contents_of len ≡ Some z → (1 ≤ len) × (len ≤ 5) × (pos (256 ^ len) ≡ z)
-unfolding contents_of
-contents_of-some len z e =
-    let p = cond_some (leb 1 len && leb len 5) (pos (256 ^ len)) z e in
-    let q = and_parts (leb 1 len) (leb len 5) p.0 in
-    (leb-true 1 len q.0, leb-true len 5 q.1, p.1)
-
--- few enough that differences fit
-pub contents_of-small : (len : ℕ) (z : ℤ) → contents_of len ≡ Some z → (n : ℕ) × (z ≡ pos n) × (n ≤ 2 ^ 40)
-contents_of-small len z e =
-    let p = contents_of-some len z e in
-    (256 ^ len, sym p.2, pow-le-pow_right (lit< tt) p.1)
-
-pub whole_of-some : (content : List ℕ) (all : ℤ) → is_redundant content ≡ false → AreBytes content → contents_of (length content) ≡ Some all
-    → whole_of content ≡ Some (cond (is_negative content) (pos (number content) -ℤ all) (pos (number content)))
-unfolding whole_of
-whole_of-some content all short bytes e = rw (short, are_bytes-true content bytes, e) refl
-
 -- ---- what is spelled is read
-contents_of-few : (len : ℕ) → 1 ≤ len → len ≤ 5 → contents_of len ≡ Some (pos (256 ^ len))
-unfolding contents_of
-contents_of-few len some few = rw (le-leb 1 len some, le-leb len 5 few) refl
+pub whole_of-some : (content : List ℕ) (negative : Bool) → is_redundant content ≡ false → AreBytes content → length content ≤ 5 → is_negative content ≡ negative
+    → whole_of content ≡ Some (cond negative (pos (number content) -ℤ pos (256 ^ length content)) (pos (number content)))
+unfolding whole_of
+whole_of-some content negative short bytes few sign = rw (short, are_bytes-true content bytes, le-ltb 5 (length content) few, sign) refl
 
 not_redundant : (content : List ℕ) → IsShortest content → is_redundant content ≡ false
 not_redundant [] h = absurd h
@@ -87,21 +68,14 @@ negative_turned (a ∷ b ∷ bytes) s = le-leb 128 a (omega (arith, s.0))
 
 pub natural_read : (n : ℕ) (content : List ℕ) → IsNatural n content → n < 2 ^ 39 → whole_of content ≡ Some (pos n)
 natural_read n content h lt =
-    let few = natural_few n content h lt in
-    whole_of-some content (pos (256 ^ length content)) (not_redundant content h.shortest) h.bytes (contents_of-few (length content) few.0 few.1)
-    ∙ ap (λ b. Some (cond b (pos (number content) -ℤ pos (256 ^ length content)) (pos (number content)))) (not_negative content h.shortest)
-    ∙ ap (λ k. Some (pos k)) h.value
+    whole_of-some content false (not_redundant content h.shortest) h.bytes (natural_few n content h lt) (not_negative content h.shortest) ∙ ap (λ k. Some (pos k)) h.value
 
 pub negative_value : (a b m : ℕ) → a + m + 1 ≡ b → pos a -ℤ pos b ≡ negsuc m
 negative_value a b m e = omega (arith, ints)
 
 pub negative_read : (m : ℕ) (content : List ℕ) → IsInteger (negsuc m) content → m < 2 ^ 39 → whole_of content ≡ Some (negsuc m)
 negative_read m content h lt =
-    let few = natural_few m (turned content) h.1 lt in
-    let len = length-turned content in
-    whole_of-some content (pos (256 ^ length content)) (redundant_turned content h.0 h.1.shortest) h.0
-    (contents_of-few (length content) (omega (arith, few.0, len)) (omega (arith, few.1, len)))
-    ∙ ap (λ b. Some (cond b (pos (number content) -ℤ pos (256 ^ length content)) (pos (number content)))) (negative_turned content h.1.shortest)
+    whole_of-some content true (redundant_turned content h.0 h.1.shortest) h.0 (omega (arith, natural_few m (turned content) h.1 lt, length-turned content)) (negative_turned content h.1.shortest)
     ∙ ap Some (negative_value (number content) (256 ^ length content) m (omega (arith, number-turned content h.0, h.1.value)))
 
 -- ---- what is read is spelled
@@ -129,20 +103,15 @@ turned_kept (a ∷ bytes) n = lt-leb 128 (255 - a) (omega (arith, leb-true 128 a
 pub shortest_turned : (content : List ℕ) → AreBytes content → is_redundant content ≡ false → is_negative content ≡ true → IsShortest (turned content)
 shortest_turned content h r n = shortest_kept (turned content) (redundant-turned content h ∙ r) (turned_kept content n)
 
-contents_found : (len : ℕ) → IfSome (contents_of len) (λ all. pos (256 ^ len) ≡ all)
-unfolding contents_of
-contents_found len = only_found _ (leb 1 len && leb len 5) (pos (256 ^ len)) (λ e. refl)
-
 pub whole_found : (content : List ℕ) → IfSome (whole_of content) (λ z. IsInteger z content)
 unfolding whole_of
 whole_found content =
-    cond_both (is_redundant content || not (are_bytes content)) _ _ (λ o. IfSome o (λ z. IsInteger z content)) (λ e. tt)
+    cond_both (is_redundant content || not (are_bytes content) || ltb 5 (length content)) _ _ (λ o. IfSome o (λ z. IsInteger z content)) (λ e. tt)
     (λ e.
-    let q = or_parts (is_redundant content) (not (are_bytes content)) e in
+    let p = or_parts (is_redundant content || not (are_bytes content)) (ltb 5 (length content)) e in
+    let q = or_parts (is_redundant content) (not (are_bytes content)) p.0 in
     let bytes = AreBytes-true content (not-false (are_bytes content) q.1) in
-    bind_found _ _ (contents_of (length content)) _ (contents_found (length content)) (λ all is.
     cond_both (is_negative content) _ _ (λ z. IsInteger z content)
-    (λ n. subst (λ w. IsInteger w content)
-    (sym (negative_value (number content) (256 ^ length content) (number (turned content)) (number-turned content bytes)) ∙ ap (λ w. pos (number content) -ℤ w) is)
+    (λ n. subst (λ w. IsInteger w content) (sym (negative_value (number content) (256 ^ length content) (number (turned content)) (number-turned content bytes)))
     (bytes, record { bytes = AreBytes-turned content; shortest = shortest_turned content bytes q.0 n; value = refl }))
-    (λ n. record { bytes = bytes; shortest = shortest_kept content q.0 n; value = refl })))
+    (λ n. record { bytes = bytes; shortest = shortest_kept content q.0 n; value = refl }))

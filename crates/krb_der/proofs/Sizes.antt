@@ -55,7 +55,7 @@ number_under x xs lt are =
     omega (arith, first, number_below xs are)
 
 pub natural_sized : (n : ℕ) (content : List ℕ) → IsNatural n content → n < 2 ^ 39 → length content ≡ natural_size n
-natural_sized n content h lt = by content h.bytes h.shortest h.value (natural_few n content h lt).1
+natural_sized n content h lt = by content h.bytes h.shortest h.value (natural_few n content h lt)
   where
     by : (c : List ℕ) → AreBytes c → IsShortest c → number c ≡ n → length c ≤ 5 → length c ≡ natural_size n
     by [] are s e few = absurd s
