@@ -14,15 +14,6 @@ use Rattle.krb_der.specs.Size.{element_size, fields_size, size_of}
 use Rattle.krb_der.proofs.Sizes.{HasSize, element_sized}
 use Rattle.krb_der.proofs.Spelled.{spelled_is, fields_is}
 
-no_fault : {A : Type 0} (c d : EncodeFault) → ◌≡◌ {A = Result A EncodeFault} (Err c) (Err d) → c ≡ d
-no_fault c d e = cc
-
-pub ok_err : {A : Type 0} (x : A) (d : EncodeFault) → ◌≡◌ {A = Result A EncodeFault} (Ok x) (Err d) → ⊥
-ok_err x d e = cc
-
-memory : OutOfMemory ≡ TooLong → ⊥
-memory e = cc
-
 -- what a part was appended to is what stood before it
 pub before_appended : (Part : List ℕ → Type 0) (start : ℕ) (old mid : List ℕ) → start ≡ length old → Appends Part old mid → take start mid ≡ old
 before_appended Part start old mid at a = ap (take start) a.whole ∙ take_at old a.bytes start (sym at)
@@ -35,7 +26,7 @@ limited_at : {E : Type 0} (Part : List ℕ → Type 0) (size : ℕ) → HasSize 
     → start ≡ length old → OnOk written (Appends Part old mid) → OnErr written (take start mid ≡ old)
     → Encodes Part size (limited_of written mid) old (settled (limited_of written mid) start mid)
 limited_at Part size sized (Err e) start old mid at a kept =
-    record { ok = tt; too_long = λ t. absurd (memory (no_fault {A = Unit {0}} OutOfMemory TooLong t)); kept = kept }
+    record { ok = tt; too_long = λ t. absurd cc; kept = kept }
 limited_at Part size sized (Ok u) start old mid at a kept =
     cond_both (ltb limit (length mid)) _ _ (λ r. Encodes Part size r old (settled r start mid))
     (λ long. record {
@@ -43,7 +34,7 @@ limited_at Part size sized (Ok u) start old mid at a kept =
       too_long = λ t. omega (arith, ltb-true limit (length mid) long, ap length a.whole, length-append old a.bytes, sized a.bytes a.is);
       kept = before_appended Part start old mid at a;
     })
-    (λ fits. record { ok = (a, ltb-false limit (length mid) fits); too_long = λ t. absurd (ok_err tt TooLong t); kept = tt })
+    (λ fits. record { ok = (a, ltb-false limit (length mid) fits); too_long = λ t. absurd cc; kept = tt })
 
 pub encodes-limited : {E : Type 0} (Part : List ℕ → Type 0) (size : ℕ) → HasSize Part size → (written : Result (Unit {0}) E) (r : Result (Unit {0}) EncodeFault) (start : ℕ) (old mid new : List ℕ)
     → start ≡ length old → OnOk written (Appends Part old mid) → OnErr written (take start mid ≡ old) → r ≡ limited_of written mid → new ≡ settled r start mid
@@ -97,7 +88,7 @@ joined_at First Rest size others sized (Ok u) start old mid end at a e =
       is = record { front = a.bytes; back = b.bytes; first = a.is; rest = b.is; whole = refl };
       whole = b.whole ∙ ap (λ (l : List ℕ). l ++ b.bytes) a.whole ∙ append_assoc old a.bytes b.bytes;
     } in
-    record { ok = (both, e.ok.1); too_long = λ t. absurd (ok_err u TooLong t); kept = tt }
+    record { ok = (both, e.ok.1); too_long = λ t. absurd cc; kept = tt }
 joined_at First Rest size others sized (Err f) start old mid end at a e =
     record {
       ok = tt;
@@ -123,5 +114,5 @@ encoded_ok k v made old new none a fits same =
       written = written;
       size = size;
       fits = omega (arith, size, within);
-      too_long = λ t. absurd (ok_err made TooLong t);
+      too_long = λ t. absurd cc;
     }
