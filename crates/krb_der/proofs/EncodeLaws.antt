@@ -3,7 +3,7 @@ use Rattle.std.proofs.Common.{◌≡◌, ℕ, ◌+◌, ◌≤◌, ltb, List, [],
 use Rattle.std.specs.Prelude.{OnOk, OnErr, Vec}
 use Rattle.std.proofs.lemmas.Bool.{ltb-true, ltb-false, cond_both}
 use Rattle.std.proofs.lemmas.List.{take_at, drop_at, append-nil}
-use Rattle.std.proofs.lemmas.Result.{on_err_weaker}
+use Rattle.std.proofs.lemmas.Result.{on_ok_weaker, on_err_weaker}
 use Rattle.krb_der.specs.declared.fault.EncodeFault.{EncodeFault}
 use Rattle.krb_der.specs.declared.fault.EncodeFault.TheVariants.{TooLong, OutOfMemory}
 use Rattle.krb_der.specs.Kind.{Kind, Fields, ValueOf, FieldsOf}
@@ -44,9 +44,9 @@ encodes-limited Part size sized written r start old mid new at a kept l n = rw (
 pub value_size : (k : Kind) (v : ValueOf k) → HasSize (Writes k v) (size_of k v)
 value_size k v = (spelled_is k v).sized
 
-pub encodes_leaf : {E : Type 0} (k : Kind) (v : ValueOf k) (written : Result (Unit {0}) E) (r : Result (Unit {0}) EncodeFault) (start : ℕ) (old mid new : List ℕ)
+pub encodes_leaf : {E : Type 0} {written : Result (Unit {0}) E} {r : Result (Unit {0}) EncodeFault} {start : ℕ} {old mid new : List ℕ} (k : Kind) (v : ValueOf k)
     → start ≡ length old → AppendsElement k v written old mid → r ≡ limited_of written mid → new ≡ settled r start mid → Encodes (Writes k v) (size_of k v) r old new
-encodes_leaf k v written r start old mid new at w l n =
+encodes_leaf {written = written} {r = r} {start = start} {old = old} {mid = mid} {new = new} k v at w l n =
     encodes-limited (Writes k v) (size_of k v) (value_size k v) written r start old mid new at w.ok (on_err_weaker written (before_same start old mid at) w.kept) l n
 
 -- ---- an element round what was written
@@ -67,13 +67,12 @@ wrapped-appends tag start Part old mid new at a w =
     }
 
 -- mid has the content, end what was made of it
-pub encodes-wrapped : {E : Type 0} (tag start : ℕ) (Part : List ℕ → Type 0) (size : ℕ) → HasSize Part size → (written : Result (Unit {0}) E) (r : Result (Unit {0}) EncodeFault) (old mid end new : List ℕ)
+pub encodes-wrapped : {E : Type 0} {tag start : ℕ} {Part : List ℕ → Type 0} {size : ℕ} {r : Result (Unit {0}) EncodeFault} {old mid new : List ℕ} → HasSize Part size → (written : Result (Unit {0}) E) (end : List ℕ)
     → start ≡ length old → Appends Part old mid → OnOk written (Wraps tag start mid end) → OnErr written (end ≡ mid) → r ≡ limited_of written end → new ≡ settled r start end
     → Encodes (IsElement tag Part) (element_size size) r old new
-encodes-wrapped {E = E} tag start Part size sized (Ok u) r old mid end new at a w kept l n =
-    encodes-limited {E = E} (IsElement tag Part) (element_size size) (element_sized tag Part size sized) (Ok u) r start old end new at (wrapped-appends tag start Part old mid end at a w) tt l n
-encodes-wrapped {E = E} tag start Part size sized (Err e) r old mid end new at a w kept l n =
-    encodes-limited {E = E} (IsElement tag Part) (element_size size) (element_sized tag Part size sized) (Err e) r start old end new at tt (ap (take start) kept ∙ before_appended Part start old mid at a) l n
+encodes-wrapped {E = E} {tag = tag} {start = start} {Part = Part} {size = size} {r = r} {old = old} {mid = mid} {new = new} sized written end at a w kept l n =
+    encodes-limited {E = E} (IsElement tag Part) (element_size size) (element_sized tag Part size sized) written r start old end new at
+    (on_ok_weaker written (wrapped-appends tag start Part old mid end at a) w) (on_err_weaker written (λ same. ap (take start) same ∙ before_appended Part start old mid at a) kept) l n
 
 pub row_size : (fs : Fields) (v : FieldsOf fs) → HasSize (WritesFields fs v) (fields_size fs v)
 row_size fs v = (fields_is fs v).sized
@@ -96,10 +95,9 @@ joined_at First Rest size others sized (Err f) start old mid end at a e =
       kept = ap (take start) e.kept ∙ before_appended First start old mid at a;
     }
 
-pub encodes-joined : (First Rest : List ℕ → Type 0) (size others : ℕ) → HasSize First size → (written r : Result (Unit {0}) EncodeFault) (start : ℕ) (old mid end new : List ℕ)
+pub encodes-joined : {First Rest : List ℕ → Type 0} {size others : ℕ} {written r : Result (Unit {0}) EncodeFault} {start : ℕ} {old mid end new : List ℕ} → HasSize First size
     → start ≡ length old → Appends First old mid → Encodes Rest others written mid end → r ≡ written → new ≡ settled r start end → Encodes (IsJoined First Rest) (size + others) r old new
-encodes-joined First Rest size others sized written r start old mid end new at a e same n =
-    rw (n, same) (joined_at First Rest size others sized written start old mid end at a e)
+encodes-joined sized at a e same n = rw (n, same) (joined_at _ _ _ _ sized _ _ _ _ _ at a e)
 
 -- ---- a whole message, from nothing
 pub encoded_ok : {Z : Type 0} (k : Kind) (v : ValueOf k) (made : Vec ℕ Z) (old new : List ℕ) → old ≡ [] → Appends (Writes k v) old new → length new ≤ limit → made.items ≡ new
