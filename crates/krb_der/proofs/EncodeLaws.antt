@@ -5,7 +5,6 @@ use Rattle.std.proofs.lemmas.Bool.{ltb-true, ltb-false, cond_both}
 use Rattle.std.proofs.lemmas.List.{take_at, drop_at, append-nil}
 use Rattle.std.proofs.lemmas.Result.{on_ok_weaker, on_err_weaker}
 use Rattle.krb_der.specs.declared.fault.EncodeFault.{EncodeFault}
-use Rattle.krb_der.specs.declared.fault.EncodeFault.TheVariants.{TooLong, OutOfMemory}
 use Rattle.krb_der.specs.Kind.{Kind, Fields, ValueOf, FieldsOf}
 use Rattle.krb_der.specs.Spells.{IsElement, IsJoined, limit}
 use Rattle.krb_der.specs.Writing.{Appends, AppendsElement, Wraps, Writes, WritesFields, Encodes, IsEncoded}

@@ -1,16 +1,16 @@
 -- Heads that are written, and bytes whose end is moved.
-use Rattle.std.proofs.Common.{◌≡◌, ℕ, false, ◌+◌, ◌-◌, ◌/◌, ◌%◌, ◌^◌, ◌<◌, ◌≤◌, List, [], ◌∷◌, ◌++◌, length, take, drop, refl, sym, ap, ◌∙◌, arith, length-drop, append_assoc}
-use Rattle.std.proofs.lemmas.Bool.{ne_eqb}
+use Rattle.std.proofs.Common.{ltb, ◌≡◌, ℕ, false, ◌+◌, ◌-◌, ◌/◌, ◌%◌, ◌^◌, ◌<◌, ◌≤◌, List, [], ◌∷◌, ◌++◌, length, take, drop, refl, sym, ap, ◌∙◌, arith, length-drop, append_assoc}
+use Rattle.std.proofs.lemmas.Bool.{cond_both, ltb-true, ltb-false, ne_eqb}
 use Rattle.std.proofs.lemmas.List.{take_at, drop_at, take_all, drop_all, take-append-le, drop-append-le, append-nil}
 use Rattle.krb_der.specs.Whole.{AreBytes, number}
 use Rattle.krb_der.specs.Place.{begins}
 use Rattle.krb_der.specs.Spells.{short, long, IsElement}
 use Rattle.krb_der.specs.Writing.{Appends, Wraps}
-use Rattle.krb_der.specs.Inner.HeadView.{IsHeadOf, turned_at}
+use Rattle.krb_der.specs.Inner.HeadView.{IsHeadOf, head_bytes, turned_at}
 
--- ---- heads, from the four bytes of a length
+-- ---- heads
 module _ (tag n : ℕ) where
-  pub head-1 : n < 128 → IsHeadOf tag n (tag ∷ n % 256 ∷ [])
+  head-1 : n < 128 → IsHeadOf tag n (tag ∷ n % 256 ∷ [])
   head-1 lt =
       let same : n % 256 ≡ n = omega arith in
       record { size = n % 256 ∷ []; length_is = short lt (ap (λ x. x ∷ []) same); whole = refl }
@@ -20,22 +20,30 @@ module _ (tag n : ℕ) where
   headed digits four are first big value =
       record { size = (0x80 + length digits) ∷ digits; length_is = long digits refl four are first big value; whole = refl }
 
-  pub head-2 : 128 ≤ n → n < 256 → IsHeadOf tag n (tag ∷ 0x81 ∷ n % 256 ∷ [])
+  head-2 : 128 ≤ n → n < 256 → IsHeadOf tag n (tag ∷ 0x81 ∷ n % 256 ∷ [])
   head-2 ge lt = headed (n % 256 ∷ []) (omega arith) (omega arith, tt) (ne_eqb _ 0 (λ e. absurd (omega (arith, e)))) ge (omega arith)
 
-  pub head-3 : 256 ≤ n → n < 0x1_0000 → IsHeadOf tag n (tag ∷ 0x82 ∷ n / 256 % 256 ∷ n % 256 ∷ [])
+  head-3 : 256 ≤ n → n < 0x1_0000 → IsHeadOf tag n (tag ∷ 0x82 ∷ n / 256 % 256 ∷ n % 256 ∷ [])
   head-3 ge lt =
       headed (n / 256 % 256 ∷ n % 256 ∷ []) (omega arith) (omega arith, (omega arith, tt)) (ne_eqb _ 0 (λ e. absurd (omega (arith, e)))) (omega arith) (omega arith)
 
-  pub head-4 : 0x1_0000 ≤ n → n < 0x100_0000 → IsHeadOf tag n (tag ∷ 0x83 ∷ n / 65536 % 256 ∷ n / 256 % 256 ∷ n % 256 ∷ [])
+  head-4 : 0x1_0000 ≤ n → n < 0x100_0000 → IsHeadOf tag n (tag ∷ 0x83 ∷ n / 65536 % 256 ∷ n / 256 % 256 ∷ n % 256 ∷ [])
   head-4 ge lt =
       headed (n / 65536 % 256 ∷ n / 256 % 256 ∷ n % 256 ∷ []) (omega arith) (omega arith, (omega arith, (omega arith, tt)))
       (ne_eqb _ 0 (λ e. absurd (omega (arith, e)))) (omega arith) (omega arith)
 
-  pub head-5 : 0x100_0000 ≤ n → n < 2 ^ 32 → IsHeadOf tag n (tag ∷ 0x84 ∷ n / 16777216 % 256 ∷ n / 65536 % 256 ∷ n / 256 % 256 ∷ n % 256 ∷ [])
+  head-5 : 0x100_0000 ≤ n → n < 2 ^ 32 → IsHeadOf tag n (tag ∷ 0x84 ∷ n / 16777216 % 256 ∷ n / 65536 % 256 ∷ n / 256 % 256 ∷ n % 256 ∷ [])
   head-5 ge lt =
       headed (n / 16777216 % 256 ∷ n / 65536 % 256 ∷ n / 256 % 256 ∷ n % 256 ∷ []) (omega arith) (omega arith, (omega arith, (omega arith, (omega arith, tt))))
       (ne_eqb _ 0 (λ e. absurd (omega (arith, e)))) (omega arith) (omega arith)
+
+  pub head_is : n < 2 ^ 32 → IsHeadOf tag n (head_bytes tag n)
+  head_is small =
+      cond_both (ltb n 128) _ _ (IsHeadOf tag n) (λ e. head-1 (ltb-true n 128 e))
+      (λ a. cond_both (ltb n (2 ^ 8)) _ _ (IsHeadOf tag n) (λ e. head-2 (ltb-false n 128 a) (ltb-true n (2 ^ 8) e))
+      (λ b. cond_both (ltb n (2 ^ 16)) _ _ (IsHeadOf tag n) (λ e. head-3 (ltb-false n (2 ^ 8) b) (ltb-true n (2 ^ 16) e))
+      (λ c. cond_both (ltb n (2 ^ 24)) _ _ (IsHeadOf tag n) (λ e. head-4 (ltb-false n (2 ^ 16) c) (ltb-true n (2 ^ 24) e))
+      (λ d. head-5 (ltb-false n (2 ^ 24) d) small))))
 
 -- ---- a head before a content
 pub element-head : (tag : ℕ) (content head : List ℕ) → IsHeadOf tag (length content) head → IsElement tag (λ c. c ≡ content) (head ++ content)

@@ -1,21 +1,18 @@
 -- Whole messages.
-use Rattle.std.proofs.Common.{ltb, ◌≡◌, ◌⊎◌, inl, inr, ℕ, ◌<◌, ◌≤◌, true, List, [], ◌++◌, length, take, Result, Ok, Err, refl, sym, ap, subst, ◌∙◌, arith}
+use Rattle.std.proofs.Common.{ltb, ◌≡◌, ◌⊎◌, inl, inr, ℕ, true, List, [], ◌++◌, length, take, Result, Ok, Err, refl, sym, ap, subst, ◌∙◌, arith}
 use Rattle.std.specs.Prelude.{◌↔◌}
 use Rattle.krb_der.specs.Computed.Gives.{Fills}
-use Rattle.std.proofs.lemmas.Bool.{cond_both, ltb-true, ltb-false, le-ltb, lt-ltb, cases_lt}
+use Rattle.std.proofs.lemmas.Bool.{cond_both, ltb-true, ltb-false, le-ltb}
 use Rattle.std.proofs.lemmas.List.{append-nil, take_at}
 use Rattle.krb_der.specs.declared.fault.Fault.{Fault}
-use Rattle.krb_der.specs.declared.fault.FaultKind.TheVariants.{TooLong}
 use Rattle.krb_der.specs.Kind.{Kind, ends, must, ValueOf}
-use Rattle.krb_der.specs.Content.{Elementary}
 use Rattle.krb_der.specs.Place.{Place, begin_at}
 use Rattle.krb_der.specs.Spells.{Spells, IsMessage, limit}
-use Rattle.krb_der.specs.Fault.{IsFault, IsFaulty, too_long, faulty, start, after_element}
-use Rattle.krb_der.specs.Computed.Steps.{◌>>=◌}
+use Rattle.krb_der.specs.Fault.{IsFault, too_long, faulty, start, after_element}
 use Rattle.krb_der.specs.Reading.{Parses}
 use Rattle.krb_der.specs.Clear.{is_clear}
-use Rattle.krb_der.specs.Computed.Read.{fault_at, element_at, finish_at, message_of}
-use Rattle.krb_der.proofs.LengthLaws.{no_value, same_error}
+use Rattle.krb_der.specs.Computed.Read.{element_at, finish_at, message_of}
+use Rattle.krb_der.proofs.LengthLaws.{no_value}
 use Rattle.krb_der.proofs.ElementSteps.{answer, bind_at, same_ok}
 use Rattle.krb_der.proofs.ElementLaws.{element_read, finished}
 use Rattle.krb_der.proofs.Outcomes.{bind_by, ElementOut, FieldsOut, element_out, end_out, alone}
