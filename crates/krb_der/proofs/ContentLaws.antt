@@ -7,8 +7,7 @@ use Rattle.std.proofs.lemmas.Int.{ints}
 use Rattle.krb_der.specs.Whole.{number, AreFlags, IsInteger, IsNatural, IsSeqNumber}
 use Rattle.krb_der.specs.Computed.Steps.{◌>>?◌}
 use Rattle.krb_der.specs.Computed.Whole.{are_bytes, whole_of, natural_below, int32_within, seq_number_within, constant_at, flags_of}
-use Rattle.krb_der.proofs.Numbers.{AreBytes-true}
-use Rattle.krb_der.proofs.WholeSteps.{flags_of-some}
+use Rattle.krb_der.proofs.Numbers.{are_bytes-true, AreBytes-true}
 use Rattle.krb_der.proofs.LengthLaws.{number_injective}
 use Rattle.krb_der.proofs.IntegerLaws.{natural_read, negative_read, negative_value, whole_found, bind_found, only_found}
 
@@ -23,7 +22,8 @@ flags_found (unused ∷ bits) =
     record { bits = bits; bytes = AreBytes-true bits q.1; four = eqb-true _ 4 r.1; value = refl; whole = ap (λ u. u ∷ bits) (eqb-true unused 0 r.0) })
 
 pub flags_read : (n : ℕ) (content : List ℕ) → AreFlags n content → flags_of content ≡ Some n
-flags_read n content h = ap flags_of h.whole ∙ flags_of-some h.bits h.four h.bytes ∙ ap Some h.value
+unfolding flags_of
+flags_read n content h = ap flags_of h.whole ∙ rw (eq-eqb (length h.bits) 4 h.four, are_bytes-true h.bits h.bytes) (ap Some h.value)
 
 pub flags_unique : (n : ℕ) (a b : List ℕ) → AreFlags n a → AreFlags n b → a ≡ b
 flags_unique n a b h k =

@@ -1,16 +1,15 @@
 -- Reading elements and fields, one combinator at a time.
-use Rattle.std.proofs.Common.{◌≡◌, inl, inr, ℕ, ◌+◌, ◌-◌, ◌≤◌, cond, ltb, eqb, List, [], ◌∷◌, ◌++◌, length, take, drop, Result, Ok, Err, refl, sym, ap, subst, ◌∙◌, arith, length-append, append_assoc, length-take, take-append-drop}
+use Rattle.std.proofs.Common.{◌≡◌, inl, inr, ℕ, ◌+◌, ◌-◌, ◌≤◌, ltb, eqb, List, [], ◌∷◌, ◌++◌, length, take, drop, Result, Ok, Err, refl, sym, ap, subst, ◌∙◌, arith, length-append, append_assoc, length-take, take-append-drop}
 use Rattle.std.proofs.lemmas.Bool.{le-ltb, eq-eqb, ltb-true, ltb-false, eqb-true, eqb-false, cond_both}
 use Rattle.std.proofs.lemmas.List.{take_at, drop_at}
 use Rattle.krb_der.specs.declared.fault.Fault.{Fault}
 use Rattle.krb_der.specs.Kind.{Kind, Fields, must, tag_of}
 use Rattle.krb_der.specs.Content.{Elementary}
-use Rattle.krb_der.specs.declared.fault.FaultKind.TheVariants.{Truncated}
-use Rattle.krb_der.specs.Place.{Place, end_of}
+use Rattle.krb_der.specs.Place.{Place}
 use Rattle.krb_der.specs.Spells.{IsLength, IsElement}
 use Rattle.krb_der.specs.Fault.{HasHead, IsBroken, nothing, other_tag, cut_length, bad_length, cut_content}
 use Rattle.krb_der.specs.Computed.Steps.{◌>>=◌}
-use Rattle.krb_der.specs.Computed.Read.{Sized, head_from, enter_at, sized_at, split_at, length_of, length_fault, fault_at}
+use Rattle.krb_der.specs.Computed.Read.{Sized, head_from, enter_at, sized_at, split_at, length_of, length_fault}
 use Rattle.krb_der.proofs.LengthLaws.{length_of-spelled, LengthOut, length_out, no_value}
 
 -- the value of a step that did not fail, and the step that failed
@@ -38,46 +37,27 @@ pub element_some : (tag : ℕ) (IsContent : List ℕ → Type 0) (front : List �
 element_some tag IsContent front h = omega (arith, ap length h.whole)
 
 -- ---- heads, step by step
-abbrev split_in : Place → ℕ → List ℕ → List ℕ → List ℕ → Result (Place × Place) Fault
-split_in p n bytes front back =
-    Ok (record { at = p.at + (length p.rest - length bytes); rest = front }, record { at = p.at + (length p.rest - length bytes) + n; rest = back })
-
-pub split_at-ok : (p : Place) (n : ℕ) (bytes front back : List ℕ) → n ≤ length bytes → front ≡ take n bytes → back ≡ drop n bytes
+split_at-ok : (p : Place) (n : ℕ) (bytes front back : List ℕ) → n ≤ length bytes → front ≡ take n bytes → back ≡ drop n bytes
     → split_at p n bytes ≡ Ok (record { at = p.at + (length p.rest - length bytes); rest = front }, record { at = p.at + (length p.rest - length bytes) + n; rest = back })
 unfolding split_at
-split_at-ok p n bytes front back le f b =
-    ap (λ c. cond c (fault_at Truncated (end_of p)) (split_in p n bytes (take n bytes) (drop n bytes))) (le-ltb (length bytes) n le)
-    ∙ ap (λ x. split_in p n bytes x (drop n bytes)) (sym f) ∙ ap (λ x. split_in p n bytes front x) (sym b)
+split_at-ok p n bytes front back le f b = rw (f, b, le-ltb (length bytes) n le) refl
 
-pub enter_at-sized : (tag : ℕ) (p : Place) (b : ℕ) (bytes : List ℕ) → p.rest ≡ b ∷ bytes → b ≡ tag → enter_at tag p ≡ sized_at p (length_of bytes)
+enter_at-sized : (tag : ℕ) (p : Place) (bytes : List ℕ) → p.rest ≡ tag ∷ bytes → enter_at tag p ≡ sized_at p (length_of bytes)
 unfolding enter_at
-enter_at-sized tag p b bytes e same = ap (head_from tag p) e ∙ rw (eq-eqb b tag same) refl
-
-pub enter_at-spelled : (tag at : ℕ) (size content rest : List ℕ) → IsLength (length content) size
-    → enter_at tag (record { at = at; rest = (tag ∷ (size ++ content)) ++ rest })
-    ≡ Ok (record { at = at + (1 + length size); rest = content }, record { at = at + length (tag ∷ (size ++ content)); rest = rest })
-enter_at-spelled tag at size content rest spelled =
-    let here : Place = record { at = at; rest = (tag ∷ (size ++ content)) ++ rest } in
-    let regrouped : (size ++ content) ++ rest ≡ size ++ (content ++ rest) = append_assoc size content rest in
-    let enough : length content ≤ length (content ++ rest) = omega (arith, length-append content rest) in
-    let inner : at + (length here.rest - length (content ++ rest)) ≡ at + (1 + length size) =
-    omega (arith, ap length regrouped, length-append size (content ++ rest)) in
-    let outer : at + (length here.rest - length (content ++ rest)) + length content ≡ at + length (tag ∷ (size ++ content)) =
-    omega (arith, inner, length-append size content) in
-    enter_at-sized tag here tag ((size ++ content) ++ rest) refl refl
-    ∙ ap (sized_at here) (ap length_of regrouped ∙ length_of-spelled (length content) size (content ++ rest) spelled)
-    ∙ split_at-ok here (length content) (content ++ rest) content rest enough (sym (take_at content rest (length content) refl)) (sym (drop_at content rest (length content) refl))
-    ∙ same_split inner outer
-  where
-    same_split : {a b c d : ℕ} → a ≡ b → c ≡ d
-        → ◌≡◌ {A = Result (Place × Place) Fault} (Ok (record { at = a; rest = content }, record { at = c; rest = rest })) (Ok (record { at = b; rest = content }, record { at = d; rest = rest }))
-    same_split p q = λ i. Ok (record { at = p i; rest = content }, record { at = q i; rest = rest })
+enter_at-sized tag p bytes e = ap (head_from tag p) e ∙ rw (eq-eqb tag tag refl) refl
 
 pub enter_at-head : (tag : ℕ) (p inside after : Place) → HasHead tag p inside after → enter_at tag p ≡ Ok (inside, after)
 enter_at-head tag p inside after h =
-    ap (λ (l : List ℕ). enter_at tag (record { at = p.at; rest = l })) h.whole
-    ∙ enter_at-spelled tag p.at h.size inside.rest after.rest h.length_is
-    ∙ moved (sym h.inside_at) (omega (arith, h.after_at, h.inside_at, length-append h.size inside.rest))
+    let rest = inside.rest ++ after.rest in
+    let regrouped : (h.size ++ inside.rest) ++ after.rest ≡ h.size ++ rest = append_assoc h.size inside.rest after.rest in
+    let enough : length inside.rest ≤ length rest = omega (arith, length-append inside.rest after.rest) in
+    let inner : p.at + (length p.rest - length rest) ≡ inside.at =
+    omega (arith, h.inside_at, ap length h.whole, ap length regrouped, length-append h.size rest) in
+    let outer : p.at + (length p.rest - length rest) + length inside.rest ≡ after.at = omega (arith, inner, h.after_at) in
+    enter_at-sized tag p ((h.size ++ inside.rest) ++ after.rest) h.whole
+    ∙ ap (sized_at p) (ap length_of regrouped ∙ length_of-spelled (length inside.rest) h.size rest h.length_is)
+    ∙ split_at-ok p (length inside.rest) rest inside.rest after.rest enough (sym (take_at inside.rest after.rest (length inside.rest) refl)) (sym (drop_at inside.rest after.rest (length inside.rest) refl))
+    ∙ moved inner outer
   where
     moved : {a b c d : ℕ} → a ≡ b → c ≡ d
         → ◌≡◌ {A = Result (Place × Place) Fault} (Ok (record { at = a; rest = inside.rest }, record { at = c; rest = after.rest })) (Ok (record { at = b; rest = inside.rest }, record { at = d; rest = after.rest }))

@@ -3,8 +3,8 @@ use Rattle.std.proofs.Common.{◌≡◌, ℕ, ◌+◌, ◌≤◌, ltb, List, [],
 use Rattle.std.specs.Prelude.{OnOk, OnErr, Vec}
 use Rattle.std.proofs.lemmas.Bool.{ltb-true, ltb-false, cond_both}
 use Rattle.std.proofs.lemmas.List.{take_at, drop_at, append-nil}
+use Rattle.std.proofs.lemmas.Result.{on_ok_weaker, on_err_weaker}
 use Rattle.krb_der.specs.declared.fault.EncodeFault.{EncodeFault}
-use Rattle.krb_der.specs.declared.fault.EncodeFault.TheVariants.{TooLong, OutOfMemory}
 use Rattle.krb_der.specs.Kind.{Kind, Fields, ValueOf, FieldsOf}
 use Rattle.krb_der.specs.Spells.{IsElement, IsJoined, limit}
 use Rattle.krb_der.specs.Writing.{Appends, AppendsElement, Wraps, Writes, WritesFields, Encodes, IsEncoded}
@@ -12,15 +12,6 @@ use Rattle.krb_der.specs.Inner.Limited.{limited_of, settled}
 use Rattle.krb_der.specs.Size.{element_size, fields_size, size_of}
 use Rattle.krb_der.proofs.Sizes.{HasSize, element_sized}
 use Rattle.krb_der.proofs.Spelled.{spelled_is, fields_is}
-
-no_fault : {A : Type 0} (c d : EncodeFault) → ◌≡◌ {A = Result A EncodeFault} (Err c) (Err d) → c ≡ d
-no_fault c d e = cc
-
-pub ok_err : {A : Type 0} (x : A) (d : EncodeFault) → ◌≡◌ {A = Result A EncodeFault} (Ok x) (Err d) → ⊥
-ok_err x d e = cc
-
-memory : OutOfMemory ≡ TooLong → ⊥
-memory e = cc
 
 -- what a part was appended to is what stood before it
 pub before_appended : (Part : List ℕ → Type 0) (start : ℕ) (old mid : List ℕ) → start ≡ length old → Appends Part old mid → take start mid ≡ old
@@ -34,7 +25,7 @@ limited_at : {E : Type 0} (Part : List ℕ → Type 0) (size : ℕ) → HasSize 
     → start ≡ length old → OnOk written (Appends Part old mid) → OnErr written (take start mid ≡ old)
     → Encodes Part size (limited_of written mid) old (settled (limited_of written mid) start mid)
 limited_at Part size sized (Err e) start old mid at a kept =
-    record { ok = tt; too_long = λ t. absurd (memory (no_fault {A = Unit {0}} OutOfMemory TooLong t)); kept = kept }
+    record { ok = tt; too_long = λ t. absurd cc; kept = kept }
 limited_at Part size sized (Ok u) start old mid at a kept =
     cond_both (ltb limit (length mid)) _ _ (λ r. Encodes Part size r old (settled r start mid))
     (λ long. record {
@@ -42,26 +33,20 @@ limited_at Part size sized (Ok u) start old mid at a kept =
       too_long = λ t. omega (arith, ltb-true limit (length mid) long, ap length a.whole, length-append old a.bytes, sized a.bytes a.is);
       kept = before_appended Part start old mid at a;
     })
-    (λ fits. record { ok = (a, ltb-false limit (length mid) fits); too_long = λ t. absurd (ok_err tt TooLong t); kept = tt })
+    (λ fits. record { ok = (a, ltb-false limit (length mid) fits); too_long = λ t. absurd cc; kept = tt })
 
 pub encodes-limited : {E : Type 0} (Part : List ℕ → Type 0) (size : ℕ) → HasSize Part size → (written : Result (Unit {0}) E) (r : Result (Unit {0}) EncodeFault) (start : ℕ) (old mid new : List ℕ)
     → start ≡ length old → OnOk written (Appends Part old mid) → OnErr written (take start mid ≡ old) → r ≡ limited_of written mid → new ≡ settled r start mid
     → Encodes Part size r old new
-encodes-limited Part size sized written r start old mid new at a kept l n =
-    subst (λ x. Encodes Part size x old new) (sym l)
-    (subst (λ x. Encodes Part size (limited_of written mid) old x) (sym (n ∙ ap (λ x. settled x start mid) l)) (limited_at Part size sized written start old mid at a kept))
+encodes-limited Part size sized written r start old mid new at a kept l n = rw (n, l) (limited_at Part size sized written start old mid at a kept)
 
 pub value_size : (k : Kind) (v : ValueOf k) → HasSize (Writes k v) (size_of k v)
 value_size k v = (spelled_is k v).sized
 
-pub encodes_leaf : {E : Type 0} (k : Kind) (v : ValueOf k) (written : Result (Unit {0}) E) (r : Result (Unit {0}) EncodeFault) (start : ℕ) (old mid new : List ℕ)
+pub encodes_leaf : {E : Type 0} {written : Result (Unit {0}) E} {r : Result (Unit {0}) EncodeFault} {start : ℕ} {old mid new : List ℕ} (k : Kind) (v : ValueOf k)
     → start ≡ length old → AppendsElement k v written old mid → r ≡ limited_of written mid → new ≡ settled r start mid → Encodes (Writes k v) (size_of k v) r old new
-encodes_leaf k v written r start old mid new at w l n =
-    encodes-limited (Writes k v) (size_of k v) (value_size k v) written r start old mid new at w.ok (by written w.kept) l n
-  where
-    by : {E : Type 0} (written : Result (Unit {0}) E) → OnErr written (mid ≡ old) → OnErr written (take start mid ≡ old)
-    by (Ok u) e = tt
-    by (Err f) e = before_same start old mid at e
+encodes_leaf {written = written} {r = r} {start = start} {old = old} {mid = mid} {new = new} k v at w l n =
+    encodes-limited (Writes k v) (size_of k v) (value_size k v) written r start old mid new at w.ok (on_err_weaker written (before_same start old mid at) w.kept) l n
 
 -- ---- an element round what was written
 wrapped-appends : (tag start : ℕ) (Part : List ℕ → Type 0) (old mid new : List ℕ) → start ≡ length old → Appends Part old mid → Wraps tag start mid new → Appends (IsElement tag Part) old new
@@ -81,13 +66,12 @@ wrapped-appends tag start Part old mid new at a w =
     }
 
 -- mid has the content, end what was made of it
-pub encodes-wrapped : {E : Type 0} (tag start : ℕ) (Part : List ℕ → Type 0) (size : ℕ) → HasSize Part size → (written : Result (Unit {0}) E) (r : Result (Unit {0}) EncodeFault) (old mid end new : List ℕ)
+pub encodes-wrapped : {E : Type 0} {tag start : ℕ} {Part : List ℕ → Type 0} {size : ℕ} {r : Result (Unit {0}) EncodeFault} {old mid new : List ℕ} → HasSize Part size → (written : Result (Unit {0}) E) (end : List ℕ)
     → start ≡ length old → Appends Part old mid → OnOk written (Wraps tag start mid end) → OnErr written (end ≡ mid) → r ≡ limited_of written end → new ≡ settled r start end
     → Encodes (IsElement tag Part) (element_size size) r old new
-encodes-wrapped {E = E} tag start Part size sized (Ok u) r old mid end new at a w kept l n =
-    encodes-limited {E = E} (IsElement tag Part) (element_size size) (element_sized tag Part size sized) (Ok u) r start old end new at (wrapped-appends tag start Part old mid end at a w) tt l n
-encodes-wrapped {E = E} tag start Part size sized (Err e) r old mid end new at a w kept l n =
-    encodes-limited {E = E} (IsElement tag Part) (element_size size) (element_sized tag Part size sized) (Err e) r start old end new at tt (ap (take start) kept ∙ before_appended Part start old mid at a) l n
+encodes-wrapped {E = E} {tag = tag} {start = start} {Part = Part} {size = size} {r = r} {old = old} {mid = mid} {new = new} sized written end at a w kept l n =
+    encodes-limited {E = E} (IsElement tag Part) (element_size size) (element_sized tag Part size sized) written r start old end new at
+    (on_ok_weaker written (wrapped-appends tag start Part old mid end at a) w) (on_err_weaker written (λ same. ap (take start) same ∙ before_appended Part start old mid at a) kept) l n
 
 pub row_size : (fs : Fields) (v : FieldsOf fs) → HasSize (WritesFields fs v) (fields_size fs v)
 row_size fs v = (fields_is fs v).sized
@@ -102,7 +86,7 @@ joined_at First Rest size others sized (Ok u) start old mid end at a e =
       is = record { front = a.bytes; back = b.bytes; first = a.is; rest = b.is; whole = refl };
       whole = b.whole ∙ ap (λ (l : List ℕ). l ++ b.bytes) a.whole ∙ append_assoc old a.bytes b.bytes;
     } in
-    record { ok = (both, e.ok.1); too_long = λ t. absurd (ok_err u TooLong t); kept = tt }
+    record { ok = (both, e.ok.1); too_long = λ t. absurd cc; kept = tt }
 joined_at First Rest size others sized (Err f) start old mid end at a e =
     record {
       ok = tt;
@@ -110,12 +94,9 @@ joined_at First Rest size others sized (Err f) start old mid end at a e =
       kept = ap (take start) e.kept ∙ before_appended First start old mid at a;
     }
 
-pub encodes-joined : (First Rest : List ℕ → Type 0) (size others : ℕ) → HasSize First size → (written r : Result (Unit {0}) EncodeFault) (start : ℕ) (old mid end new : List ℕ)
+pub encodes-joined : {First Rest : List ℕ → Type 0} {size others : ℕ} {written r : Result (Unit {0}) EncodeFault} {start : ℕ} {old mid end new : List ℕ} → HasSize First size
     → start ≡ length old → Appends First old mid → Encodes Rest others written mid end → r ≡ written → new ≡ settled r start end → Encodes (IsJoined First Rest) (size + others) r old new
-encodes-joined First Rest size others sized written r start old mid end new at a e same n =
-    subst (λ x. Encodes (IsJoined First Rest) (size + others) x old new) (sym same)
-    (subst (λ x. Encodes (IsJoined First Rest) (size + others) written old x) (sym (n ∙ ap (λ x. settled x start end) same))
-    (joined_at First Rest size others sized written start old mid end at a e))
+encodes-joined sized at a e same n = rw (n, same) (joined_at _ _ _ _ sized _ _ _ _ _ at a e)
 
 -- ---- a whole message, from nothing
 pub encoded_ok : {Z : Type 0} (k : Kind) (v : ValueOf k) (made : Vec ℕ Z) (old new : List ℕ) → old ≡ [] → Appends (Writes k v) old new → length new ≤ limit → made.items ≡ new
@@ -130,5 +111,5 @@ encoded_ok k v made old new none a fits same =
       written = written;
       size = size;
       fits = omega (arith, size, within);
-      too_long = λ t. absurd (ok_err made TooLong t);
+      too_long = λ t. absurd cc;
     }

@@ -1,57 +1,49 @@
 -- Heads that are written, and bytes whose end is moved.
-use Rattle.std.proofs.Common.{◌≡◌, ℕ, false, ◌+◌, ◌-◌, ◌/◌, ◌%◌, ◌^◌, ◌<◌, ◌≤◌, List, [], ◌∷◌, ◌++◌, length, get_or, take, drop, refl, sym, ap, ◌∙◌, arith, length-drop, append_assoc}
-use Rattle.std.specs.Int.{w32, to_be_bytes}
-use Rattle.std.proofs.lemmas.Bool.{ne_eqb}
+use Rattle.std.proofs.Common.{ltb, ◌≡◌, ℕ, false, ◌+◌, ◌-◌, ◌/◌, ◌%◌, ◌^◌, ◌<◌, ◌≤◌, List, [], ◌∷◌, ◌++◌, length, take, drop, refl, sym, ap, ◌∙◌, arith, length-drop, append_assoc}
+use Rattle.std.proofs.lemmas.Bool.{cond_both, ltb-true, ltb-false, ne_eqb}
 use Rattle.std.proofs.lemmas.List.{take_at, drop_at, take_all, drop_all, take-append-le, drop-append-le, append-nil}
 use Rattle.krb_der.specs.Whole.{AreBytes, number}
 use Rattle.krb_der.specs.Place.{begins}
 use Rattle.krb_der.specs.Spells.{short, long, IsElement}
 use Rattle.krb_der.specs.Writing.{Appends, Wraps}
-use Rattle.krb_der.specs.Inner.HeadView.{IsHeadOf, turned_at}
+use Rattle.krb_der.specs.Inner.HeadView.{IsHeadOf, head_bytes, turned_at}
 
--- ---- heads, from the four bytes of a length
-module _ (tag n : ℕ) (cells : List ℕ) (are : cells ≡ to_be_bytes w32 n) where
-  cell : (i : ℕ) → get_or cells i 0 ≡ get_or (to_be_bytes w32 n) i 0
-  cell i = ap (λ (l : List ℕ). get_or l i 0) are
-
-  pub head-1 : n < 128 → IsHeadOf tag n (tag ∷ get_or cells 3 0 ∷ [])
+-- ---- heads
+module _ (tag n : ℕ) where
+  head-1 : n < 128 → IsHeadOf tag n (tag ∷ n % 256 ∷ [])
   head-1 lt =
-      let d : get_or cells 3 0 ≡ n = cell 3 ∙ omega arith in
-      record { size = get_or cells 3 0 ∷ []; length_is = short lt (ap (λ x. x ∷ []) d); whole = refl }
+      let same : n % 256 ≡ n = omega arith in
+      record { size = n % 256 ∷ []; length_is = short lt (ap (λ x. x ∷ []) same); whole = refl }
 
   headed : (digits : List ℕ) → length digits ≤ 4 → AreBytes digits → begins 0 digits ≡ false → 128 ≤ n → number digits ≡ n
       → IsHeadOf tag n (tag ∷ (0x80 + length digits) ∷ digits)
   headed digits four are first big value =
       record { size = (0x80 + length digits) ∷ digits; length_is = long digits refl four are first big value; whole = refl }
 
-  pub head-2 : 128 ≤ n → n < 256 → IsHeadOf tag n (tag ∷ 0x81 ∷ get_or cells 3 0 ∷ [])
-  head-2 ge lt =
-      let d : get_or cells 3 0 ≡ n = cell 3 ∙ omega arith in
-      headed (get_or cells 3 0 ∷ []) (omega arith) (omega (arith, d), tt) (ne_eqb _ 0 (λ e. absurd (omega (arith, e, d)))) ge (omega (arith, d))
+  head-2 : 128 ≤ n → n < 256 → IsHeadOf tag n (tag ∷ 0x81 ∷ n % 256 ∷ [])
+  head-2 ge lt = headed (n % 256 ∷ []) (omega arith) (omega arith, tt) (ne_eqb _ 0 (λ e. absurd (omega (arith, e)))) ge (omega arith)
 
-  pub head-3 : 256 ≤ n → n < 0x1_0000 → IsHeadOf tag n (tag ∷ 0x82 ∷ get_or cells 2 0 ∷ get_or cells 3 0 ∷ [])
+  head-3 : 256 ≤ n → n < 0x1_0000 → IsHeadOf tag n (tag ∷ 0x82 ∷ n / 256 % 256 ∷ n % 256 ∷ [])
   head-3 ge lt =
-      let c : get_or cells 2 0 ≡ n / 256 % 256 = cell 2 in
-      let d : get_or cells 3 0 ≡ n % 256 = cell 3 in
-      headed (get_or cells 2 0 ∷ get_or cells 3 0 ∷ []) (omega arith) (omega (arith, c), (omega (arith, d), tt))
-      (ne_eqb _ 0 (λ e. absurd (omega (arith, e, c)))) (omega arith) (omega (arith, c, d))
+      headed (n / 256 % 256 ∷ n % 256 ∷ []) (omega arith) (omega arith, (omega arith, tt)) (ne_eqb _ 0 (λ e. absurd (omega (arith, e)))) (omega arith) (omega arith)
 
-  pub head-4 : 0x1_0000 ≤ n → n < 0x100_0000 → IsHeadOf tag n (tag ∷ 0x83 ∷ get_or cells 1 0 ∷ get_or cells 2 0 ∷ get_or cells 3 0 ∷ [])
+  head-4 : 0x1_0000 ≤ n → n < 0x100_0000 → IsHeadOf tag n (tag ∷ 0x83 ∷ n / 65536 % 256 ∷ n / 256 % 256 ∷ n % 256 ∷ [])
   head-4 ge lt =
-      let b : get_or cells 1 0 ≡ n / 65536 % 256 = cell 1 in
-      let c : get_or cells 2 0 ≡ n / 256 % 256 = cell 2 in
-      let d : get_or cells 3 0 ≡ n % 256 = cell 3 in
-      headed (get_or cells 1 0 ∷ get_or cells 2 0 ∷ get_or cells 3 0 ∷ []) (omega arith) (omega (arith, b), (omega (arith, c), (omega (arith, d), tt)))
-      (ne_eqb _ 0 (λ e. absurd (omega (arith, e, b)))) (omega arith) (omega (arith, b, c, d))
+      headed (n / 65536 % 256 ∷ n / 256 % 256 ∷ n % 256 ∷ []) (omega arith) (omega arith, (omega arith, (omega arith, tt)))
+      (ne_eqb _ 0 (λ e. absurd (omega (arith, e)))) (omega arith) (omega arith)
 
-  pub head-5 : 0x100_0000 ≤ n → n < 2 ^ 32 → IsHeadOf tag n (tag ∷ 0x84 ∷ get_or cells 0 0 ∷ get_or cells 1 0 ∷ get_or cells 2 0 ∷ get_or cells 3 0 ∷ [])
+  head-5 : 0x100_0000 ≤ n → n < 2 ^ 32 → IsHeadOf tag n (tag ∷ 0x84 ∷ n / 16777216 % 256 ∷ n / 65536 % 256 ∷ n / 256 % 256 ∷ n % 256 ∷ [])
   head-5 ge lt =
-      let a : get_or cells 0 0 ≡ n / 16777216 % 256 = cell 0 in
-      let b : get_or cells 1 0 ≡ n / 65536 % 256 = cell 1 in
-      let c : get_or cells 2 0 ≡ n / 256 % 256 = cell 2 in
-      let d : get_or cells 3 0 ≡ n % 256 = cell 3 in
-      headed (get_or cells 0 0 ∷ get_or cells 1 0 ∷ get_or cells 2 0 ∷ get_or cells 3 0 ∷ []) (omega arith) (omega (arith, a), (omega (arith, b), (omega (arith, c), (omega (arith, d), tt))))
-      (ne_eqb _ 0 (λ e. absurd (omega (arith, e, a)))) (omega arith) (omega (arith, a, b, c, d))
+      headed (n / 16777216 % 256 ∷ n / 65536 % 256 ∷ n / 256 % 256 ∷ n % 256 ∷ []) (omega arith) (omega arith, (omega arith, (omega arith, (omega arith, tt))))
+      (ne_eqb _ 0 (λ e. absurd (omega (arith, e)))) (omega arith) (omega arith)
+
+  pub head_is : n < 2 ^ 32 → IsHeadOf tag n (head_bytes tag n)
+  head_is small =
+      cond_both (ltb n 128) _ _ (IsHeadOf tag n) (λ e. head-1 (ltb-true n 128 e))
+      (λ a. cond_both (ltb n (2 ^ 8)) _ _ (IsHeadOf tag n) (λ e. head-2 (ltb-false n 128 a) (ltb-true n (2 ^ 8) e))
+      (λ b. cond_both (ltb n (2 ^ 16)) _ _ (IsHeadOf tag n) (λ e. head-3 (ltb-false n (2 ^ 8) b) (ltb-true n (2 ^ 16) e))
+      (λ c. cond_both (ltb n (2 ^ 24)) _ _ (IsHeadOf tag n) (λ e. head-4 (ltb-false n (2 ^ 16) c) (ltb-true n (2 ^ 24) e))
+      (λ d. head-5 (ltb-false n (2 ^ 24) d) small))))
 
 -- ---- a head before a content
 pub element-head : (tag : ℕ) (content head : List ℕ) → IsHeadOf tag (length content) head → IsElement tag (λ c. c ≡ content) (head ++ content)

@@ -1,19 +1,18 @@
 -- The laws of each element without parts, a row for each.
-use Rattle.std.proofs.Common.{◌≡◌, ◌⊎◌, inl, inr, ℕ, ◌^◌, ◌<◌, ◌≤◌, ℤ, pos, negsuc, ◌-ℤ◌, List, length, Option, Some, refl, sym, ap, subst, ◌∙◌, arith, lit≤}
+use Rattle.std.proofs.Common.{◌≡◌, ◌⊎◌, inl, inr, ℕ, ◌^◌, ◌<◌, ◌≤◌, ℤ, pos, negsuc, ◌-ℤ◌, List, length, Option, Some, refl, sym, ap, ◌∙◌, arith, lit≤}
 use Rattle.std.specs.Prelude.{FitsSigned, IfSome}
 use Rattle.std.specs.Int.{w32, to_be_bytes}
 use Rattle.std.proofs.lemmas.Int.{ints}
 use Rattle.krb_der.specs.Content.{Content, int32, uint32, seq_number, microseconds, constant, octets, string, flags, time, Leaf, natural_leaf, bytes_leaf, leaf_of}
 use Rattle.krb_der.specs.Whole.{IsNatural, IsInteger, IsUnsigned, IsNegative, IsSeqNumber}
-use Rattle.krb_der.specs.Time.{IsSeconds}
 use Rattle.krb_der.specs.Computed.Steps.{◌>>?◌}
 use Rattle.krb_der.specs.Computed.Whole.{whole_of, natural_below}
 use Rattle.krb_der.specs.Computed.Read.{content_of}
 use Rattle.krb_der.proofs.Numbers.{number_within}
 use Rattle.krb_der.proofs.ContentLaws.{flags_found, flags_read, flags_unique, below_found, below_only, int32_found, int32_only, seq_number_found, seq_number_only, constant_found, constant_only}
-use Rattle.krb_der.proofs.ClockLaws.{time_read, time_found, time_unique, civil_range}
+use Rattle.krb_der.proofs.ClockLaws.{time_read, time_found}
+use Rattle.krb_der.proofs.Calendar.{time_range, time_made, time_unique}
 use Rattle.krb_der.proofs.ShortestLaws.{integer_be, flags_be}
-use Rattle.krb_der.proofs.Dates.{time_made}
 use Rattle.krb_der.proofs.Sizes.{natural_sized, integer_sized, natural_unique, integer_unique}
 use Rattle.krb_der.proofs.PartLaws.{IsPart, Part, plain_is}
 
@@ -106,5 +105,5 @@ is_leaf time =
     record {
       found = time_found;
       only = time_read;
-      is = λ s. plain_is (time_unique s) (λ content h. subst IsSeconds h.value (civil_range h.civil h.valid)) (λ content h. ap length h.whole) (time_made s);
+      is = λ s. plain_is (time_unique s) (time_range s) (λ content h. ap length h.whole) (time_made s);
     }

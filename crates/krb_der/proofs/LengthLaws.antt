@@ -1,6 +1,7 @@
 -- A length is read exactly where one is spelled, and a number has one length.
-use Rattle.std.proofs.Common.{◌≡◌, ◌⊎◌, inl, inr, ℕ, ◌+◌, ◌-◌, ◌*◌, ◌^◌, ◌<◌, ◌≤◌, Bool, true, false, not, ◌&&◌, ltb, leb, eqb, List, [], ◌∷◌, ◌++◌, length, take, drop, Result, Ok, Err, refl, sym, ap, subst, ◌∙◌, arith, length-append, length-take, take-append-drop, get_or}
-use Rattle.std.proofs.lemmas.Bool.{le-ltb, lt-ltb, le-leb, ltb-true, ltb-false, leb-true, leb-false, eq-eqb, and_parts, and_cases, cases_eq, cond_both, not-true, true≢false}
+use Rattle.std.proofs.Common.{◌≡◌, ◌⊎◌, inl, inr, ℕ, ◌+◌, ◌-◌, ◌*◌, ◌^◌, ◌<◌, ◌≤◌, true, false, not, ◌&&◌, ltb, leb, eqb, List, [], ◌∷◌, ◌++◌, length, take, drop, Result, Ok, Err, refl, sym, ap, subst, ◌∙◌, arith, length-append, length-take, take-append-drop, get_or}
+use Rattle.std.proofs.lemmas.Bool.{le-ltb, lt-ltb, le-leb, ltb-true, ltb-false, leb-true, leb-false, and_parts, and_cases, cond_both, not-true, true≢false}
+use Rattle.std.proofs.lemmas.Bool.Decides.{nat_tests}
 use Rattle.std.proofs.lemmas.List.{take_at, drop_at}
 use Rattle.std.proofs.lemmas.Nat.{same_from_place}
 use Rattle.std.proofs.Math.Nat.{mul-le-mul_right}
@@ -31,15 +32,9 @@ number_injective (x ∷ xs) (y ∷ ys) len h k e =
 -- a first digit that is not 0 shows how many digits there are
 pub number_least : (x : ℕ) (xs : List ℕ) → begins 0 (x ∷ xs) ≡ false → 256 ^ length xs ≤ number (x ∷ xs)
 number_least x xs first =
-    let some : 1 ≤ x = elim (cases_eq x 0) [
-      | inl e ↦ absurd (both (eqb x 0) (eq-eqb x 0 e) first)
-      | inr ne ↦ omega (arith, ne)
-    ] in
+    let some : 1 ≤ x = grind (arith, nat_tests) in
     let one : 1 * 256 ^ length xs ≤ x * 256 ^ length xs = mul-le-mul_right (256 ^ length xs) some in
     omega (arith, one)
-  where
-    both : (b : Bool) → b ≡ true → b ≡ false → ⊥
-    both b p q = cc
 
 pub digits_nonempty : (ds : List ℕ) (n : ℕ) → number ds ≡ n → 128 ≤ n → 1 ≤ length ds
 digits_nonempty [] n e h = absurd (omega arith)
@@ -64,12 +59,7 @@ length_of-short n rest lt = rw (lt-ltb n 0x80 lt) refl
 
 length_of-long : (count : ℕ) (bytes : List ℕ) → 1 ≤ count → count ≤ 4 → length_of ((0x80 + count) ∷ bytes) ≡ long_of count bytes
 unfolding length_of
-length_of-long count bytes some four =
-    let least : 0x81 ≤ 0x80 + count = omega arith in
-    let most : 0x80 + count ≤ 0x84 = omega arith in
-    let beyond : 0x80 ≤ 0x80 + count = omega arith in
-    let back : (0x80 + count) - 0x80 ≡ count = omega arith in
-    rw (le-ltb (0x80 + count) 0x80 beyond, le-leb 0x81 (0x80 + count) least, le-leb (0x80 + count) 0x84 most, back) refl
+length_of-long count bytes some four = grind (arith, nat_tests)
 
 -- ---- what is spelled is read
 pub length_of-spelled : (n : ℕ) (size rest : List ℕ) → IsLength n size → length_of (size ++ rest) ≡ Ok (n, rest)

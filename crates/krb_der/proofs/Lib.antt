@@ -1,5 +1,4 @@
 pub mod Numbers
-pub mod WholeSteps
 pub mod Calendar
 pub mod Found
 pub mod LengthLaws
@@ -18,11 +17,8 @@ pub mod WriteLaws
 pub mod Messages
 pub mod EncodeLaws
 pub mod Lists
-pub mod Exact
 pub mod Offsets
 pub mod ListWrites
-pub mod Listed
 pub mod FlagLaws
 pub mod Sizes
-pub mod Dates
 pub mod Spelled

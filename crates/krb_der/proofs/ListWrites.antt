@@ -44,8 +44,8 @@ module _ {X : Type 0} (k : Kind) (view : X → ValueOf k) (items : List X) where
         ∙ ap (λ y. take i items ++ (y ∷ drop (suc i) items)) (sym here)
 
     -- one more
-    pub items_more : (old mid end : List ℕ) → Appends (Items (take i items)) old mid → Appends (Writes k (view x)) mid end → Appends (Items (take (i + 1) items)) old end
-    items_more old mid end a b =
+    pub items_more : {old mid end : List ℕ} → Appends (Items (take i items)) old mid → Appends (Writes k (view x)) mid end → Appends (Items (take (i + 1) items)) old end
+    items_more {old = old} a b =
         record {
           bytes = a.bytes ++ b.bytes;
           is =
@@ -62,11 +62,10 @@ module _ {X : Type 0} (k : Kind) (view : X → ValueOf k) (items : List X) where
         ∙ sizes_of-append (size_of k) (map view (take i items)) (map view (x ∷ drop (suc i) items))
 
     -- one that is refused
-    pub items_refused : (f : EncodeFault) (r : Result (Unit {0}) EncodeFault) (start : ℕ) (old mid end new : List ℕ) → start ≡ length old → Appends (Items (take i items)) old mid
+    pub items_refused : {f : EncodeFault} {r : Result (Unit {0}) EncodeFault} {start : ℕ} {old mid end new : List ℕ} → start ≡ length old → Appends (Items (take i items)) old mid
         → Encodes (Writes k (view x)) (size_of k (view x)) (Err f) mid end → r ≡ Err f → new ≡ settled r start end → Encodes (Items items) (items_size items) r old new
-    items_refused f r start old mid end new at a e same left =
-        subst (λ y. Encodes (Items items) (items_size items) y old new) (sym same)
-        (record {
+    items_refused {start = start} {old = old} {mid = mid} at a e same left =
+        rw (left, same) (record {
           ok = tt;
           too_long = λ t. omega (
             arith,
@@ -76,12 +75,12 @@ module _ {X : Type 0} (k : Kind) (view : X → ValueOf k) (items : List X) where
             row_size (each k) (map view (take i items)) a.bytes a.is,
             before_and_after,
           );
-          kept = left ∙ ap (λ y. settled y start end) same ∙ ap (take start) e.kept ∙ before_appended (Items (take i items)) start old mid at a;
+          kept = ap (take start) e.kept ∙ before_appended (Items (take i items)) start old mid at a;
         })
 
   -- all of them
-  pub items_all : (r : Result (Unit {0}) EncodeFault) (n start : ℕ) (old mid new : List ℕ) → length items ≤ n → start ≡ length old → Appends (Items (take n items)) old mid
+  pub items_all : {r : Result (Unit {0}) EncodeFault} {start : ℕ} {old mid new : List ℕ} (n : ℕ) → length items ≤ n → start ≡ length old → Appends (Items (take n items)) old mid
       → r ≡ limited_of {E = Unit {0}} (Ok tt) mid → new ≡ settled r start mid → Encodes (Items items) (items_size items) r old new
-  items_all r n start old mid new all at a l left =
+  items_all {r = r} {start = start} {old = old} {mid = mid} {new = new} n all at a l left =
       encodes-limited {E = Unit {0}} (Items items) (items_size items) (row_size (each k) (map view items)) (Ok tt) r start old mid new at
       (subst (λ (xs : List X). Appends (Items xs) old mid) (take_all n items all) a) tt l left

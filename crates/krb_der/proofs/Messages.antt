@@ -1,27 +1,21 @@
 -- Whole messages.
-use Rattle.std.proofs.Common.{◌≡◌, ◌⊎◌, inl, inr, ℕ, ◌<◌, ◌≤◌, true, List, [], ◌++◌, length, take, Result, Ok, Err, refl, sym, ap, subst, ◌∙◌, arith}
+use Rattle.std.proofs.Common.{ltb, ◌≡◌, ◌⊎◌, inl, inr, ℕ, true, List, [], ◌++◌, length, take, Result, Ok, Err, refl, sym, ap, subst, ◌∙◌, arith}
 use Rattle.std.specs.Prelude.{◌↔◌}
 use Rattle.krb_der.specs.Computed.Gives.{Fills}
-use Rattle.std.proofs.lemmas.Bool.{le-ltb, lt-ltb, cases_lt}
+use Rattle.std.proofs.lemmas.Bool.{cond_both, ltb-true, ltb-false, le-ltb}
 use Rattle.std.proofs.lemmas.List.{append-nil, take_at}
 use Rattle.krb_der.specs.declared.fault.Fault.{Fault}
-use Rattle.krb_der.specs.declared.fault.FaultKind.TheVariants.{TooLong}
 use Rattle.krb_der.specs.Kind.{Kind, ends, must, ValueOf}
-use Rattle.krb_der.specs.Content.{Elementary}
 use Rattle.krb_der.specs.Place.{Place, begin_at}
 use Rattle.krb_der.specs.Spells.{Spells, IsMessage, limit}
-use Rattle.krb_der.specs.Numbers.{SpellsNegative}
-use Rattle.krb_der.specs.Writing.{Writes}
-use Rattle.krb_der.specs.Fault.{IsFault, IsFaulty, too_long, faulty, start, after_element}
-use Rattle.krb_der.specs.Computed.Steps.{◌>>=◌}
+use Rattle.krb_der.specs.Fault.{IsFault, too_long, faulty, start, after_element}
 use Rattle.krb_der.specs.Reading.{Parses}
 use Rattle.krb_der.specs.Clear.{is_clear}
-use Rattle.krb_der.specs.Computed.Read.{fault_at, element_at, finish_at, message_of}
-use Rattle.krb_der.proofs.LengthLaws.{no_value, same_error}
+use Rattle.krb_der.specs.Computed.Read.{element_at, finish_at, message_of}
+use Rattle.krb_der.proofs.LengthLaws.{no_value}
 use Rattle.krb_der.proofs.ElementSteps.{answer, bind_at, same_ok}
 use Rattle.krb_der.proofs.ElementLaws.{element_read, finished}
 use Rattle.krb_der.proofs.Outcomes.{bind_by, ElementOut, FieldsOut, element_out, end_out, alone}
-use Rattle.krb_der.proofs.Spelled.{spelled_is}
 use Rattle.krb_der.proofs.Offsets.{fault_within}
 
 -- what is spelled is read, whatever follows
@@ -40,52 +34,37 @@ no_prefix k clear v w a b x y s t e =
 pub one_value : (k : Kind) → is_clear k ≡ true → (v w : ValueOf k) (bytes : List ℕ) → Spells k v bytes → Spells k w bytes → v ≡ w
 one_value k clear v w bytes s t = (no_prefix k clear v w bytes bytes [] [] s t refl).1
 
-pub one_written : (k : Kind) (v : ValueOf k) (a b : List ℕ) → Writes k v a → Writes k v b → a ≡ b
-one_written k v a b s t = (spelled_is k v).one a b s t
-
-pub one_negative : (k : Kind) (v : ValueOf k) (a b : List ℕ) → SpellsNegative k v a → SpellsNegative k v b → a ≡ b
-one_negative k v a b s t = (spelled_is k v).one_negative a b s.0 t.0
-
 -- ---- reading a whole message
-message-short : (k : Kind) (bytes : List ℕ) → length bytes ≤ limit → message_of k bytes ≡ (element_at k (begin_at bytes) >>= λ x. finish_at x.1 >>= λ _. Ok x.0)
-unfolding message_of
-message-short k bytes le = rw (le-ltb limit (length bytes) le) refl
-
-message-long : (k : Kind) (bytes : List ℕ) → limit < length bytes → message_of k bytes ≡ fault_at TooLong 0
-unfolding message_of
-message-long k bytes lt = rw (lt-ltb limit (length bytes) lt) refl
-
 pub message_only : (k : Kind) (v : ValueOf k) (bytes : List ℕ) → is_clear k ≡ true → IsMessage k v bytes → message_of k bytes ≡ Ok v
+unfolding message_of
 message_only k v bytes clear m =
-    message-short k bytes m.within
-    ∙ bind_at (element_at k (begin_at bytes)) _ _ (ap (λ (l : List ℕ). element_at k (begin_at l)) (sym (append-nil bytes)) ∙ reads k v bytes [] clear m.spelled)
-    ∙ bind_at (finish_at (record { at = length bytes; rest = [] })) (λ _. Ok v) _ (finished (record { at = length bytes; rest = [] }) refl)
+    rw (le-ltb limit (length bytes) m.within)
+    (bind_at (element_at k (begin_at bytes)) _ _ (ap (λ (l : List ℕ). element_at k (begin_at l)) (sym (append-nil bytes)) ∙ reads k v bytes [] clear m.spelled)
+    ∙ bind_at (finish_at (record { at = length bytes; rest = [] })) (λ _. Ok v) _ (finished (record { at = length bytes; rest = [] }) refl))
 
+-- what it gives
 abbrev MessageOut : (k : Kind) → List ℕ → Result (ValueOf k) Fault → Type 0
-MessageOut k bytes (Ok v) = Spells k v bytes
-MessageOut k bytes (Err f) = IsFaulty Elementary (must k ends) (begin_at bytes) f
+MessageOut k bytes (Ok v) = IsMessage k v bytes
+MessageOut k bytes (Err f) = IsFault k bytes f
 
-message_out : (k : Kind) (bytes : List ℕ) → MessageOut k bytes (element_at k (begin_at bytes) >>= λ x. finish_at x.1 >>= λ _. Ok x.0)
+message_out : (k : Kind) (bytes : List ℕ) → MessageOut k bytes (message_of k bytes)
+unfolding message_of
 message_out k bytes =
+    cond_both (ltb limit (length bytes)) _ _ (MessageOut k bytes)
+    (λ long. too_long (ltb-true limit (length bytes) long) refl)
+    (λ fits.
+    let within = ltb-false limit (length bytes) fits in
     bind_by (ElementOut k (begin_at bytes)) (MessageOut k bytes) (element_at k (begin_at bytes)) _ (element_out k (begin_at bytes))
     (λ x s. bind_by (FieldsOut ends x.1) (MessageOut k bytes) (finish_at x.1) _ (end_out x.1)
-    (λ u end. alone k x.0 (begin_at bytes) x.1 s end)
-    (λ f faults. faults (must k ends) (begin_at bytes) (after_element x.0 start s)))
-    (λ f faults. faults ends (must k ends) (begin_at bytes) start)
+    (λ u end. record { spelled = alone k x.0 (begin_at bytes) x.1 s end; within = within })
+    (λ f faults. faulty within (faults (must k ends) (begin_at bytes) (after_element x.0 start s))))
+    (λ f faults. faulty within (faults ends (must k ends) (begin_at bytes) start)))
 
 pub message_found : (k : Kind) (v : ValueOf k) (bytes : List ℕ) → message_of k bytes ≡ Ok v → IsMessage k v bytes
-message_found k v bytes e =
-    elim (cases_lt limit (length bytes)) [
-      | inl long ↦ absurd (no_value _ v (sym (message-long k bytes long) ∙ e))
-      | inr fits ↦ record { spelled = subst (MessageOut k bytes) (sym (message-short k bytes fits) ∙ e) (message_out k bytes); within = fits }
-    ]
+message_found k v bytes e = subst (MessageOut k bytes) e (message_out k bytes)
 
 pub message_fault : (k : Kind) (bytes : List ℕ) (f : Fault) → message_of k bytes ≡ Err f → IsFault k bytes f
-message_fault k bytes f e =
-    elim (cases_lt limit (length bytes)) [
-      | inl long ↦ too_long long (sym (same_error {A = ValueOf k} _ f (sym (message-long k bytes long) ∙ e)))
-      | inr fits ↦ faulty fits (subst (MessageOut k bytes) (sym (message-short k bytes fits) ∙ e) (message_out k bytes))
-    ]
+message_fault k bytes f e = subst (MessageOut k bytes) e (message_out k bytes)
 
 -- ---- decided
 pub decided : (k : Kind) → is_clear k ≡ true → (bytes : List ℕ) → ((v : ValueOf k) × IsMessage k v bytes) ⊎ ((v : ValueOf k) → IsMessage k v bytes → ⊥)

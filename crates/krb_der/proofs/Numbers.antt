@@ -1,8 +1,9 @@
--- Bytes, and the numbers that they are.
-use Rattle.std.proofs.Common.{◌≡◌, ℕ, zero, suc, ◌*◌, ◌^◌, ◌<◌, ◌≤◌, true, List, [], ◌∷◌, length, get_or, take, refl, arith, lit<, length-take}
+-- Bytes, and the numbers that they are, as they are and with each bit turned.
+use Rattle.std.proofs.Common.{◌≡◌, ℕ, zero, suc, ◌+◌, ◌-◌, ◌*◌, ◌^◌, ◌<◌, ◌≤◌, true, List, [], ◌∷◌, length, get_or, take, refl, ap, arith, lit<, length-take}
 use Rattle.std.proofs.lemmas.Bool.{and_from, and_parts, lt-ltb, ltb-true}
+use Rattle.std.proofs.lemmas.List.{length-map}
 use Rattle.std.proofs.Math.Nat.{pow-succ', mul-le-mul_right, pow-le-pow_right}
-use Rattle.krb_der.specs.Whole.{AreBytes, number}
+use Rattle.krb_der.specs.Whole.{AreBytes, number, turned}
 use Rattle.krb_der.specs.Computed.Whole.{are_bytes}
 
 pub AreBytes-from : (bytes : List ℕ) → ((i : ℕ) → get_or bytes i 0 < 256) → AreBytes bytes
@@ -41,3 +42,29 @@ number_within bytes k h le =
 
 pub number-front : (bytes : List ℕ) (i : ℕ) → AreBytes bytes → i ≤ 4 → number (take i bytes) < 2 ^ 32
 number-front bytes i h le = number_within (take i bytes) 4 (AreBytes-take i bytes h) (omega (arith, length-take i bytes))
+
+-- ---- turned bits
+pub length-turned : (bytes : List ℕ) → length (turned bytes) ≡ length bytes
+length-turned bytes = length-map bytes (λ b. 255 - b)
+
+pub AreBytes-turned : (bytes : List ℕ) → AreBytes (turned bytes)
+AreBytes-turned [] = tt
+AreBytes-turned (b ∷ bytes) = (omega arith, AreBytes-turned bytes)
+
+split_255 : (k b p : ℕ) → k + b ≡ 255 → b * p + k * p ≡ 255 * p
+split_255 k b p e = omega (arith, ap (λ x. x * p) e)
+
+pub number-turned : (bytes : List ℕ) → AreBytes bytes → number bytes + number (turned bytes) + 1 ≡ 256 ^ length bytes
+number-turned [] h = refl
+number-turned (b ∷ bytes) h =
+    let ih = number-turned bytes h.1 in
+    let wide : 256 ^ length (turned bytes) ≡ 256 ^ length bytes = ap (λ n. 256 ^ n) (length-turned bytes) in
+    let parts = split_255 (255 - b) b (256 ^ length bytes) (omega (arith, h.0)) in
+    rw wide (omega (arith, ih, parts, pow_step (length bytes)))
+
+pub turned-turned : (bytes : List ℕ) → AreBytes bytes → turned (turned bytes) ≡ bytes
+turned-turned [] h = refl
+turned-turned (b ∷ bytes) h =
+    let first : 255 - (255 - b) ≡ b = omega (arith, h.0) in
+    let rest = turned-turned bytes h.1 in
+    cc

@@ -1,11 +1,9 @@
 -- The laws of a part of a message, from those of the parts that it is made of.
 use Rattle.std.proofs.Common.{◌≡◌, ◌⊎◌, inl, inr, ℕ, ◌+◌, ◌^◌, ◌<◌, ◌≤◌, List, [], ◌∷◌, ◌++◌, length, refl, sym, ap, subst, ◌∙◌, arith}
-use Rattle.std.specs.Int.{w32, to_be_bytes}
-use Rattle.std.proofs.lemmas.Bool.{cases_lt, cases_eq}
+use Rattle.std.proofs.lemmas.Bool.{cases_eq}
 use Rattle.krb_der.specs.Spells.{IsLength, IsElement, IsJoined}
 use Rattle.krb_der.specs.Size.{element_size}
-use Rattle.krb_der.specs.Inner.HeadView.{IsHeadOf}
-use Rattle.krb_der.proofs.HeadLaws.{head-1, head-2, head-3, head-4, head-5}
+use Rattle.krb_der.proofs.HeadLaws.{head_is}
 use Rattle.krb_der.proofs.Sizes.{IsLength-unique, HasSize, element_sized, joined_sized}
 
 -- A part with one value: which bytes are read as it, which are written, and which have its sequence
@@ -81,25 +79,9 @@ element_unique tag P one a b h k =
     let size = IsLength-unique (length k.content) h.size k.size (subst (λ l. IsLength (length l) h.size) content h.length_is) k.length_is in
     h.whole ∙ ap (λ (s : List ℕ). tag ∷ (s ++ h.content)) size ∙ ap (λ (c : List ℕ). tag ∷ (k.size ++ c)) content ∙ sym k.whole
 
-head_made : (n : ℕ) → n < 2 ^ 32 → (head : List ℕ) × IsHeadOf 0 n head
-head_made n lt =
-    elim (cases_lt n 128) [
-      | inl a ↦ (_, head-1 0 n (to_be_bytes w32 n) refl a)
-      | inr a ↦ elim (cases_lt n 256) [
-        | inl b ↦ (_, head-2 0 n (to_be_bytes w32 n) refl a b)
-        | inr b ↦ elim (cases_lt n 0x1_0000) [
-          | inl c ↦ (_, head-3 0 n (to_be_bytes w32 n) refl b c)
-          | inr c ↦ elim (cases_lt n 0x100_0000) [
-            | inl d ↦ (_, head-4 0 n (to_be_bytes w32 n) refl c d)
-            | inr d ↦ (_, head-5 0 n (to_be_bytes w32 n) refl d lt)
-          ]
-        ]
-      ]
-    ]
-
 element_made : (tag : ℕ) (P : List ℕ → Type 0) (content : List ℕ) → P content → length content < 2 ^ 32 → (bytes : List ℕ) × IsElement tag P bytes
 element_made tag P content is lt =
-    let head = (head_made (length content) lt).1 in
+    let head = head_is 0 (length content) lt in
     (tag ∷ (head.size ++ content), record { size = head.size; content = content; length_is = head.length_is; content_is = is; whole = refl })
 
 abbrev pub element : ℕ → Part → Part

@@ -1,20 +1,21 @@
--- A call that gives what reading gives reads an element.
-use Rattle.std.proofs.Common.{◌≡◌, Option, Some, None, subst, true, false, ℕ, Result, Ok, Err, refl, sym, ap, ◌∙◌}
+-- A call that gives what reading gives reads an element, and reading gives what the relations say.
+use Rattle.std.proofs.Common.{◌≡◌, List, Option, Some, None, subst, true, false, ℕ, Result, Ok, Err, refl, sym, ap, ◌∙◌}
+use Rattle.std.specs.Prelude.{◌↔◌}
 use Rattle.std.proofs.lemmas.Bool.{cond_both, eq-eqb, true≢false}
 use Rattle.krb_der.specs.declared.fault.Fault.{Fault}
-use Rattle.krb_der.specs.Kind.{Kind, wrapped, ValueOf, must}
+use Rattle.krb_der.specs.Kind.{Kind, wrapped, Fields, must, each, ValueOf, FieldsOf}
 use Rattle.krb_der.specs.Content.{Elementary}
 use Rattle.krb_der.specs.Place.{Place, begins}
-use Rattle.krb_der.specs.Spells.{StandsAt}
-use Rattle.krb_der.specs.Fault.{HasHead, IsElementFault, IsHeadFault, start}
-use Rattle.krb_der.specs.Reading.{Reads, Enters, MayEnter}
-use Rattle.krb_der.specs.Clear.{is_clear}
-use Rattle.krb_der.specs.Computed.Gives.{Gives}
-use Rattle.krb_der.specs.Computed.Read.{element_at, enter_at, may_enter}
+use Rattle.krb_der.specs.Spells.{SpellsFields, StandsAt}
+use Rattle.krb_der.specs.Fault.{HasHead, IsFaulty, IsElementFault, IsHeadFault, start}
+use Rattle.krb_der.specs.Reading.{Reads, ReadsList, Enters, MayEnter}
+use Rattle.krb_der.specs.Clear.{is_clear, are_clear}
+use Rattle.krb_der.specs.Computed.Gives.{Gives, checked}
+use Rattle.krb_der.specs.Computed.Read.{element_at, fields_at, enter_at, may_enter}
 use Rattle.krb_der.proofs.LengthLaws.{no_value}
 use Rattle.krb_der.proofs.ElementSteps.{answer, enter_at-head, enter_at_read, HeadOut, head_out}
-use Rattle.krb_der.proofs.ElementLaws.{element_read}
-use Rattle.krb_der.proofs.Outcomes.{bind_by, ElementOut, element_out}
+use Rattle.krb_der.proofs.ElementLaws.{element_read, fields_read}
+use Rattle.krb_der.proofs.Outcomes.{bind_by, ElementOut, FieldsOut, element_out, fields_out}
 
 pub element_at_found : (k : Kind) (v : ValueOf k) (p after : Place) → element_at k p ≡ Ok (v, after) → StandsAt Elementary k v p after
 element_at_found k v p after e = subst (ElementOut k p) e (element_out k p)
@@ -104,3 +105,29 @@ may_enters tag (Err f) old new e =
       faulty = h.1;
       kept = e.1;
     }
+
+-- ---- computed reading gives exactly what the relations say
+pub element_read_exactly : (k : Kind) → is_clear k ≡ true → (v : ValueOf k) (here after : Place) → (element_at k here ≡ Ok (v, after)) ↔ StandsAt Elementary k v here after
+element_read_exactly k clear v here after = (element_at_found k v here after, element_read k clear v here after)
+
+fields_at-found : (fs : Fields) (v : FieldsOf fs) (here : Place) → fields_at fs here ≡ Ok v → SpellsFields Elementary fs v here.rest
+fields_at-found fs v here e = subst (FieldsOut fs here) e (fields_out fs here)
+
+pub fields_read_exactly : (fs : Fields) → are_clear fs ≡ true → (v : FieldsOf fs) (here : Place) → (fields_at fs here ≡ Ok v) ↔ SpellsFields Elementary fs v here.rest
+fields_read_exactly fs clear v here = (fields_at-found fs v here, fields_read fs clear v here)
+
+pub fields_at_fault : (fs : Fields) (here : Place) (f : Fault) → fields_at fs here ≡ Err f → IsFaulty Elementary fs here f
+fields_at_fault fs here f e = subst (FieldsOut fs here) e (fields_out fs here) fs here start
+
+-- a call that checks a list
+pub reads-list : (k : Kind) (r : Result (Unit {0}) Fault) (here : Place) → is_clear k ≡ true → r ≡ checked (fields_at (each k) here) → ReadsList k r here
+reads-list k r here clear e = subst (λ x. ReadsList k x here) (sym e) (by (fields_at (each k) here) (λ i. fields_at (each k) here))
+  where
+    by : (read : Result (List (ValueOf k)) Fault) → fields_at (each k) here ≡ read → ReadsList k (checked read) here
+    by (Ok vs) h = record { found = (vs, fields_at-found (each k) vs here h); only = λ ws s. search; faulty = tt }
+    by (Err f) h =
+        record {
+          found = tt;
+          only = λ ws s. absurd (no_value f ws (sym h ∙ fields_read (each k) clear ws here s));
+          faulty = fields_at_fault (each k) here f h;
+        }

@@ -1,14 +1,16 @@
 -- What is written of a whole number is its content.
-use Rattle.std.proofs.Common.{◌≡◌, ◌⊎◌, inl, inr, ℕ, suc, ◌-◌, ◌*◌, ◌/◌, ◌%◌, ◌^◌, ◌<◌, ◌≤◌, ℤ, pos, negsuc, true, false, ◌&&◌, cond, ltb, leb, eqb, List, [], ◌∷◌, length, get_or, w32, refl, sym, ap, subst, ◌∙◌, arith, w64, of_z}
+use Rattle.std.proofs.Common.{◌≡◌, inl, inr, ℕ, suc, ◌-◌, ◌*◌, ◌/◌, ◌%◌, ◌^◌, ◌<◌, ◌≤◌, ℤ, pos, negsuc, true, false, cond, List, [], ◌∷◌, length, get_or, w32, refl, sym, ap, subst, ◌∙◌, arith, w64, of_z}
 use Rattle.std.specs.Int.{to_be_bytes, from_be_bytes}
-use Rattle.std.proofs.lemmas.Bool.{ltb-true, leb-true, eqb-true, and_parts, or_cases, cases_Bool, true≢false, le-leb, lt-leb}
+use Rattle.std.proofs.lemmas.Bool.{leb-true, leb-false, cases_Bool, le-leb, lt-leb}
+use Rattle.std.proofs.lemmas.Bool.Decides.{nat_tests}
 use Rattle.std.proofs.lemmas.Int.{ints}
 use Rattle.std.proofs.lemmas.Nat.{from_be_bytes-to_be_bytes_4, from_be_bytes-to_be_bytes_8}
 use mir.Val.{SFits}
 use Rattle.krb_der.specs.Whole.{AreBytes, number, turned, IsInteger, AreFlags}
 use Rattle.krb_der.specs.Computed.Whole.{is_redundant, is_negative}
 use Rattle.krb_der.specs.Inner.Shortest.{shortest_of}
-use Rattle.krb_der.proofs.IntegerLaws.{AreBytes-turned, number-turned, shortest_kept, shortest_turned}
+use Rattle.krb_der.proofs.IntegerLaws.{shortest_kept, shortest_turned}
+use Rattle.krb_der.proofs.Numbers.{AreBytes-turned, number-turned}
 
 -- two's complement, whether or not in its shortest form
 unfoldable pub IsSigned : ℤ → List ℕ → Type 0
@@ -20,27 +22,19 @@ unfolding IsSigned
 signed_kept (pos n) bytes are short h = record { bytes = are; shortest = shortest_kept bytes short h.0; value = h.1 }
 signed_kept (negsuc m) bytes are short h = (are, record { bytes = AreBytes-turned bytes; shortest = shortest_turned bytes are short h.0; value = h.1 })
 
-redundant_cases : (a b : ℕ) (bytes : List ℕ) → is_redundant (a ∷ b ∷ bytes) ≡ true → ((a ≡ 0) × (b < 128)) ⊎ ((a ≡ 255) × (128 ≤ b))
-redundant_cases a b bytes e =
-    elim (or_cases (eqb a 0 && ltb b 128) (eqb a 255 && leb 128 b) e) [
-      | inl p ↦ let q = and_parts (eqb a 0) (ltb b 128) p in inl (eqb-true a 0 q.0, ltb-true b 128 q.1)
-      | inr p ↦ let q = and_parts (eqb a 255) (leb 128 b) p in inr (eqb-true a 255 q.0, leb-true 128 b q.1)
-    ]
-
 signed_step : (z : ℤ) (a b : ℕ) (bytes : List ℕ) → is_redundant (a ∷ b ∷ bytes) ≡ true → IsSigned z (a ∷ b ∷ bytes) → IsSigned z (b ∷ bytes)
 unfolding IsSigned
 signed_step (pos n) a b bytes red h =
-    elim (redundant_cases a b bytes red) [
-      | inl p ↦ (lt-leb 128 b p.1, omega (arith, h.1, ap (λ x. x * 256 ^ suc (length bytes)) p.0))
-      | inr p ↦ absurd (true≢false (sym (le-leb 128 a (omega (arith, p.0))) ∙ h.0))
-    ]
+    let high = leb-false 128 a h.0 in
+    let first : a ≡ 0 = grind (arith, nat_tests) in
+    let second : b < 128 = grind (arith, nat_tests) in
+    (lt-leb 128 b second, omega (arith, h.1, ap (λ x. x * 256 ^ suc (length bytes)) first))
 signed_step (negsuc m) a b bytes red h =
-    elim (redundant_cases a b bytes red) [
-      | inl p ↦ absurd (true≢false (sym h.0 ∙ lt-leb 128 a (omega (arith, p.0))))
-      | inr p ↦
-          let first : 255 - a ≡ 0 = omega (arith, p.0) in
-          (le-leb 128 b p.1, omega (arith, h.1, ap (λ x. x * 256 ^ suc (length (turned bytes))) first))
-    ]
+    let high = leb-true 128 a h.0 in
+    let first : a ≡ 255 = grind (arith, nat_tests) in
+    let second : 128 ≤ b = grind (arith, nat_tests) in
+    let turned' : 255 - a ≡ 0 = omega arith in
+    (le-leb 128 b second, omega (arith, h.1, ap (λ x. x * 256 ^ suc (length (turned bytes))) turned'))
 
 pub shortest_integer : (z : ℤ) (bytes : List ℕ) → 1 ≤ length bytes → AreBytes bytes → IsSigned z bytes → IsInteger z (shortest_of bytes)
 unfolding shortest_of

@@ -2,24 +2,23 @@
 use Rattle.std.proofs.Common.{◌≡◌, ℕ, zero, suc, ◌+◌, ◌*◌, ◌^◌, ◌<◌, ◌≤◌, ℤ, pos, negsuc, List, [], ◌∷◌, length, refl, sym, ap, ◌∙◌, arith, length-append}
 use Rattle.std.specs.Prelude.{FitsSigned}
 use Rattle.std.specs.Int.{w32}
-use Rattle.std.proofs.lemmas.Bool.{le-ltb, lt-ltb}
+use Rattle.std.proofs.lemmas.Bool.{lt-ltb}
+use Rattle.std.proofs.lemmas.Bool.Decides.{nat_tests}
 use Rattle.std.proofs.lemmas.Int.{ints}
 use Rattle.std.proofs.Math.Nat.{mul-le-mul_right}
 use Rattle.krb_der.specs.Whole.{AreBytes, number, IsShortest, IsNatural, turned, IsInteger, natural_size, integer_size}
 use Rattle.krb_der.specs.Spells.{IsLength, short, long, IsElement, IsJoined}
 use Rattle.krb_der.specs.Size.{length_size, element_size}
-use Rattle.krb_der.proofs.Numbers.{number_below}
+use Rattle.krb_der.proofs.Numbers.{number_below, length-turned, turned-turned}
 use Rattle.krb_der.proofs.LengthLaws.{number_injective, number_least}
-use Rattle.krb_der.proofs.IntegerLaws.{length-turned, turned-turned, natural_least, natural_few}
+use Rattle.krb_der.proofs.IntegerLaws.{natural_least, natural_few}
 
 -- ---- lengths
 many_digits : (k n : ℕ) → k < 4 → 128 ≤ n → 256 ^ k ≤ n → n < 256 ^ suc k → length_size n ≡ 2 + k
-many_digits zero n few big least most = rw (le-ltb n 128 big, lt-ltb n (2 ^ 8) most) refl
-many_digits (suc zero) n few big least most = rw (le-ltb n 128 big, le-ltb n (2 ^ 8) least, lt-ltb n (2 ^ 16) most) refl
-many_digits (suc (suc zero)) n few big least most =
-    rw (le-ltb n 128 big, le-ltb n (2 ^ 8) (omega arith), le-ltb n (2 ^ 16) least, lt-ltb n (2 ^ 24) most) refl
-many_digits (suc (suc (suc zero))) n few big least most =
-    rw (le-ltb n 128 big, le-ltb n (2 ^ 8) (omega arith), le-ltb n (2 ^ 16) (omega arith), le-ltb n (2 ^ 24) least) refl
+many_digits zero n few big least most = grind (arith, nat_tests)
+many_digits (suc zero) n few big least most = grind (arith, nat_tests)
+many_digits (suc (suc zero)) n few big least most = grind (arith, nat_tests)
+many_digits (suc (suc (suc zero))) n few big least most = grind (arith, nat_tests)
 many_digits (suc (suc (suc (suc k)))) n few big least most = absurd (omega arith)
 
 pub length_sized : (n : ℕ) (size : List ℕ) → IsLength n size → length size ≡ length_size n
@@ -42,12 +41,10 @@ IsLength-unique n a b (long ds w four are first big value) (long es w' four' are
 
 -- ---- whole numbers
 many_bytes : (k n : ℕ) → k < 4 → 128 * 256 ^ k ≤ n → n < 128 * 256 ^ suc k → natural_size n ≡ 2 + k
-many_bytes zero n few least most = rw (le-ltb n (2 ^ 7) least, lt-ltb n (2 ^ 15) most) refl
-many_bytes (suc zero) n few least most = rw (le-ltb n (2 ^ 7) (omega arith), le-ltb n (2 ^ 15) least, lt-ltb n (2 ^ 23) most) refl
-many_bytes (suc (suc zero)) n few least most =
-    rw (le-ltb n (2 ^ 7) (omega arith), le-ltb n (2 ^ 15) (omega arith), le-ltb n (2 ^ 23) least, lt-ltb n (2 ^ 31) most) refl
-many_bytes (suc (suc (suc zero))) n few least most =
-    rw (le-ltb n (2 ^ 7) (omega arith), le-ltb n (2 ^ 15) (omega arith), le-ltb n (2 ^ 23) (omega arith), le-ltb n (2 ^ 31) least) refl
+many_bytes zero n few least most = grind (arith, nat_tests)
+many_bytes (suc zero) n few least most = grind (arith, nat_tests)
+many_bytes (suc (suc zero)) n few least most = grind (arith, nat_tests)
+many_bytes (suc (suc (suc zero))) n few least most = grind (arith, nat_tests)
 many_bytes (suc (suc (suc (suc k)))) n few least most = absurd (omega arith)
 
 -- a first byte below 128
@@ -58,7 +55,7 @@ number_under x xs lt are =
     omega (arith, first, number_below xs are)
 
 pub natural_sized : (n : ℕ) (content : List ℕ) → IsNatural n content → n < 2 ^ 39 → length content ≡ natural_size n
-natural_sized n content h lt = by content h.bytes h.shortest h.value (natural_few n content h lt).1
+natural_sized n content h lt = by content h.bytes h.shortest h.value (natural_few n content h lt)
   where
     by : (c : List ℕ) → AreBytes c → IsShortest c → number c ≡ n → length c ≤ 5 → length c ≡ natural_size n
     by [] are s e few = absurd s

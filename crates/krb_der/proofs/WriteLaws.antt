@@ -1,8 +1,9 @@
 -- What is written spells.
-use Rattle.std.proofs.Common.{◌≡◌, ℕ, List, Result, Ok, Err}
+use Rattle.std.proofs.Common.{◌≡◌, ℕ, ℤ, List, Result, Ok, Err, subst}
 use Rattle.std.specs.Prelude.{OnOk, OnErr}
 use Rattle.krb_der.specs.Kind.{Kind, ValueOf, tag_of}
 use Rattle.krb_der.specs.Content.{Written}
+use Rattle.krb_der.specs.Whole.{IsInteger}
 use Rattle.krb_der.specs.Spells.{IsElement, SpellsContent}
 use Rattle.krb_der.specs.Writing.{Writes, Appends, AppendsElement}
 use Rattle.krb_der.proofs.PartLaws.{with_content}
@@ -18,3 +19,9 @@ pub writes : {E : Type 0} (k : Kind) (v : ValueOf k) (P : List ℕ → Type 0) (
 writes k v P (Ok u) old new f ok kept =
     record { ok = appends-map (IsElement (tag_of k) P) (Writes k v) (element-map (tag_of k) P (SpellsContent Written k v) f) old new ok; kept = tt }
 writes k v P (Err e) old new f ok kept = record { ok = tt; kept = kept }
+
+-- a whole number, which the code has as another term
+pub writes_whole : {E : Type 0} {old new : List ℕ} {z w : ℤ} (k : Kind) (v : ValueOf k) (r : Result (Unit {0}) E) → ((c : List ℕ) → IsInteger z c → SpellsContent Written k v c) → w ≡ z
+    → OnOk r (Appends (IsElement (tag_of k) (IsInteger w)) old new) → OnErr r (new ≡ old) → AppendsElement k v r old new
+writes_whole {old = old} {new = new} {w = w} k v r spells same ok kept =
+    writes k v (IsInteger w) r old new (λ c h. spells c (subst (λ x. IsInteger x c) same h)) ok kept

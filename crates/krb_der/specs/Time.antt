@@ -1,37 +1,8 @@
 -- Times (RFC 4120, section 5.2.3): GeneralizedTime in UTC, without a fraction, on the calendar of
--- ISO 8601 with years from 0000 to 9999.
-use Rattle.std.specs.Prelude.{◌≡◌, ℕ, zero, suc, ◌+◌, ◌-◌, ◌*◌, ◌/◌, ◌%◌, ◌<◌, ◌≤◌, ℤ, pos, neg_ℤ, ◌+ℤ◌, ◌-ℤ◌, ◌*ℤ◌, ◌≤ℤ◌, Bool, not, ◌&&◌, ◌||◌, ◌==◌, if◌then◌else◌, List, [], ◌∷◌, ◌++◌}
-
--- every fourth year, but only every fourth of the centuries
-abbrev pub is_leap_year : ℕ → Bool
-is_leap_year y = (y % 4 == 0) && (not (y % 100 == 0) || (y % 400 == 0))
-
-abbrev pub days_in_year : ℕ → ℕ
-days_in_year y = if is_leap_year y then 366 else 365
-
--- thirty days have September, April, June and November
-abbrev pub days_in_month : ℕ → ℕ → ℕ
-days_in_month y m =
-    if m == 2 then (if is_leap_year y then 29 else 28)
-    else (if (m == 4) || (m == 6) || (m == 9) || (m == 11) then 30 else 31)
-
--- the days of all years before y, from the year 0 on
-unfoldable pub days_before_year : ℕ → ℕ
-days_before_year zero = 0
-days_before_year (suc y) = days_before_year y + days_in_year y
-
--- the days of all months of the year y up to m
-unfoldable pub days_of_months : ℕ → ℕ → ℕ
-days_of_months y zero = 0
-days_of_months y (suc m) = days_of_months y m + days_in_month y (suc m)
-
--- the days from 0000-01-01 to the date
-abbrev pub day_count : ℕ → ℕ → ℕ → ℕ
-day_count y m d = days_before_year y + (days_of_months y (m - 1) + (d - 1))
-
--- the day number of a date: that of 1970-01-01 is 0
-abbrev pub day_number : ℕ → ℕ → ℕ → ℤ
-day_number y m d = pos (day_count y m d) -ℤ pos (day_count 1970 1 1)
+-- ISO 8601 with years from 0000 to 9999. The calendar is jiff_core's, which counts the days of each
+-- year.
+use Rattle.std.specs.Prelude.{◌≡◌, ℕ, ◌+◌, ◌*◌, ◌/◌, ◌%◌, ◌<◌, ℤ, pos, neg_ℤ, ◌+ℤ◌, ◌*ℤ◌, ◌≤ℤ◌, List, [], ◌∷◌, ◌++◌}
+use Rattle.jiff_core.specs.Calendar.{IsCivilDate, days_from_civil}
 
 -- a second of the calendar
 pub record Civil : Type 0 where
@@ -42,19 +13,17 @@ pub record Civil : Type 0 where
   pub minute : ℕ
   pub second : ℕ
 
--- the calendar has it; there is no second 60
+-- the calendar has it, the year is at most 9999, and there is no second 60
 pub record IsCivil (t : Civil) : Type 0 where
-  pub year : t.year < 10_000
-  pub month : (1 ≤ t.month) × (t.month ≤ 12)
-  pub day : (1 ≤ t.day) × (t.day ≤ days_in_month t.year t.month)
+  pub date : IsCivilDate (pos t.year) t.month t.day
   pub hour : t.hour < 24
   pub minute : t.minute < 60
   pub second : t.second < 60
 
--- 86,400 for each day, and the time of day
+-- 86,400 for each day since 1970-01-01, and the time of day
 abbrev pub seconds_of : Civil → ℤ
 seconds_of t =
-    pos 86_400 *ℤ day_number t.year t.month t.day +ℤ pos (3_600 * t.hour + 60 * t.minute + t.second)
+    pos 86_400 *ℤ days_from_civil (pos t.year) t.month t.day +ℤ pos (3_600 * t.hour + 60 * t.minute + t.second)
 
 -- two decimal digits
 abbrev pub two : ℕ → List ℕ

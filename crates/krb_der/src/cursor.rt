@@ -1,7 +1,7 @@
 //! Reading elements from left to right.
 
 ghost use Rattle.std.specs.Prelude.{◌≡◌, ◌≤◌, ◌↔◌, [], length, true, IsTrue, IsOk, IfOk, IfErr};
-ghost use Rattle.krb_der.specs.Place.{begin_at, begins};
+ghost use Rattle.krb_der.specs.Place.{begin_at, begins, end_of};
 ghost use Rattle.krb_der.specs.Spells.{limit};
 ghost use Rattle.krb_der.specs.Reading.{Reads, Enters, MayEnter};
 ghost use Rattle.krb_der.specs.Computed.Gives.{Gives};
@@ -187,23 +187,26 @@ impl<'a> Cursor<'a> {
         Fault { kind, at: self.at }
     }
 
+    /// The fault of an element that begins here and doesn't end within the enclosing element.
+    fn cut_off(&self) -> Fault
+        ensures { result ≡ record { kind = FaultKind.Truncated; at = end_of self.now } }
+    {
+        Fault {
+            kind: FaultKind::Truncated,
+            at: self.at + self.rest.len(),
+        }
+    }
+
     /// The content of the element with this tag that begins here, and what comes after the element.
     #[tactic(auto, unfolding(crate::specs::Computed::Read::enter_at))]
     pub(crate) fn head(&self, tag: u8) -> Result<(Cursor<'a>, Cursor<'a>), Fault>
         ensures { result ≡ enter_at tag self.now }
     {
-        let end = self.at + self.rest.len();
         let Some((first, sized)) = self.rest.split_first() else {
-            return Err(Fault {
-                kind: FaultKind::Truncated,
-                at: end,
-            });
+            return Err(self.cut_off());
         };
         if *first != tag {
-            return Err(Fault {
-                kind: FaultKind::Tag,
-                at: self.at,
-            });
+            return Err(self.fault(FaultKind::Tag));
         }
         match length(sized) {
             Ok((len, rest)) => self.split(len, rest),
@@ -216,10 +219,7 @@ impl<'a> Cursor<'a> {
         ensures { result ≡ length_fault self.now kind }
     {
         match kind {
-            FaultKind::Truncated => Fault {
-                kind,
-                at: self.at + self.rest.len(),
-            },
+            FaultKind::Truncated => self.cut_off(),
             _ => Fault {
                 kind: FaultKind::Length,
                 at: self.at + 1,
@@ -234,10 +234,7 @@ impl<'a> Cursor<'a> {
         ensures { result ≡ split_at self.now len rest.now }
     {
         if rest.len() < len {
-            return Err(Fault {
-                kind: FaultKind::Truncated,
-                at: self.at + self.rest.len(),
-            });
+            return Err(self.cut_off());
         }
         let at = self.at + (self.rest.len() - rest.len());
         let (inside, after) = rest.split_at(len);

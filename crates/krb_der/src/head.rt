@@ -1,7 +1,7 @@
 //! Heads: a tag and the shortest length (X.690, sections 8.1.2, 8.1.3 and 10.1).
 
 ghost use Rattle.std.specs.Prelude.{◌≡◌, ◌≤◌, ◌<◌, ◌^◌, ◌∷◌, length, take};
-ghost use Rattle.krb_der.specs.Inner.HeadView.{IsHeadOf};
+ghost use Rattle.krb_der.specs.Inner.HeadView.{head_bytes};
 
 /// The first `len` of these bytes.
 #[derive(Clone, Copy)]
@@ -13,7 +13,7 @@ pub struct Head {
 
 /// Returns the head of an element with this tag and a content of `len` bytes.
 pub fn head_of(tag: u8, len: u32) -> Head
-    ensures is { IsHeadOf tag len (take result.len result.bytes) }
+    ensures is { take result.len result.bytes ≡ head_bytes tag len }
     ensures width { length (take result.len result.bytes) ≡ result.len }
 {
     let [a, b, c, d] = len.to_be_bytes();

@@ -106,14 +106,14 @@ pub fn element_refused()
 
 /// Reading fields, as `specs::Computed` has it, gives their values exactly if everything that is
 /// left spells them.
-#[tactic(auto, using(crate::proofs::Exact::fields_read_exactly))]
+#[tactic(auto, using(crate::proofs::Reading::fields_read_exactly))]
 pub fn fields_read()
     ensures { (fs : Fields) → are_clear fs ≡ true → (v : FieldsOf fs) (here : Place)
         → (fields_at fs here ≡ Ok v) ↔ SpellsFields Elementary fs v here.rest }
 {}
 
 /// Otherwise it gives a fault of what is left by the rules.
-#[tactic(auto, using(crate::proofs::Exact::fields_at_fault))]
+#[tactic(auto, using(crate::proofs::Reading::fields_at_fault))]
 pub fn fields_refused()
     ensures { (fs : Fields) (here : Place) (fault : Fault)
         → fields_at fs here ≡ Err fault → IsFaulty Elementary fs here fault }

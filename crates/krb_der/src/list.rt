@@ -60,7 +60,7 @@ impl<'a> Cursor<'a> {
         self.list_here::<T>()
     }
 
-    #[tactic(auto, using(crate::proofs::Listed::list_ok, crate::proofs::Listed::list_err, crate::proofs::ElementSteps::enter_at_read), unfolding(crate::specs::Computed::Read::element_at))]
+    #[tactic(auto, using(crate::proofs::Lists::list_ok, crate::proofs::Lists::list_err, crate::proofs::ElementSteps::enter_at_read), unfolding(crate::specs::Computed::Read::element_at))]
     fn list_here<T: Element<'a> + Drop>(&mut self) -> Result<Cursor<'a>, Fault>
         ensures inside { IfOk result (λ content. HasHead 0x30 self.old content self.new) }
         ensures listed { IfOk result (AreListed T.kind) }
@@ -74,7 +74,7 @@ impl<'a> Cursor<'a> {
 
     /// Reads the next element of a [`list`](Self::list) and moves past it; returns `None` at the
     /// end.
-    #[tactic(auto, using(crate::proofs::Listed::listed_end, crate::proofs::Listed::listed_next, crate::proofs::Listed::listed_some, crate::proofs::Reading::element_at_found))]
+    #[tactic(auto, using(crate::proofs::Lists::listed_end, crate::proofs::Lists::listed_next, crate::proofs::Lists::listed_some, crate::proofs::Reading::element_at_found))]
     pub fn next<T: Element<'a>>(&mut self) -> Option<T>
         requires { AreListed T.kind self.old }
         ensures end { IfNone result ((listed T.kind self.old ≡ []) × (self.new ≡ self.old)) }

@@ -5,7 +5,7 @@ ghost use Rattle.krb_der.specs.Content.{seq_number};
 ghost use Rattle.krb_der.specs.Whole.{number};
 ghost use Rattle.krb_der.specs.Computed.Read.{content_of};
 ghost use Rattle.krb_der.specs.Inner.Shortest.{shortest_of};
-ghost use Rattle.krb_der.specs.Computed.Whole.{is_redundant, is_negative, whole_of, flags_of, contents_of};
+ghost use Rattle.krb_der.specs.Computed.Whole.{is_redundant, is_negative, whole_of, flags_of};
 
 /// Whether the first nine bits are one value, or there are no bits: no whole number is spelled so.
 fn is_redundant(content: &[u8]) -> bool
@@ -40,33 +40,17 @@ pub fn number(bytes: &[u8]) -> u64
     number
 }
 
-/// How many contents of one to five bytes there are.
-#[tactic(auto, unfolding(crate::specs::Computed::Whole::contents_of))]
-fn contents(len: usize) -> Option<i64>
-    ensures { result ≡ contents_of len }
-{
-    match len {
-        1 => Some(0x100),
-        2 => Some(0x1_0000),
-        3 => Some(0x100_0000),
-        4 => Some(0x1_0000_0000),
-        5 => Some(0x100_0000_0000),
-        _ => None,
-    }
-}
-
 /// Returns the whole number that the content is, if it has its shortest form and at most five bytes.
-#[tactic(auto, unfolding(crate::specs::Computed::Whole::whole_of, crate::specs::Computed::Whole::contents_of))]
+#[tactic(auto, unfolding(crate::specs::Computed::Whole::whole_of))]
 pub fn whole(content: &[u8]) -> Option<i64>
     ensures { result ≡ whole_of content.now }
 {
-    if is_redundant(content) {
+    if content.len() > 5 || is_redundant(content) {
         return None;
     }
-    let all = contents(content.len())?;
     let number = number(content) as i64;
     Some(if is_negative(content) {
-        number - all
+        number - (1 << (8 * content.len()))
     } else {
         number
     })

@@ -108,8 +108,12 @@ impl Writer {
         ensures answer { result ≡ limited_of written self.old }
         ensures left { self.new ≡ settled result start self.old }
     {
-        let written = self.within(written);
-        self.settle(start, written)
+        let limited = match written {
+            Err(_) => Err(EncodeFault::OutOfMemory),
+            Ok(()) if self.bytes.len() > LIMIT => Err(EncodeFault::TooLong),
+            Ok(()) => Ok(()),
+        };
+        self.settle(start, limited)
     }
 
     /// Removes what was written from `start` on, if it was refused.
@@ -129,19 +133,6 @@ impl Writer {
                 Err(fault)
             }
         }
-    }
-
-    /// Whether what was written is within the limit of a message.
-    fn within(&self, written: Result<(), AllocError>) -> Result<(), EncodeFault>
-        ensures { result ≡ limited_of written self.now }
-    {
-        if written.is_err() {
-            return Err(EncodeFault::OutOfMemory);
-        }
-        if self.bytes.len() > LIMIT {
-            return Err(EncodeFault::TooLong);
-        }
-        Ok(())
     }
 
     /// Writes a whole number from -2,147,483,648 to 2,147,483,647.

@@ -1,7 +1,7 @@
 -- Whole numbers and flags, read.
 use Rattle.std.specs.Prelude.{ℕ, ◌+◌, ◌-◌, ◌^◌, ℤ, pos, negsuc, ◌-ℤ◌, Bool, true, false, ◌&&◌, ◌||◌, not, ◌==◌, nat_lt, nat_le, if◌then◌else◌, List, [], ◌∷◌, length, Option, Some, None}
 use Rattle.krb_der.specs.Whole.{number}
-use Rattle.krb_der.specs.Computed.Steps.{◌>>?◌, only_if}
+use Rattle.krb_der.specs.Computed.Steps.{only_if}
 
 abbrev pub are_bytes : List ℕ → Bool
 are_bytes [] = true
@@ -17,16 +17,11 @@ abbrev pub is_negative : List ℕ → Bool
 is_negative [] = false
 is_negative (a ∷ bytes) = nat_le 128 a
 
--- how many contents of one to five bytes there are
-unfoldable pub contents_of : ℕ → Option ℤ
-contents_of len = only_if (nat_le 1 len && nat_le len 5) (pos (256 ^ len))
-
 -- a whole number of at most five bytes in its shortest form
 unfoldable pub whole_of : List ℕ → Option ℤ
 whole_of content =
-    if is_redundant content || not (are_bytes content) then None
-    else (contents_of (length content) >>? λ all.
-    Some (if is_negative content then pos (number content) -ℤ all else pos (number content)))
+    if is_redundant content || not (are_bytes content) || nat_lt 5 (length content) then None
+    else Some (if is_negative content then pos (number content) -ℤ pos (256 ^ length content) else pos (number content))
 
 -- at least 0, and below the bound
 abbrev pub natural_below : ℕ → ℤ → Option ℕ

@@ -1,19 +1,22 @@
-use Rattle.std.proofs.Common.{◌≤ℤ◌, pos, neg_ℤ, arith}
+use Rattle.std.proofs.Common.{◌≡◌, ℕ, ◌/◌, ◌%◌, ℤ, pos, ◌+ℤ◌, sym, subst, ◌∙◌, arith}
 use Rattle.std.proofs.lemmas.Int.{ints}
-use Rattle.jiff_core.specs.Calendar.{days_from_civil}
-use Rattle.krb_der.proofs.Calendar.{year_from_zero, cast_year, civil_value}
+use Rattle.jiff_core.specs.Date.{epoch_day}
+use Rattle.jiff_core.specs.DateTime.{civil_seconds}
+use Rattle.jiff_core.specs.Time.{time_seconds}
+use Rattle.jiff_core.specs.declared.civil.datetime.DateTime.{DateTime}
+use Rattle.jiff_core.proofs.SignedLemmas.{signed_arith}
+use Rattle.krb_der.specs.Time.{IsSeconds}
+use Rattle.krb_der.proofs.Calendar.{year_of_seconds}
 use Rattle.krb_der.proofs.time.civil_at.Goals as goal
 
-pub overflow_cast-result : goal.overflow_cast-result
-overflow_cast-result c =
-    let date = c.from_days_since_min-date.result in
-    let late : neg_ℤ (pos 719_528) ≤ℤ days_from_civil date.year date.month date.day = omega (arith, ints, c.from_days_since_min-date.ensures) in
-    let from = year_from_zero date late in
-    cast_year date.year from date.year_in
+value_is : (t : DateTime) (n : ℕ) (s : ℤ) → pos n ≡ s +ℤ pos 377_705_116_800 → epoch_day t.date +ℤ pos 4_371_587 ≡ pos (n / 86_400) → time_seconds t.time ≡ n % 86_400 → civil_seconds t ≡ s
+unfolding civil_seconds
+value_is t n s from days clock = omega (arith, signed_arith)
 
 pub returns-clause-value : goal.returns-clause-value
 returns-clause-value c =
-    let date = c.from_days_since_min-date.result in
-    let late : neg_ℤ (pos 719_528) ≤ℤ days_from_civil date.year date.month date.day = omega (arith, ints, c.from_days_since_min-date.ensures) in
-    let from = year_from_zero date late in
-    civil_value date _ _ c.args.seconds (omega (arith, ints, from, date.year_in)) (omega (arith, ints, c.get.ensures.value, c.get.ensures.range)) c.from_days_since_min-date.ensures
+    value_is _ _ c.args.seconds (omega (arith, ints, c.get.ensures.value, c.get.ensures.range)) c.from_days_since_min.ensures c.from_second.ensures.seconds
+
+pub returns-clause-year : goal.returns-clause-year
+returns-clause-year c =
+    year_of_seconds _ (subst IsSeconds (c.get.ensures.value ∙ sym (returns-clause-value c)) c.get.ensures.range)

@@ -1,6 +1,6 @@
-use Rattle.std.proofs.Common.{◌≡◌, ◌-◌, length, take, drop, ap, subst, ◌∙◌, arith, length-append, length-drop}
-use Rattle.krb_der.specs.Inner.HeadView.{IsHeadOf, turned_at}
-use Rattle.krb_der.proofs.HeadLaws.{wraps-turned, written_back}
+use Rattle.std.proofs.Common.{◌≡◌, ◌-◌, length, take, drop, sym, ap, subst, ◌∙◌, arith, length-append, length-drop}
+use Rattle.krb_der.specs.Inner.HeadView.{IsHeadOf, head_bytes, turned_at}
+use Rattle.krb_der.proofs.HeadLaws.{head_is, wraps-turned, written_back}
 use Rattle.krb_der.proofs.writer.wrap_from.Goals as goal
 
 pub returns-clause-ok : goal.returns-clause-ok
@@ -13,6 +13,6 @@ returns-clause-ok c =
     let end : length c.deref_mut.result.now - c.head_of-head.result.len ≡ length old =
     omega (arith, ap length c.deref_mut.ensures.value, ap length mid, length-append old head, c.head_of-head.ensures.width) in
     wraps-turned c.args.tag c.args.start old head c.extend_from_slice.new.self.items _ c.requires.within
-    (subst (λ n. IsHeadOf c.args.tag n head) rest c.head_of-head.ensures.is) mid
+    (subst (IsHeadOf c.args.tag (length (drop c.args.start old))) (sym (c.head_of-head.ensures.is ∙ ap (head_bytes c.args.tag) rest)) (head_is c.args.tag (length (drop c.args.start old)) c.requires.fits)) mid
     (written_back c.turn.new.bytes c.extend_from_slice.new.self.items c.extend_from_slice.new.self.len same c.extend_from_slice.new.self.ok.0
     ∙ c.turn.ensures ∙ ap (λ e. turned_at c.args.start e c.deref_mut.result.now) end ∙ ap (turned_at c.args.start (length old)) c.deref_mut.ensures.value)

@@ -1,4 +1,4 @@
-use Rattle.krb_der.proofs.Exact.{reads-list}
+use Rattle.krb_der.proofs.Reading.{reads-list}
 use Rattle.krb_der.proofs.cursor.Cursor.check_each.Goals as goal
 
 pub returns-clause-checks : goal.returns-clause-checks

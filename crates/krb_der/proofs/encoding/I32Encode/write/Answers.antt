@@ -9,4 +9,4 @@ pub returns : goal.returns
 returns c =
     let same : to_z w32 (of_z w32 c.args.self.now) ≡ c.args.self.now = omega (arith, ints) in
     subst (λ z. EncodesValue (leaf int32) z c.limited.result c.args.out.now c.limited.new.self) same
-    (encodes_leaf (leaf int32) (to_z w32 (of_z w32 c.args.self.now)) c.int32-written.result c.limited.result c.len-start.result c.args.out.now c.int32-written.new.self c.limited.new.self c.len-start.ensures c.int32-written.ensures c.limited.ensures.answer c.limited.ensures.left)
+    (encodes_leaf (leaf int32) (to_z w32 (of_z w32 c.args.self.now)) c.len-start.ensures c.int32-written.ensures c.limited.ensures.answer c.limited.ensures.left)

@@ -3,4 +3,4 @@ use Rattle.krb_der.proofs.EncodeLaws.{encodes_leaf}
 use Rattle.krb_der.proofs.encoding.MicrosecondsEncode.write.Goals as goal
 
 pub returns : goal.returns
-returns c = encodes_leaf (leaf microseconds) c.args.self.now c.microseconds-written.result c.limited.result c.len-start.result c.args.out.now c.microseconds-written.new.self c.limited.new.self c.len-start.ensures c.microseconds-written.ensures c.limited.ensures.answer c.limited.ensures.left
+returns c = encodes_leaf (leaf microseconds) c.args.self.now c.len-start.ensures c.microseconds-written.ensures c.limited.ensures.answer c.limited.ensures.left

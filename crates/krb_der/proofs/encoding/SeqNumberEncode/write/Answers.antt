@@ -4,5 +4,4 @@ use Rattle.krb_der.proofs.encoding.SeqNumberEncode.write.Goals as goal
 
 pub returns : goal.returns
 returns c =
-    encodes_leaf (leaf seq_number) c.args.self.now.0 c.uint32-written.result c.limited.result c.len-start.result c.args.out.now c.uint32-written.new.self c.limited.new.self
-    c.len-start.ensures (record { ok = c.uint32-written.ensures.ok; kept = c.uint32-written.ensures.kept }) c.limited.ensures.answer c.limited.ensures.left
+    encodes_leaf (leaf seq_number) c.args.self.now.0 c.len-start.ensures (record { ok = c.uint32-written.ensures.ok; kept = c.uint32-written.ensures.kept }) c.limited.ensures.answer c.limited.ensures.left

@@ -3,4 +3,4 @@ use Rattle.krb_der.proofs.EncodeLaws.{encodes_leaf}
 use Rattle.krb_der.proofs.encoding.TextEncode.write.Goals as goal
 
 pub returns : goal.returns
-returns c = encodes_leaf (leaf string) c.args.self.now.0.now c.string-written.result c.limited.result c.len-start.result c.args.out.now c.string-written.new.self c.limited.new.self c.len-start.ensures c.string-written.ensures c.limited.ensures.answer c.limited.ensures.left
+returns c = encodes_leaf (leaf string) c.args.self.now.0.now c.len-start.ensures c.string-written.ensures c.limited.ensures.answer c.limited.ensures.left

@@ -3,4 +3,4 @@ use Rattle.krb_der.proofs.EncodeLaws.{encodes_leaf}
 use Rattle.krb_der.proofs.encoding.U32Encode.write.Goals as goal
 
 pub returns : goal.returns
-returns c = encodes_leaf (leaf uint32) c.args.self.now c.uint32-written.result c.limited.result c.len-start.result c.args.out.now c.uint32-written.new.self c.limited.new.self c.len-start.ensures c.uint32-written.ensures c.limited.ensures.answer c.limited.ensures.left
+returns c = encodes_leaf (leaf uint32) c.args.self.now c.len-start.ensures c.uint32-written.ensures c.limited.ensures.answer c.limited.ensures.left

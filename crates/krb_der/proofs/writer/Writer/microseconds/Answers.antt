@@ -1,12 +1,9 @@
-use Rattle.std.proofs.Common.{◌≡◌, pos, subst, arith, w64, to_z, of_z}
+use Rattle.std.proofs.Common.{pos, arith}
 use Rattle.std.proofs.lemmas.Int.{ints}
 use Rattle.krb_der.specs.Kind.{leaf, microseconds}
-use Rattle.krb_der.specs.Whole.{IsInteger}
-use Rattle.krb_der.proofs.WriteLaws.{writes}
+use Rattle.krb_der.proofs.WriteLaws.{writes_whole}
 use Rattle.krb_der.proofs.writer.Writer.microseconds.Goals as goal
 
 pub returns : goal.returns
 returns c =
-    let same : to_z w64 (of_z w64 c.from.result) ≡ pos c.args.value = omega (arith, ints, c.from.ensures, c.get.ensures.value) in
-    writes (leaf microseconds) c.args.value (IsInteger (to_z w64 (of_z w64 c.from.result))) c.whole.result c.args.self.now c.whole.new.self
-    (λ content h. (omega (arith, c.get.ensures.value, c.get.ensures.range), subst (λ z. IsInteger z content) same h)) c.whole.ensures.ok c.whole.ensures.kept
+    writes_whole {z = pos c.args.value} (leaf microseconds) c.args.value c.whole.result (λ content h. (omega (arith, c.get.ensures.value, c.get.ensures.range), h)) (omega (arith, ints, c.from.ensures, c.get.ensures.value)) c.whole.ensures.ok c.whole.ensures.kept
