@@ -23,8 +23,6 @@ pub struct TypedRef<'a> {
     pub bytes: &'a [u8],
 }
 
-pub(crate) type TypedRow<'a> = (Field<0xa0, i32>, (Field<0xa1, Octets<'a>>, ()));
-
 impl<'a> Element<'a> for TypedRef<'a> {
     ghost kind = { typed (leaf octets) };
 
@@ -33,14 +31,13 @@ impl<'a> Element<'a> for TypedRef<'a> {
     ghost clear = { refl };
 
     fn read(cursor: &mut Cursor<'a>) -> Result<TypedRef<'a>, Fault> {
-        let row: Result<TypedRow<'a>, Fault> = cursor.sequence();
-        match row {
-            Ok((kind, (bytes, ()))) => Ok(TypedRef {
-                kind: kind.0,
-                bytes: bytes.0.0,
-            }),
-            Err(fault) => Err(fault),
-        }
+        let row = cursor.sequence()?;
+        let (Field::<0xa0, i32>(kind), row) = row;
+        let (Field::<0xa1, Octets>(bytes), ()) = row;
+        Ok(TypedRef {
+            kind,
+            bytes: bytes.0,
+        })
     }
 }
 
@@ -88,10 +85,8 @@ impl Encode for Typed {
     ghost view = { owned_typed_of };
 
     fn write(&self, out: &mut Writer) -> Result<(), EncodeFault> {
-        let row: (Field<0xa0, &i32>, (Field<0xa1, Octets>, ())) = (
-            Field(&self.kind),
-            (Field(Octets(self.bytes.as_slice())), ()),
-        );
+        let rest = (Field::<0xa1, _>(Octets(self.bytes.as_slice())), ());
+        let row = (Field::<0xa0, _>(&self.kind), rest);
         write_sequence(&row, out)
     }
 }
