@@ -23,7 +23,7 @@ CRATE = ROOT / "crates/krb_msg"
 RATTLE = pathlib.Path(shutil.which("rt") or "/opt/rattle/bin/rt").resolve().parent / "rattle"
 
 MADE = "Made from messages.toml by packaging/messages.py. Don't edit this file."
-# The checker finds by itself that a row of so many fields is read right.
+# The checker finds by itself that a row of so many fields is read and written right.
 LONGEST_FOUND = 5
 # The calls by which fields are written, or taken from what was read. `Vec::as_slice` has two clauses.
 CALLS = re.compile(r"(Octets\([\w.]+)?\b(as_slice|[a-z_]+_(?:in|of|bytes))\(")
@@ -470,19 +470,18 @@ class Message:
         return "\n".join(f"let {name} = ({it}, {'rest' if place else '()'});" for place, (name, it) in enumerate(zip(names, values)))
 
     def answers(self):
-        """The answer files of the calls that read and write it, by their paths, if the checker needs them."""
+        """The answer files of the calls that read and write it, by their paths, if it has many fields."""
+        if len(self.rows) <= LONGEST_FOUND:
+            return
         how = "application" if self.application else "sequence"
         numbers = ["option_map_id"] if any(it.is_plain for it in self.rows) else []
-        if len(self.rows) > LONGEST_FOUND:
-            found = f"search ({', '.join(['rules', *numbers, 'read'])})"
-            known = ", ".join(calls((it.taken for it in self.fields), "-in-Ok"))
-            found = f"rw ({known}) ({found})" if known else found
-            yield answer_file(f"{self.view_file}/{self.view}Element/read", {
-                "returns-in-Ok": f"let read = simp (c.in-Ok.is) at c.{how}.ensures.computed in {found}",
-            })
-        known = [*calls(self.written(it) for it in reversed(self.rows)), *numbers]
-        if known:
-            yield answer_file(f"{self.owned_file}/{self.owned}Encode/write", {"returns": rewritten(known, f"write_{how}.ensures")})
+        found = f"search ({', '.join(['rules', *numbers, 'read'])})"
+        known = ", ".join(calls((it.taken for it in self.fields), "-in-Ok"))
+        found = f"rw ({known}) ({found})" if known else found
+        term = f"let read = simp (c.in-Ok.is) at c.{how}.ensures.computed in {found}"
+        yield answer_file(f"{self.view_file}/{self.view}Element/read", "returns-in-Ok", term)
+        known = ", ".join([*calls(self.written(it) for it in reversed(self.rows)), *numbers])
+        yield answer_file(f"{self.owned_file}/{self.owned}Encode/write", "returns", f"simp ({known}) at c.write_{how}.ensures")
 
     def writer(self):
         lines = self.written_rows()
@@ -642,18 +641,12 @@ def calls(terms, arm=""):
         yield f"c.{name}{place}.ensures{'.value' if of_vec else ''}"
 
 
-def rewritten(known, by):
-    """What a call ensures, rewritten by what is known."""
-    return f"simp ({', '.join(known)}) at c.{by}"
-
-
-def answer_file(place, terms):
-    """The path of an answer file, and its text: a term for each goal."""
-    uses = {"Rattle.std.proofs.Common": ["rules", "sym"], "Rattle.std.proofs.lemmas.Iterator.Adapters": ["option_map_id"]}
-    lines = [f"use {module}.{{{', '.join(names)}}}" for module, names in used(uses, " ".join(terms.values())).items()]
-    lines += [f"use Rattle.krb_msg.proofs.{place.replace('/', '.')}.Goals as goal"]
-    lines += [f"\npub {goal} : goal.{goal}\n{goal} c = {term}" for goal, term in terms.items()]
-    return f"proofs/{place}/Answers.antt", "\n".join([f"-- {MADE}", *lines, ""])
+def answer_file(place, goal, term):
+    """The path of an answer file, and its text."""
+    uses = {"Rattle.std.proofs.Common": ["rules"], "Rattle.std.proofs.lemmas.Iterator.Adapters": ["option_map_id"]}
+    lines = [f"use {module}.{{{', '.join(names)}}}" for module, names in used(uses, term).items()]
+    lines += [f"use Rattle.krb_msg.proofs.{place.replace('/', '.')}.Goals as goal", ""]
+    return f"proofs/{place}/Answers.antt", "\n".join([f"-- {MADE}", *lines, f"pub {goal} : goal.{goal}\n{goal} c = {term}\n"])
 
 
 def structs(places):

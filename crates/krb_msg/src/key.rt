@@ -52,10 +52,7 @@ impl<'a> KeyRef<'a> {
 pub(crate) fn owned_key(alloc: Global, key: &Option<KeyRef>) -> Result<Option<RawKey>, AllocError>
     ensures { IfOk result (λ made. option_map owned_key_of made ≡ option_map key_of key.now) }
 {
-    match key {
-        Some(key) => Ok(Some(key.to_owned(alloc)?)),
-        None => Ok(None),
-    }
+    key.as_ref().map(|key| key.to_owned(alloc)).transpose()
 }
 
 /// A key of any type (`EncryptionKey`, RFC 4120, section 5.2.9). There is no `Debug`, so no log

@@ -80,10 +80,7 @@ impl<'a> NameRef<'a> {
 pub(crate) fn owned_name(alloc: Global, name: &Option<NameRef>) -> Result<Option<Name>, AllocError>
     ensures { IfOk result (λ made. option_map owned_name_of made ≡ option_map name_of name.now) }
 {
-    match name {
-        Some(name) => Ok(Some(name.to_owned(alloc)?)),
-        None => Ok(None),
-    }
+    name.as_ref().map(|name| name.to_owned(alloc)).transpose()
 }
 
 /// A `PrincipalName` (RFC 4120, section 5.2.2): a name without a realm.

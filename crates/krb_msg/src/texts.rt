@@ -81,10 +81,7 @@ impl<'a> Iterator for TextsIter<'a> {
     ghost remaining = { item_count (λ t. t) };
 
     fn next(&mut self) -> Option<&'a [u8]> {
-        match self.left.next::<Text>() {
-            Some(text) => Some(text.0),
-            None => None,
-        }
+        self.left.next::<Text>().map(|text| text.0)
     }
 }
 

@@ -63,10 +63,10 @@ pub(crate) fn owned_typed(
 ) -> Result<Option<Typed>, AllocError>
     ensures { IfOk result (λ made. option_map owned_typed_of made ≡ option_map typed_of typed.now) }
 {
-    match typed {
-        Some(typed) => Ok(Some(typed.to_owned(alloc)?)),
-        None => Ok(None),
-    }
+    typed
+        .as_ref()
+        .map(|typed| typed.to_owned(alloc))
+        .transpose()
 }
 
 /// Bytes, and the number of their type: a checksum, an address, an element of authorization data,
@@ -175,10 +175,7 @@ pub(crate) fn owned_list(
 ) -> Result<Option<Vec<Typed>>, AllocError>
     ensures { IfOk result (λ made. option_map (λ l. owned_list_of l.items) made ≡ list.now) }
 {
-    match list {
-        Some(list) => Ok(Some(list.to_owned(alloc)?)),
-        None => Ok(None),
-    }
+    list.as_ref().map(|list| list.to_owned(alloc)).transpose()
 }
 
 impl<'a> Element<'a> for TypedListRef<'a> {
