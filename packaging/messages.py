@@ -23,9 +23,8 @@ CRATE = ROOT / "crates/krb_msg"
 RATTLE = pathlib.Path(shutil.which("rt") or "/opt/rattle/bin/rt").resolve().parent / "rattle"
 
 MADE = "Made from messages.toml by packaging/messages.py. Don't edit this file."
-# Rows of more fields are read, and written, with a tail that has a type of its own: else a proof takes too many steps.
-LONGEST_READ, LONGEST_WRITTEN = 8, 11
-LONGEST_TAIL, SHORTEST_HEAD = 7, 3
+# The checker finds by itself that a row of so many fields is read and written right.
+LONGEST_FOUND = 5
 # The calls by which fields are written, or taken from what was read. `Vec::as_slice` has two clauses.
 CALLS = re.compile(r"(Octets\([\w.]+)?\b(as_slice|[a-z_]+_(?:in|of|bytes))\(")
 
@@ -46,8 +45,8 @@ class Kind:
     owned_value: str = "{}"
     # What a row is read as, and how the view gets its field from that.
     read: str = ""
-    taken: str = "{}.0"
-    taken_optional: str = "{}.0"
+    taken: str = "{}"
+    taken_optional: str = "{}"
     copied: str = "{}"
     copied_optional: str = "{}"
     # How it is written: `Maybe` and `MaybeRef` are for optional fields.
@@ -92,9 +91,9 @@ def string(definition, owned, owned_value, element, word, copied, **more):
         owned,
         "{}.now",
         owned_value,
-        f"{element}<'a>",
-        "{}.0.0",
-        f"{word}_bytes({{}}.0)",
+        element,
+        "{}.0",
+        f"{word}_bytes({{}})",
         copied,
         f"owned_{word}(alloc, &{{}})?",
         f"{element}({{}}.as_slice())",
@@ -123,8 +122,8 @@ SEQ_NUMBER = Kind(
     "u32",
     "u32",
     read="SeqNumber",
-    taken="{}.0.0",
-    taken_optional="seq_number_of({}.0)",
+    taken="{}.0",
+    taken_optional="seq_number_of({})",
     written="SeqNumber({})",
     written_optional=("Maybe", "seq_number_in({})"),
 )
@@ -147,6 +146,7 @@ KINDS = {
     "HostAddresses": typed_list("sequence_of host_address"),
     "AuthorizationData": typed_list("authorization_data"),
 }
+LIFETIME = "<'a>"
 # The realm of a principal, and its name, as they are written.
 REALM, NAME = "Text({}.realm.as_slice())", "NameIn(&{})"
 
@@ -191,6 +191,11 @@ class Field:
         return self.rust or self.name.replace("-", "_")
 
     @property
+    def constant_name(self):
+        """Its constant, in sources."""
+        return f"{{ {self.named} }}" if self.named else str(self.constant)
+
+    @property
     def tag(self):
         return f"{0xA0 + self.number:#x}"
 
@@ -222,10 +227,10 @@ class Field:
 
     @property
     def read(self):
+        """The pattern of what is read."""
         if self.constant is not None:
-            constant = f"{{ {self.named} }}" if self.named else self.constant
-            return f"Field<{self.tag}, Constant<{constant}>>"
-        return f"{'Maybe' if self.optional else 'Field'}<{self.tag}, {self.of.read or self.of.view}>"
+            return f"Field::<{self.tag}, Constant<{self.constant_name}>>(_)"
+        return f"{'Maybe' if self.optional else 'Field'}::<{self.tag}, {self.of.read or self.of.view.removesuffix(LIFETIME)}>({self.key})"
 
     @property
     def taken(self):
@@ -234,22 +239,6 @@ class Field:
     @property
     def copied(self):
         return (self.of.copied_optional if self.optional else self.of.copied).format(f"self.{self.key}")
-
-
-def nested(items, end):
-    """A row of nested pairs."""
-    return "".join(f"({it}, " for it in items) + end + ")" * len(items)
-
-
-def fields_item(rows):
-    """The same fields in definitions, as an item of an impl."""
-    terms = [unbroken(it.definition) for it in rows]
-    return filled(f"ghost fields = {{ {' ('.join(terms)} ends{')' * (len(rows) - 1)} }};", 100)
-
-
-def view_item(argument, values):
-    """A row of values, as an item of an impl."""
-    return filled(f"ghost view = {{ λ {argument}. {row_of(values)} }};", 100)
 
 
 def row_of(values):
@@ -265,13 +254,6 @@ def unbroken(term):
 def filled(text, width):
     """A text on lines that aren't too long."""
     return textwrap.fill(text, width, subsequent_indent="    ", break_long_words=False, break_on_hyphens=False).replace("\xa0", " ")
-
-
-def arm(pattern, struct, fields):
-    """The arm of a match for what was read. It is a block if the struct's name finds no room behind the pattern."""
-    is_block = len(pattern) <= 80 < len(f"{pattern} => Ok({struct} {{") - 4
-    made = f"Ok({struct} {{ {fields} }})"
-    return f"Ok({pattern}) => {{ {made} }}" if is_block else f"Ok({pattern}) => {made},"
 
 
 class Message:
@@ -308,15 +290,6 @@ class Message:
     @property
     def always_borrows(self):
         return any(it.of.borrows and not it.optional for it in self.fields)
-
-    def head_and_tail(self, longest):
-        """The rows of fields, and those of the tail that a row of more than so many has."""
-        size = min(LONGEST_TAIL, len(self.rows) - SHORTEST_HEAD)
-        if len(self.rows) <= longest:
-            return self.rows, []
-        if len(self.rows) > LONGEST_TAIL + longest:
-            raise ValueError(f"{self.name} has too many fields for one tail")
-        return self.rows[:-size], self.rows[-size:]
 
     def joined(self, field):
         """The principal that a field is a part of, if it is one."""
@@ -388,7 +361,7 @@ class Message:
 
     def view_text(self):
         """The view, how it is read, parsed and copied."""
-        return self.view_struct() + self.reader() + self.tail_reader() + self.view_calls() + "\n"
+        return self.view_struct() + self.reader() + self.view_calls() + "\n"
 
     def view_struct(self):
         fields = "".join(f"/// {it.doc}\npub {it.key}: {it.in_struct(it.of.view)},\n" for it in self.fields)
@@ -397,17 +370,20 @@ class Message:
         return f"{comment('/// ', self.view_doc)}\n#[derive({self.view_derive})]\npub struct {self.view}<'a> {{\n{fields}}}\n"
 
     def reader(self):
-        head, tail = self.head_and_tail(LONGEST_READ)
-        row = nested([it.read for it in head], f"{self.base}Tail<'a>" if tail else "()")
-        pattern = nested(["_" if it.constant is not None else it.key for it in head], "tail" if tail else "()")
-        taken = [f"{it.key}: {it.taken},\n" for it in head if it.constant is None]
-        taken += [f"{it.key}: tail.{it.key},\n" for it in tail]
-        taken += [] if self.always_borrows else ["input: PhantomData,\n"]
-        reads = f"application({self.tag})" if self.application else "sequence()"
-        taken = "".join(taken)
+        """How it is read: a row, of which each line takes one field."""
+        reads = f"cursor.application({self.tag})" if self.application else "cursor.sequence()"
+        named = [it for it in self.rows if it.named]
+        rows = self.rows[2:] if named else self.rows
+        taken = "".join(f"let Header::<{it.constant_name}, _>(row) = row;\n" for it in named)
+        taken += "".join(f"let ({it.read}, {'()' if it is rows[-1] else 'row'}) = row;\n" for it in rows)
+        made = "".join(f"{it.key}: {it.taken},\n" if it.taken != it.key else f"{it.key},\n" for it in self.fields)
+        if self.always_borrows and len(self.rows) <= LONGEST_FOUND:
+            body = f"let row = {reads}?;\n{taken}Ok({self.view} {{ {made} }})"
+        else:
+            # The borrow checker refuses `?` if the view may hold no reference, and it takes too long for a long row.
+            made += "" if self.always_borrows else "input: PhantomData,\n"
+            body = f"match {reads} {{ Ok(row) => {{ {taken} Ok({self.view} {{ {made} }}) }} Err(fault) => Err(fault), }}"
         return f"""
-            type {self.base}Row<'a> = {row};
-
             impl<'a> Element<'a> for {self.view}<'a> {{
                 ghost kind = {{ {self.kind} }};
 
@@ -416,42 +392,7 @@ class Message:
                 ghost clear = {{ refl }};
 
                 fn read(cursor: &mut Cursor<'a>) -> Result<{self.view}<'a>, Fault> {{
-                    let row: Result<{self.base}Row<'a>, Fault> = cursor.{reads};
-                    match row {{
-                        {arm(pattern, self.view, taken)}
-                        Err(fault) => Err(fault),
-                    }}
-                }}
-            }}
-        """
-
-    def tail_reader(self):
-        _, tail = self.head_and_tail(LONGEST_READ)
-        if not tail:
-            return ""
-        name = f"{self.base}Tail"
-        view = [it.value(it.of.view_value, "t") for it in tail]
-        fields = "".join(f"{it.key}: {it.in_struct(it.of.view)}, " for it in tail)
-        taken = "".join(f"{it.key}: {it.taken}, " for it in tail)
-        row, pattern = nested([it.read for it in tail], "()"), nested([it.key for it in tail], "()")
-        return f"""
-            // The fields from {tail[0].name} on.
-            #[derive(Drop)]
-            struct {name}<'a> {{ {fields} }}
-
-            type {name}Row<'a> = {row};
-
-            impl<'a> Row<'a> for {name}<'a> {{
-                {fields_item(tail)}
-
-                {view_item("t", view)}
-
-                fn read_row(content: Cursor<'a>) -> Result<{name}<'a>, Fault> {{
-                    let row: Result<{name}Row<'a>, Fault> = Row::read_row(content);
-                    match row {{
-                        {arm(pattern, name, taken)}
-                        Err(fault) => Err(fault),
-                    }}
+                    {body}
                 }}
             }}
         """
@@ -503,7 +444,7 @@ class Message:
 
     def owned_source(self):
         """The owned struct, and how it is written."""
-        return self.owned_struct() + self.tail_writer() + self.writer() + self.encode_call() + "\n"
+        return self.owned_struct() + self.writer() + self.encode_call() + "\n"
 
     def owned_struct(self):
         fields = self.owned_fields(
@@ -511,62 +452,39 @@ class Message:
         )
         return f"\n{comment('/// ', self.doc)}\n#[derive({self.derive})]\npub struct {self.owned} {{\n{''.join(fields)}}}\n"
 
-    def written(self, field, at):
+    def written(self, field):
         """A field as it is written."""
         principal = self.joined(field)
         if field.constant is not None:
-            return f"{field.read.replace('Field<', 'Field::<', 1)}(Constant)"
+            return f"Field::<{field.tag}, Constant<{field.constant_name}>>(Constant)"
         if principal is not None:
-            value = (REALM if field.key == principal.realm else NAME).format(f"{at}.{principal.field}")
+            value = (REALM if field.key == principal.realm else NAME).format(f"self.{principal.field}")
             return f"Field::<{field.tag}, _>({value})"
         word, value = field.of.written_optional if field.optional else ("Field", field.of.written)
-        return f"{word}::<{field.tag}, _>({value.format(f'{at}.{field.key}')})"
+        return f"{word}::<{field.tag}, _>({value.format(f'self.{field.key}')})"
 
-    def written_rows(self, rows, at, end="()"):
+    def written_rows(self):
         """The lines that make the row which is written."""
-        values = [self.written(it, at) for it in reversed(rows)]
+        values = [self.written(it) for it in reversed(self.rows)]
         names = ["rest"] * (len(values) - 1) + ["row"]
-        return "\n".join(f"let {name} = ({it}, {end if place == 0 else 'rest'});" for place, (name, it) in enumerate(zip(names, values)))
+        return "\n".join(f"let {name} = ({it}, {'rest' if place else '()'});" for place, (name, it) in enumerate(zip(names, values)))
 
     def answers(self):
-        """The answer files of the calls that read and write it, by their paths."""
+        """The answer files of the calls that read and write it, by their paths, if it has many fields."""
+        if len(self.rows) <= LONGEST_FOUND:
+            return
         how = "application" if self.application else "sequence"
-        head, tail = self.head_and_tail(LONGEST_READ)
-        yield read_answer(f"{self.view_file}/{self.view}Element/read", head, f"{how}-row.ensures.computed")
-        if tail:
-            yield read_answer(f"{self.view_file}/{self.base}TailRowImpl/read_row", tail, "read_row-row.ensures")
-        head, tail = self.head_and_tail(LONGEST_WRITTEN)
-        for call, rows, by in [("Encode/write", head, f"write_{how}.ensures"), ("TailEncodeRow/write_row", tail, "write_row.ensures")]:
-            known = list(calls(self.written(it, "self") for it in reversed(rows)))
-            known += ["option_map_id"] if any(it.is_plain for it in rows) else []
-            if known:
-                yield answer_file(f"{self.owned_file}/{self.owned}{call}", "returns", rewritten(known, by))
-
-    def tail_writer(self):
-        _, tail = self.head_and_tail(LONGEST_WRITTEN)
-        if not tail:
-            return ""
-        view = [self.owned_field(it, "t.0.now") for it in tail]
-        return f"""
-            // The fields from {tail[0].name} on.
-            #[derive(Clone, Copy)]
-            struct {self.owned}Tail<'a>(&'a {self.owned});
-
-            impl EncodeRow for {self.owned}Tail<'_> {{
-                {fields_item(tail)}
-
-                {view_item("t", view)}
-
-                fn write_row(&self, out: &mut Writer) -> Result<(), EncodeFault> {{
-                    {self.written_rows(tail, "self.0")}
-                    row.write_row(out)
-                }}
-            }}
-        """
+        numbers = ["option_map_id"] if any(it.is_plain for it in self.rows) else []
+        found = f"search ({', '.join(['rules', *numbers, 'read'])})"
+        known = ", ".join(calls((it.taken for it in self.fields), "-in-Ok"))
+        found = f"rw ({known}) ({found})" if known else found
+        term = f"let read = simp (c.in-Ok.is) at c.{how}.ensures.computed in {found}"
+        yield answer_file(f"{self.view_file}/{self.view}Element/read", "returns-in-Ok", term)
+        known = ", ".join([*calls(self.written(it) for it in reversed(self.rows)), *numbers])
+        yield answer_file(f"{self.owned_file}/{self.owned}Encode/write", "returns", f"simp ({known}) at c.write_{how}.ensures")
 
     def writer(self):
-        head, tail = self.head_and_tail(LONGEST_WRITTEN)
-        lines = self.written_rows(head, "self", f"{self.owned}Tail(self)" if tail else "()")
+        lines = self.written_rows()
         writes = f"write_application(&row, {self.tag}, out)" if self.application else "write_sequence(&row, out)"
         return f"""
             impl Encode for {self.owned} {{
@@ -640,11 +558,10 @@ SAID = {
     "Owned": ["-- The values of owned messages: their fields in that order, too."],
 }
 RUST = {
+    "crate::header": ["Header"],
     "crate::key": ["KeyRef", "RawKey", "owned_key"],
     "crate::name": ["Name", "NameIn", "NameRef", "owned_name"],
-    "crate::octets": ["octets_bytes", "octets_in", "owned_octets"],
-    "crate::seq_number": ["seq_number_in", "seq_number_of"],
-    "crate::texts": ["owned_text", "text_bytes", "text_in"],
+    "crate::optional": "octets_bytes octets_in owned_octets owned_text seq_number_in seq_number_of text_bytes text_in".split(),
     "crate::typed": ["Typed", "TypedListRef", "TypedRef", "owned_list", "owned_typed"],
     "crate": ["message_type", "tag"],
     "krb_der": """Constant Cursor Element Encode EncodeFault EncodeRow Fault Field Flags Maybe MaybeRef Message Microseconds Octets Row Seconds
@@ -724,21 +641,9 @@ def calls(terms, arm=""):
         yield f"c.{name}{place}.ensures{'.value' if of_vec else ''}"
 
 
-def rewritten(known, by):
-    """What a call ensures, rewritten by what is known."""
-    return f"simp ({', '.join(known)}) at c.{by}"
-
-
-def read_answer(place, rows, by):
-    """The answer file of a call that reads: its fields are those of the row, and an optional number is that number."""
-    known = ["c.in-Ok.is", *(f"sym {it}" for it in calls((it.taken for it in rows if it.constant is None), "-in-Ok"))]
-    numbers = "option_map_id, " if any(it.is_plain for it in rows) else ""
-    return answer_file(place, "returns-in-Ok", f"let read = {rewritten(known, by)} in search (rules, {numbers}read)")
-
-
 def answer_file(place, goal, term):
     """The path of an answer file, and its text."""
-    uses = {"Rattle.std.proofs.Common": ["rules", "sym"], "Rattle.std.proofs.lemmas.Iterator.Adapters": ["option_map_id"]}
+    uses = {"Rattle.std.proofs.Common": ["rules"], "Rattle.std.proofs.lemmas.Iterator.Adapters": ["option_map_id"]}
     lines = [f"use {module}.{{{', '.join(names)}}}" for module, names in used(uses, term).items()]
     lines += [f"use Rattle.krb_msg.proofs.{place.replace('/', '.')}.Goals as goal", ""]
     return f"proofs/{place}/Answers.antt", "\n".join([f"-- {MADE}", *lines, f"pub {goal} : goal.{goal}\n{goal} c = {term}\n"])

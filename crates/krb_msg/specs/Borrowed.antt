@@ -8,11 +8,11 @@ use Rattle.krb_msg.specs.Module.{encrypted_data, ticket, authenticator, enc_tick
 use Rattle.krb_msg.specs.declared.ticket.EncryptedRef.{EncryptedRef}
 use Rattle.krb_msg.specs.declared.ticket.TicketRef.{TicketRef}
 use Rattle.krb_msg.specs.declared.authenticator.AuthenticatorRef.{AuthenticatorRef}
-use Rattle.krb_msg.specs.declared.enc_ticket_ref.EncTicketRef.{EncTicketRef}
+use Rattle.krb_msg.specs.declared.enc_ticket_part.EncTicketRef.{EncTicketRef}
 use Rattle.krb_msg.specs.declared.ap_req.ApReqRef.{ApReqRef}
 use Rattle.krb_msg.specs.declared.ap_rep.ApRepRef.{ApRepRef}
 use Rattle.krb_msg.specs.declared.enc_ap_rep_part.EncApRepRef.{EncApRepRef}
-use Rattle.krb_msg.specs.declared.krb_error_ref.KrbErrorRef.{KrbErrorRef}
+use Rattle.krb_msg.specs.declared.krb_error.KrbErrorRef.{KrbErrorRef}
 use Rattle.krb_msg.specs.PartsBorrowed.{name_of, typed_of, key_of}
 pub use Rattle.krb_msg.specs.PartsBorrowed.{name_of, typed_of, key_of}
 

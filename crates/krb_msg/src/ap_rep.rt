@@ -8,6 +8,7 @@ ghost use Rattle.krb_msg.specs.Borrowed.{ap_rep_of};
 ghost use Rattle.krb_msg.specs.Module.{ap_rep};
 ghost use Rattle.krb_msg.specs.Owned.{owned_ap_rep_of};
 
+use crate::header::Header;
 use crate::ticket::{Encrypted, EncryptedRef};
 use crate::{message_type, tag};
 use krb_der::{
@@ -23,14 +24,6 @@ pub struct ApRepRef<'a> {
     pub enc_part: EncryptedRef<'a>,
 }
 
-type ApRepRow<'a> = (
-    Field<0xa0, Constant<5>>,
-    (
-        Field<0xa1, Constant<{ message_type::AP_REP }>>,
-        (Field<0xa2, EncryptedRef<'a>>, ()),
-    ),
-);
-
 impl<'a> Element<'a> for ApRepRef<'a> {
     ghost kind = { ap_rep };
 
@@ -39,13 +32,10 @@ impl<'a> Element<'a> for ApRepRef<'a> {
     ghost clear = { refl };
 
     fn read(cursor: &mut Cursor<'a>) -> Result<ApRepRef<'a>, Fault> {
-        let row: Result<ApRepRow<'a>, Fault> = cursor.application(tag::AP_REP);
-        match row {
-            Ok((_, (_, (enc_part, ())))) => Ok(ApRepRef {
-                enc_part: enc_part.0,
-            }),
-            Err(fault) => Err(fault),
-        }
+        let row = cursor.application(tag::AP_REP)?;
+        let Header::<{ message_type::AP_REP }, _>(row) = row;
+        let (Field::<0xa2, EncryptedRef>(enc_part), ()) = row;
+        Ok(ApRepRef { enc_part })
     }
 }
 

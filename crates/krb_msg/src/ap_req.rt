@@ -8,6 +8,7 @@ ghost use Rattle.krb_msg.specs.Borrowed.{ap_req_of};
 ghost use Rattle.krb_msg.specs.Module.{ap_req};
 ghost use Rattle.krb_msg.specs.Owned.{owned_ap_req_of};
 
+use crate::header::Header;
 use crate::ticket::{Encrypted, EncryptedRef, Ticket, TicketRef};
 use crate::{message_type, tag};
 use krb_der::{
@@ -27,20 +28,6 @@ pub struct ApReqRef<'a> {
     pub authenticator: EncryptedRef<'a>,
 }
 
-type ApReqRow<'a> = (
-    Field<0xa0, Constant<5>>,
-    (
-        Field<0xa1, Constant<{ message_type::AP_REQ }>>,
-        (
-            Field<0xa2, Flags>,
-            (
-                Field<0xa3, TicketRef<'a>>,
-                (Field<0xa4, EncryptedRef<'a>>, ()),
-            ),
-        ),
-    ),
-);
-
 impl<'a> Element<'a> for ApReqRef<'a> {
     ghost kind = { ap_req };
 
@@ -49,15 +36,16 @@ impl<'a> Element<'a> for ApReqRef<'a> {
     ghost clear = { refl };
 
     fn read(cursor: &mut Cursor<'a>) -> Result<ApReqRef<'a>, Fault> {
-        let row: Result<ApReqRow<'a>, Fault> = cursor.application(tag::AP_REQ);
-        match row {
-            Ok((_, (_, (options, (ticket, (authenticator, ())))))) => Ok(ApReqRef {
-                options: options.0,
-                ticket: ticket.0,
-                authenticator: authenticator.0,
-            }),
-            Err(fault) => Err(fault),
-        }
+        let row = cursor.application(tag::AP_REQ)?;
+        let Header::<{ message_type::AP_REQ }, _>(row) = row;
+        let (Field::<0xa2, Flags>(options), row) = row;
+        let (Field::<0xa3, TicketRef>(ticket), row) = row;
+        let (Field::<0xa4, EncryptedRef>(authenticator), ()) = row;
+        Ok(ApReqRef {
+            options,
+            ticket,
+            authenticator,
+        })
     }
 }
 

@@ -2,23 +2,20 @@
 //! What a client seals for a service in a request.
 
 ghost use Rattle.std.specs.Prelude.{refl, ◌≡◌, IfOk};
-ghost use Rattle.std.specs.Option.{option_map};
-ghost use Rattle.krb_der.specs.Kind.{leaf, must, may, ends, field, seq_number, microseconds, time};
 ghost use Rattle.krb_der.specs.Reading.{Parses};
 ghost use Rattle.krb_der.specs.Writing.{IsEncoded};
-ghost use Rattle.krb_msg.specs.Parts.{◌▸◌};
-ghost use Rattle.krb_msg.specs.Borrowed.{authenticator_of, typed_of, key_of};
-ghost use Rattle.krb_msg.specs.Module.{authenticator, encryption_key, checksum, authorization_data};
+ghost use Rattle.krb_msg.specs.Borrowed.{authenticator_of};
+ghost use Rattle.krb_msg.specs.Module.{authenticator};
 ghost use Rattle.krb_msg.specs.Owned.{owned_authenticator_of};
 
 use crate::key::{KeyRef, RawKey, owned_key};
 use crate::name::{NameIn, NameRef};
-use crate::seq_number::{seq_number_in, seq_number_of};
+use crate::optional::{seq_number_in, seq_number_of};
 use crate::tag;
 use crate::typed::{Typed, TypedListRef, TypedRef, owned_list, owned_typed};
 use krb_der::{
     Constant, Cursor, Element, Encode, EncodeFault, Fault, Field, Maybe, MaybeRef, Message,
-    Microseconds, Row, Seconds, SeqNumber, Text, Writer, write_application,
+    Microseconds, Seconds, SeqNumber, Text, Writer, write_application,
 };
 use krb_name::Principal;
 use std::alloc::{AllocError, Global};
@@ -44,14 +41,6 @@ pub struct AuthenticatorRef<'a> {
     pub authorization: Option<TypedListRef<'a>>,
 }
 
-type AuthenticatorRow<'a> = (
-    Field<0xa0, Constant<5>>,
-    (
-        Field<0xa1, Text<'a>>,
-        (Field<0xa2, NameRef<'a>>, AuthenticatorTail<'a>),
-    ),
-);
-
 impl<'a> Element<'a> for AuthenticatorRef<'a> {
     ghost kind = { authenticator };
 
@@ -60,67 +49,26 @@ impl<'a> Element<'a> for AuthenticatorRef<'a> {
     ghost clear = { refl };
 
     fn read(cursor: &mut Cursor<'a>) -> Result<AuthenticatorRef<'a>, Fault> {
-        let row: Result<AuthenticatorRow<'a>, Fault> = cursor.application(tag::AUTHENTICATOR);
-        match row {
-            Ok((_, (crealm, (cname, tail)))) => Ok(AuthenticatorRef {
-                crealm: crealm.0.0,
-                cname: cname.0,
-                checksum: tail.checksum,
-                cusec: tail.cusec,
-                ctime: tail.ctime,
-                subkey: tail.subkey,
-                seq_number: tail.seq_number,
-                authorization: tail.authorization,
-            }),
-            Err(fault) => Err(fault),
-        }
-    }
-}
-
-// The fields from cksum on.
-#[derive(Drop)]
-struct AuthenticatorTail<'a> {
-    checksum: Option<TypedRef<'a>>,
-    cusec: Microseconds,
-    ctime: Seconds,
-    subkey: Option<KeyRef<'a>>,
-    seq_number: Option<u32>,
-    authorization: Option<TypedListRef<'a>>,
-}
-
-type AuthenticatorTailRow<'a> = (
-    Maybe<0xa3, TypedRef<'a>>,
-    (
-        Field<0xa4, Microseconds>,
-        (
-            Field<0xa5, Seconds>,
-            (
-                Maybe<0xa6, KeyRef<'a>>,
-                (Maybe<0xa7, SeqNumber>, (Maybe<0xa8, TypedListRef<'a>>, ())),
-            ),
-        ),
-    ),
-);
-
-impl<'a> Row<'a> for AuthenticatorTail<'a> {
-    ghost fields = { may (field 3 checksum) (must (field 4 (leaf microseconds))
-        (must (field 5 (leaf time)) (may (field 6 encryption_key) (may (field 7 (leaf seq_number))
-        (may (field 8 authorization_data) ends))))) };
-
-    ghost view = { λ t. option_map typed_of t.checksum ▸ t.cusec ▸ t.ctime ▸
-        option_map key_of t.subkey ▸ t.seq_number ▸ t.authorization ▸ tt };
-
-    fn read_row(content: Cursor<'a>) -> Result<AuthenticatorTail<'a>, Fault> {
-        let row: Result<AuthenticatorTailRow<'a>, Fault> = Row::read_row(content);
-        match row {
-            Ok((checksum, (cusec, (ctime, (subkey, (seq_number, (authorization, ()))))))) => {
-                Ok(AuthenticatorTail {
-                    checksum: checksum.0,
-                    cusec: cusec.0,
-                    ctime: ctime.0,
-                    subkey: subkey.0,
-                    seq_number: seq_number_of(seq_number.0),
-                    authorization: authorization.0,
+        match cursor.application(tag::AUTHENTICATOR) {
+            Ok(row) => {
+                let (Field::<0xa0, Constant<5>>(_), row) = row;
+                let (Field::<0xa1, Text>(crealm), row) = row;
+                let (Field::<0xa2, NameRef>(cname), row) = row;
+                let (Maybe::<0xa3, TypedRef>(checksum), row) = row;
+                let (Field::<0xa4, Microseconds>(cusec), row) = row;
+                let (Field::<0xa5, Seconds>(ctime), row) = row;
+                let (Maybe::<0xa6, KeyRef>(subkey), row) = row;
+                let (Maybe::<0xa7, SeqNumber>(seq_number), row) = row;
+                let (Maybe::<0xa8, TypedListRef>(authorization), ()) = row;
+                Ok(AuthenticatorRef {
+                    crealm: crealm.0,
+                    cname,
+                    checksum,
+                    cusec,
+                    ctime,
+                    subkey,
+                    seq_number: seq_number_of(seq_number),
+                    authorization,
                 })
             }
             Err(fault) => Err(fault),

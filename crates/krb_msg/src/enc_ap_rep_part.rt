@@ -9,7 +9,7 @@ ghost use Rattle.krb_msg.specs.Module.{enc_ap_rep_part};
 ghost use Rattle.krb_msg.specs.Owned.{owned_enc_ap_rep_part_of};
 
 use crate::key::{KeyRef, RawKey, owned_key};
-use crate::seq_number::{seq_number_in, seq_number_of};
+use crate::optional::{seq_number_in, seq_number_of};
 use crate::tag;
 use krb_der::{
     Cursor, Element, Encode, EncodeFault, Fault, Field, Maybe, MaybeRef, Message, Microseconds,
@@ -33,14 +33,6 @@ pub struct EncApRepRef<'a> {
     input: PhantomData<&'a [u8]>,
 }
 
-type EncApRepRow<'a> = (
-    Field<0xa0, Seconds>,
-    (
-        Field<0xa1, Microseconds>,
-        (Maybe<0xa2, KeyRef<'a>>, (Maybe<0xa3, SeqNumber>, ())),
-    ),
-);
-
 impl<'a> Element<'a> for EncApRepRef<'a> {
     ghost kind = { enc_ap_rep_part };
 
@@ -49,15 +41,20 @@ impl<'a> Element<'a> for EncApRepRef<'a> {
     ghost clear = { refl };
 
     fn read(cursor: &mut Cursor<'a>) -> Result<EncApRepRef<'a>, Fault> {
-        let row: Result<EncApRepRow<'a>, Fault> = cursor.application(tag::ENC_AP_REP_PART);
-        match row {
-            Ok((ctime, (cusec, (subkey, (seq_number, ()))))) => Ok(EncApRepRef {
-                ctime: ctime.0,
-                cusec: cusec.0,
-                subkey: subkey.0,
-                seq_number: seq_number_of(seq_number.0),
-                input: PhantomData,
-            }),
+        match cursor.application(tag::ENC_AP_REP_PART) {
+            Ok(row) => {
+                let (Field::<0xa0, Seconds>(ctime), row) = row;
+                let (Field::<0xa1, Microseconds>(cusec), row) = row;
+                let (Maybe::<0xa2, KeyRef>(subkey), row) = row;
+                let (Maybe::<0xa3, SeqNumber>(seq_number), ()) = row;
+                Ok(EncApRepRef {
+                    ctime,
+                    cusec,
+                    subkey,
+                    seq_number: seq_number_of(seq_number),
+                    input: PhantomData,
+                })
+            }
             Err(fault) => Err(fault),
         }
     }

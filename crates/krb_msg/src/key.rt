@@ -6,7 +6,7 @@ ghost use Rattle.krb_msg.specs.Borrowed.{key_of};
 ghost use Rattle.krb_msg.specs.Module.{encryption_key};
 ghost use Rattle.krb_msg.specs.Owned.{owned_key_of};
 
-use crate::typed::TypedRow;
+use crate::typed::TypedRef;
 use krb_der::{Cursor, Element, Encode, EncodeFault, Fault, Field, Octets, Writer, write_sequence};
 use std::alloc::{AllocError, Global};
 
@@ -28,14 +28,8 @@ impl<'a> Element<'a> for KeyRef<'a> {
     ghost clear = { refl };
 
     fn read(cursor: &mut Cursor<'a>) -> Result<KeyRef<'a>, Fault> {
-        let row: Result<TypedRow<'a>, Fault> = cursor.sequence();
-        match row {
-            Ok((etype, (bytes, ()))) => Ok(KeyRef {
-                etype: etype.0,
-                bytes: bytes.0.0,
-            }),
-            Err(fault) => Err(fault),
-        }
+        let TypedRef { kind, bytes } = TypedRef::read(cursor)?;
+        Ok(KeyRef { etype: kind, bytes })
     }
 }
 
@@ -58,10 +52,7 @@ impl<'a> KeyRef<'a> {
 pub(crate) fn owned_key(alloc: Global, key: &Option<KeyRef>) -> Result<Option<RawKey>, AllocError>
     ensures { IfOk result (λ made. option_map owned_key_of made ≡ option_map key_of key.now) }
 {
-    match key {
-        Some(key) => Ok(Some(key.to_owned(alloc)?)),
-        None => Ok(None),
-    }
+    key.as_ref().map(|key| key.to_owned(alloc)).transpose()
 }
 
 /// A key of any type (`EncryptionKey`, RFC 4120, section 5.2.9). There is no `Debug`, so no log
@@ -80,10 +71,8 @@ impl Encode for RawKey {
     ghost view = { owned_key_of };
 
     fn write(&self, out: &mut Writer) -> Result<(), EncodeFault> {
-        let row: (Field<0xa0, &i32>, (Field<0xa1, Octets>, ())) = (
-            Field(&self.etype),
-            (Field(Octets(self.bytes.as_slice())), ()),
-        );
+        let rest = (Field::<0xa1, _>(Octets(self.bytes.as_slice())), ());
+        let row = (Field::<0xa0, _>(&self.etype), rest);
         write_sequence(&row, out)
     }
 }

@@ -24,8 +24,6 @@ pub struct NameRef<'a> {
     pub components: Texts<'a>,
 }
 
-type NameRow<'a> = (Field<0xa0, i32>, (Field<0xa1, Texts<'a>>, ()));
-
 impl<'a> Element<'a> for NameRef<'a> {
     ghost kind = { principal_name };
 
@@ -34,14 +32,13 @@ impl<'a> Element<'a> for NameRef<'a> {
     ghost clear = { refl };
 
     fn read(cursor: &mut Cursor<'a>) -> Result<NameRef<'a>, Fault> {
-        let row: Result<NameRow<'a>, Fault> = cursor.sequence();
-        match row {
-            Ok((name_type, (components, ()))) => Ok(NameRef {
-                name_type: name_type.0,
-                components: components.0,
-            }),
-            Err(fault) => Err(fault),
-        }
+        let row = cursor.sequence()?;
+        let (Field::<0xa0, i32>(name_type), row) = row;
+        let (Field::<0xa1, Texts>(components), ()) = row;
+        Ok(NameRef {
+            name_type,
+            components,
+        })
     }
 }
 
@@ -83,10 +80,7 @@ impl<'a> NameRef<'a> {
 pub(crate) fn owned_name(alloc: Global, name: &Option<NameRef>) -> Result<Option<Name>, AllocError>
     ensures { IfOk result (λ made. option_map owned_name_of made ≡ option_map name_of name.now) }
 {
-    match name {
-        Some(name) => Ok(Some(name.to_owned(alloc)?)),
-        None => Ok(None),
-    }
+    name.as_ref().map(|name| name.to_owned(alloc)).transpose()
 }
 
 /// A `PrincipalName` (RFC 4120, section 5.2.2): a name without a realm.
@@ -125,9 +119,7 @@ impl Encode for NameIn<'_> {
 fn write_name(name_type: &i32, components: &Components, out: &mut Writer) -> Result<(), EncodeFault>
     ensures { EncodesValue principal_name (name_value name_type.now components.now) result out.old out.new }
 {
-    let row: (Field<0xa0, &i32>, (Field<0xa1, TextList<Bytes>>, ())) = (
-        Field(name_type),
-        (Field(TextList(components.as_slice())), ()),
-    );
+    let rest = (Field::<0xa1, _>(TextList(components.as_slice())), ());
+    let row = (Field::<0xa0, _>(name_type), rest);
     write_sequence(&row, out)
 }

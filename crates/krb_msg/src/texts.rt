@@ -2,7 +2,6 @@
 
 ghost use Rattle.std.specs.Prelude.{refl, ◌≡◌, IfOk};
 ghost use Rattle.std.specs.Iterator.{YieldsFirstBy, item_count};
-ghost use Rattle.std.specs.Option.{option_map};
 ghost use Rattle.krb_der.specs.Kind.{leaf, string};
 ghost use Rattle.krb_msg.specs.Module.{sequence_of};
 
@@ -82,40 +81,7 @@ impl<'a> Iterator for TextsIter<'a> {
     ghost remaining = { item_count (λ t. t) };
 
     fn next(&mut self) -> Option<&'a [u8]> {
-        match self.left.next::<Text>() {
-            Some(text) => Some(text.0),
-            None => None,
-        }
-    }
-}
-
-/// A copy of the text, if there is one.
-pub(crate) fn owned_text(alloc: Global, text: &Option<&[u8]>) -> Result<Option<Bytes>, AllocError>
-    ensures { IfOk result (λ made. made ≡ option_map (λ x. x.now) text.now) }
-{
-    match text {
-        Some(text) => Ok(Some(Bytes::from_slice(alloc, text)?)),
-        None => Ok(None),
-    }
-}
-
-/// The text that was read.
-pub(crate) fn text_bytes<'a>(text: Option<Text<'a>>) -> Option<&'a [u8]>
-    ensures { option_map (λ x. x.now) result ≡ option_map (λ t. t.0.now) text.entry }
-{
-    match text {
-        Some(text) => Some(text.0),
-        None => None,
-    }
-}
-
-/// The text to be written.
-pub(crate) fn text_in(text: &Option<Bytes>) -> Option<Text<'_>>
-    ensures { option_map (λ t. t.0.now) result ≡ text.now }
-{
-    match text {
-        Some(text) => Some(Text(text.as_slice())),
-        None => None,
+        self.left.next::<Text>().map(|text| text.0)
     }
 }
 

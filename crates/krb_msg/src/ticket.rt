@@ -28,11 +28,6 @@ pub struct EncryptedRef<'a> {
     pub cipher: &'a [u8],
 }
 
-type EncryptedRow<'a> = (
-    Field<0xa0, i32>,
-    (Maybe<0xa1, u32>, (Field<0xa2, Octets<'a>>, ())),
-);
-
 impl<'a> Element<'a> for EncryptedRef<'a> {
     ghost kind = { encrypted_data };
 
@@ -41,15 +36,15 @@ impl<'a> Element<'a> for EncryptedRef<'a> {
     ghost clear = { refl };
 
     fn read(cursor: &mut Cursor<'a>) -> Result<EncryptedRef<'a>, Fault> {
-        let row: Result<EncryptedRow<'a>, Fault> = cursor.sequence();
-        match row {
-            Ok((etype, (kvno, (cipher, ())))) => Ok(EncryptedRef {
-                etype: etype.0,
-                kvno: kvno.0,
-                cipher: cipher.0.0,
-            }),
-            Err(fault) => Err(fault),
-        }
+        let row = cursor.sequence()?;
+        let (Field::<0xa0, i32>(etype), row) = row;
+        let (Maybe::<0xa1, u32>(kvno), row) = row;
+        let (Field::<0xa2, Octets>(cipher), ()) = row;
+        Ok(EncryptedRef {
+            etype,
+            kvno,
+            cipher: cipher.0,
+        })
     }
 }
 
@@ -104,17 +99,6 @@ pub struct TicketRef<'a> {
     pub enc_part: EncryptedRef<'a>,
 }
 
-type TicketRow<'a> = (
-    Field<0xa0, Constant<5>>,
-    (
-        Field<0xa1, Text<'a>>,
-        (
-            Field<0xa2, NameRef<'a>>,
-            (Field<0xa3, EncryptedRef<'a>>, ()),
-        ),
-    ),
-);
-
 impl<'a> Element<'a> for TicketRef<'a> {
     ghost kind = { ticket };
 
@@ -123,15 +107,16 @@ impl<'a> Element<'a> for TicketRef<'a> {
     ghost clear = { refl };
 
     fn read(cursor: &mut Cursor<'a>) -> Result<TicketRef<'a>, Fault> {
-        let row: Result<TicketRow<'a>, Fault> = cursor.application(tag::TICKET);
-        match row {
-            Ok((_, (realm, (sname, (enc_part, ()))))) => Ok(TicketRef {
-                realm: realm.0.0,
-                sname: sname.0,
-                enc_part: enc_part.0,
-            }),
-            Err(fault) => Err(fault),
-        }
+        let row = cursor.application(tag::TICKET)?;
+        let (Field::<0xa0, Constant<5>>(_), row) = row;
+        let (Field::<0xa1, Text>(realm), row) = row;
+        let (Field::<0xa2, NameRef>(sname), row) = row;
+        let (Field::<0xa3, EncryptedRef>(enc_part), ()) = row;
+        Ok(TicketRef {
+            realm: realm.0,
+            sname,
+            enc_part,
+        })
     }
 }
 

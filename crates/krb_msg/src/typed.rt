@@ -23,8 +23,6 @@ pub struct TypedRef<'a> {
     pub bytes: &'a [u8],
 }
 
-pub(crate) type TypedRow<'a> = (Field<0xa0, i32>, (Field<0xa1, Octets<'a>>, ()));
-
 impl<'a> Element<'a> for TypedRef<'a> {
     ghost kind = { typed (leaf octets) };
 
@@ -33,14 +31,13 @@ impl<'a> Element<'a> for TypedRef<'a> {
     ghost clear = { refl };
 
     fn read(cursor: &mut Cursor<'a>) -> Result<TypedRef<'a>, Fault> {
-        let row: Result<TypedRow<'a>, Fault> = cursor.sequence();
-        match row {
-            Ok((kind, (bytes, ()))) => Ok(TypedRef {
-                kind: kind.0,
-                bytes: bytes.0.0,
-            }),
-            Err(fault) => Err(fault),
-        }
+        let row = cursor.sequence()?;
+        let (Field::<0xa0, i32>(kind), row) = row;
+        let (Field::<0xa1, Octets>(bytes), ()) = row;
+        Ok(TypedRef {
+            kind,
+            bytes: bytes.0,
+        })
     }
 }
 
@@ -66,10 +63,10 @@ pub(crate) fn owned_typed(
 ) -> Result<Option<Typed>, AllocError>
     ensures { IfOk result (λ made. option_map owned_typed_of made ≡ option_map typed_of typed.now) }
 {
-    match typed {
-        Some(typed) => Ok(Some(typed.to_owned(alloc)?)),
-        None => Ok(None),
-    }
+    typed
+        .as_ref()
+        .map(|typed| typed.to_owned(alloc))
+        .transpose()
 }
 
 /// Bytes, and the number of their type: a checksum, an address, an element of authorization data,
@@ -88,10 +85,8 @@ impl Encode for Typed {
     ghost view = { owned_typed_of };
 
     fn write(&self, out: &mut Writer) -> Result<(), EncodeFault> {
-        let row: (Field<0xa0, &i32>, (Field<0xa1, Octets>, ())) = (
-            Field(&self.kind),
-            (Field(Octets(self.bytes.as_slice())), ()),
-        );
+        let rest = (Field::<0xa1, _>(Octets(self.bytes.as_slice())), ());
+        let row = (Field::<0xa0, _>(&self.kind), rest);
         write_sequence(&row, out)
     }
 }
@@ -180,10 +175,7 @@ pub(crate) fn owned_list(
 ) -> Result<Option<Vec<Typed>>, AllocError>
     ensures { IfOk result (λ made. option_map (λ l. owned_list_of l.items) made ≡ list.now) }
 {
-    match list {
-        Some(list) => Ok(Some(list.to_owned(alloc)?)),
-        None => Ok(None),
-    }
+    list.as_ref().map(|list| list.to_owned(alloc)).transpose()
 }
 
 impl<'a> Element<'a> for TypedListRef<'a> {

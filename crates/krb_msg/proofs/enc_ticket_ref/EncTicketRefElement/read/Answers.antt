@@ -1,6 +1,0 @@
--- Made from messages.toml by packaging/messages.py. Don't edit this file.
-use Rattle.std.proofs.Common.{rules}
-use Rattle.krb_msg.proofs.enc_ticket_ref.EncTicketRefElement.read.Goals as goal
-
-pub returns-in-Ok : goal.returns-in-Ok
-returns-in-Ok c = let read = simp (c.in-Ok.is) at c.application-row.ensures.computed in search (rules, read)

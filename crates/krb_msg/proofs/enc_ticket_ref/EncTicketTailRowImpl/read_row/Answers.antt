@@ -1,7 +1,0 @@
--- Made from messages.toml by packaging/messages.py. Don't edit this file.
-use Rattle.std.proofs.Common.{rules}
-use Rattle.std.proofs.lemmas.Iterator.Adapters.{option_map_id}
-use Rattle.krb_msg.proofs.enc_ticket_ref.EncTicketTailRowImpl.read_row.Goals as goal
-
-pub returns-in-Ok : goal.returns-in-Ok
-returns-in-Ok c = let read = simp (c.in-Ok.is) at c.read_row-row.ensures in search (rules, option_map_id, read)
