@@ -223,7 +223,7 @@ def filled(call: Callable[[Any, int], Answer], room: int = 1024) -> bytes:
         buffer = ctypes.create_string_buffer(room)
         answer = call(buffer, room)
         if answer.code != Code.SHORT_BUFFER:
-            return buffer.raw[:done(answer).size]
+            return ctypes.string_at(buffer, done(answer).size)
         room = answer.size
 
 
