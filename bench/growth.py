@@ -6,6 +6,7 @@
 PROGRAM is krbtool, LIBRARY the shared library for C. Each row has two sizes, one 16 times the other, and the least processor time of some runs
 of each. The time may grow by a factor of 24: what takes longer for its size is a fault to mend, and makes the script end with 1.
 """
+import ctypes
 import os
 import sys
 import tempfile
@@ -20,7 +21,9 @@ import files  # noqa: E402
 import fevstunik  # noqa: E402
 
 FACTOR, MOST, RUNS = 16, 24, 5
-NOW = 1_700_000_100
+# Options of mallopt (malloc.h), and the greatest size that malloc takes for one of them.
+TRIM_THRESHOLD, TOP_PAD, MMAP_THRESHOLD = -1, -2, -3
+KEPT = 32 << 20
 
 
 def least(run):
@@ -171,8 +174,16 @@ def calls(folder):
         lambda token=fevstunik.wrap_request(bytes(size)): fevstunik.Token.open(token))
 
 
+def keep_memory():
+    """Makes malloc keep what is freed. To give it back to the system, and ask for it again, takes longer for some sizes than for others."""
+    mallopt = ctypes.CDLL(None).mallopt
+    kept = [mallopt(option, KEPT) for option in (TOP_PAD, MMAP_THRESHOLD)] + [mallopt(TRIM_THRESHOLD, 64 * KEPT - 1)]
+    assert all(kept), "malloc refuses an option"
+
+
 def main():
     program, library = map(os.path.abspath, sys.argv[1:])
+    keep_memory()
     fevstunik.load(library)
     with tempfile.TemporaryDirectory() as name:
         print(f"| what | size | its time | {FACTOR} times the size | ratio |\n|---|---|---|---|---|")

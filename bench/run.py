@@ -1,12 +1,13 @@
 #!/usr/bin/env python3
-"""Times this repository's cipher, sealing, messages, memory of what was seen, requests (also from C) and listings in one run, most of them
-beside OpenSSL and MIT krb5, and prints all tables of bench/README.md but those of shared stores (stores.py) and of growth (growth.py).
+"""Times this repository's cipher, sealing, messages, memory of what was seen, requests (also from C), listings, shared stores and growth in one
+run, most of them beside OpenSSL and MIT krb5, and prints all tables of bench/README.md.
 
-    bench/run.py [TABLE..]      the tables of these names, or all: cipher, sealing, messages, memory, requests, c, process, listings, builds
+    bench/run.py [TABLE..]      the tables of these names, or all: cipher, sealing, messages, requests, c, builds, stores, process, listings,
+                                memory, growth
 
 Both sides of a row run in turn, in nine pairs; a row says the median of the pairs' ratios, and the least and the greatest of them. If these
 differ by more than a third of the median, the row says that the machine was too busy to tell. Needs a C compiler and Debian's packages
-krb5-user, libkrb5-dev, libssl-dev and pkg-config. It proves and builds what it times, which takes a while on a new clone. Nothing here is a
+krb5-user, libkrb5-dev, libssl-dev and pkg-config, and for stores what stores.py needs. It proves and builds what it times, which takes a while on a new clone. Nothing here is a
 test: it asserts nothing but that all programs end well.
 """
 import os
@@ -20,6 +21,7 @@ import builds
 import exchange
 import files
 import from_c
+import stores
 from pairs import compared, time_of
 
 HERE = Path(__file__).resolve().parent
@@ -165,16 +167,25 @@ def memory_table(ours):
     print(f"\nadvance drops 500,000 tuples in {half * 500_000 / 1e6:.0f} ms, and 250,000 in {quarter * 250_000 / 1e6:.0f} ms.")
 
 
+def growth_table(folder):
+    """In a process of its own, since it changes how memory is freed."""
+    library = stores.shared_library(folder)
+    print(subprocess.run([sys.executable, str(HERE / "growth.py"), KRBTOOL, str(library)], stdout=subprocess.PIPE, text=True).stdout)
+
+
+# In the order of bench/README.md.
 TABLES = {
     "cipher": lambda folder, programs: block_table(programs["krb_bench"], programs["aes_blocks"]),
     "sealing": lambda folder, programs: sealing_table(programs["krb_bench"], programs["mit_crypto"]),
     "messages": lambda folder, programs: message_table(programs["krb_bench"], programs["mit_messages"]),
-    "memory": lambda folder, programs: memory_table(programs["krb_bench"]),
     "requests": lambda folder, programs: exchange.table(folder, programs["krb_exchange"], programs["mit_exchange"], run_of),
     "c": lambda folder, programs: from_c.table(folder, from_c.built(folder)),
+    "builds": lambda folder, programs: builds.tables(folder),
+    "stores": lambda folder, programs: stores.tables(folder),
     "process": lambda folder, programs: exchange.lines_table(folder, programs["krb_exchange"], KRBTOOL, programs["mit_exchange"]),
     "listings": lambda folder, programs: files.tables(KRBTOOL),
-    "builds": lambda folder, programs: builds.tables(folder),
+    "memory": lambda folder, programs: memory_table(programs["krb_bench"]),
+    "growth": lambda folder, programs: growth_table(folder),
 }
 
 

@@ -18,7 +18,8 @@ from pathlib import Path
 import exchange
 
 TOP = Path(__file__).resolve().parent.parent
-sys.path += [str(TOP / "tests")]
+sys.path += [str(TOP / "tests"), str(TOP / "packaging")]
+import archive  # noqa: E402
 import c_library  # noqa: E402
 import c_shared  # noqa: E402
 import store_servers  # noqa: E402
@@ -32,11 +33,17 @@ def must(ran):
     return ran.stdout
 
 
+def shared_library(folder):
+    """Builds the shared library, and returns its path."""
+    must(archive.build("x86-64-v2", c_library.ARCHIVE))
+    path = folder / "libfevstunik.so"
+    must(c_library.run("gcc", "-shared", "-o", path, "-Wl,--whole-archive", c_library.ARCHIVE, "-Wl,--no-whole-archive", c_library.toolchain()))
+    return path
+
+
 def built(folder):
     """Builds the library, and the service in C with a store and without one."""
-    must(c_library.built_archive())
-    must(c_library.run("gcc", "-shared", "-o", folder / "libfevstunik.so", "-Wl,--whole-archive", c_library.ARCHIVE, "-Wl,--no-whole-archive",
-                       c_library.toolchain()))
+    shared_library(folder)
     service = "-O2", "-D_DEFAULT_SOURCE", TOP / "examples/service/shared.c"
     must(c_library.linked(folder / "shared", *service, "-lhiredis"))
     must(c_library.linked(folder / "alone", *service, TOP / "bench/no_store.c"))
@@ -119,10 +126,15 @@ def table(folder):
     row("MIT krb5 in C, a replay cache in a file", INSTANCES, lambda count: with_file(folder, count))
 
 
+def tables(folder):
+    """Builds what the table times in this folder, and prints it."""
+    built(folder)
+    table(folder)
+
+
 def main():
     with tempfile.TemporaryDirectory() as name:
-        built(Path(name))
-        table(Path(name))
+        tables(Path(name))
 
 
 if __name__ == "__main__":
