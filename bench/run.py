@@ -22,7 +22,7 @@ import exchange
 import files
 import from_c
 import stores
-from pairs import compared, time_of
+from pairs import PAIRS, compared, of_pairs, time_of
 
 HERE = Path(__file__).resolve().parent
 TOP = HERE.parent
@@ -161,8 +161,8 @@ def memory_table(ours):
     for what, name in [("lacks", "contains, of another tuple"), ("contains", "contains, of a tuple that is held"),
                        ("remember", "remember"), ("advance", "advance, for each tuple that it drops")]:
         for order, orders in [("ordered", "in order of time"), ("jumping", "jumping in time")]:
-            here, there = best_in_turn([[ours, what, order, *few], [ours, what, order, *many]])
-            print(f"| {name} | {orders} | {here:,.0f} ns | {there:,.0f} ns | {there / here:.2f} |")
+            it = of_pairs([(once([ours, what, order, *few]), once([ours, what, order, *many])) for _ in range(PAIRS)])
+            print(f"| {name} | {orders} | {time_of(it.ours)} | {time_of(it.theirs)} | {it.shown} |", flush=True)
     half, quarter = best_in_turn([[ours, "advance", "ordered", held, "1"] for held in ("1000000", "500000")])
     print(f"\nadvance drops 500,000 tuples in {half * 500_000 / 1e6:.0f} ms, and 250,000 in {quarter * 250_000 / 1e6:.0f} ms.")
 
