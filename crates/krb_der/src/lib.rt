@@ -11,11 +11,12 @@
 //!   end of each content. Writing: `Writer::new`; the calls of the same names; and
 //!   `wrap(tag, start)` around what was written from `start` on.
 //! - As rows of fields. A type with [`Element`] names its kind, and its `read` asks
-//!   `cursor.sequence()` for nested pairs of [`Field`] and [`Maybe`]. If the type has [`Message`]
-//!   too, [`parse`] reads it. Bind the result of `sequence` with its type and match on it: `?` is
-//!   refused there for rows that hold both a slice and a time. If the type has [`Encode`], whose
-//!   `write` passes such a row to [`write_sequence`], [`encoded`] writes it. A field that is an
-//!   `i32` goes into that row as `Field(&self.number)`. An optional field goes there as
+//!   `cursor.sequence()` for a row, nested pairs of [`Field`] and [`Maybe`]. It takes the row apart
+//!   field by field, as by `let (Field::<0xa0, i32>(number), row) = row;`, and the row's type
+//!   follows from these lines. If the checker refuses `?` after `sequence`, match on the result. If
+//!   the type has [`Message`] too, [`parse`] reads it. If the type has [`Encode`], whose `write`
+//!   passes such a row to [`write_sequence`], [`encoded`] writes it. A field that is an `i32` goes
+//!   into that row as `Field(&self.number)`. An optional field goes there as
 //!   `MaybeRef(&self.field)`.
 //! - A SEQUENCE OF is read by `cursor.list::<T>()` as a cursor over its content, and that cursor is
 //!   read by `next::<T>()`. A slice or a vector is written as a SEQUENCE OF. Texts of types of
