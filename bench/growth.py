@@ -160,7 +160,7 @@ def calls(folder):
     yield "fevstunik_keytab_write, entries", 10_000, lambda size: of_a_call(keytab(size).compacted)
     yield "fevstunik_acceptor_new, entries", 10_000, lambda size: of_a_call(lambda: fevstunik.Acceptor(keytab(size), None, started=None))
     yield "fevstunik_acceptor_accept, bytes of a ticket's authorization data", 1 << 15, accepting(folder)
-    yield "fevstunik_cache_new, credentials", 250, lambda size: of_a_call(
+    yield "fevstunik_cache_new, credentials", 1_500, lambda size: of_a_call(
         lambda data=files.cache(size): fevstunik.CredentialCache(data))
     yield "all of fevstunik_cache_credential, credentials", 500, lambda size: of_a_call(
         lambda data=files.cache(size): fevstunik.CredentialCache(data).credentials)
