@@ -12,8 +12,8 @@ use Rattle.jiff_core.proofs.SignedLemmas.{signed_arith, unsigned_abs-parts, one_
 use Rattle.jiff_core.proofs.MarchLemmas.{day_count-early}
 use Rattle.jiff_core.proofs.CalendarLemmas.{day_count-end, day_count_bounds, day_count-day_of_year, day_count-next_year, day_count-later_year, day_count-lt_year, days_of_months-zero, days_of_months_more, days_of_months_all, days_from_civil-day_count}
 use Rattle.jiff_core.proofs.DateLemmas.{civil, epoch_day_injective}
-use Rattle.krb_der.specs.Time.{Civil, IsCivil, seconds_of, text_of, IsTime, IsSeconds}
-use Rattle.krb_der.specs.Inner.CivilView.{plain_civil}
+use Rattle.krb_time.specs.Time.{Civil, IsCivil, seconds_of, text_of, IsTime, IsSeconds}
+use Rattle.krb_time.specs.Inner.CivilView.{plain_civil}
 
 -- ---- the range
 year_zero : day_count (pos 0) 1 1 ≡ 3_652_425

@@ -1,9 +1,8 @@
 -- Times, read: a content is that of a time if it is the text of the second that its digits name.
-use Rattle.std.specs.Prelude.{ℕ, ◌+◌, ◌*◌, ◌%◌, min, ℤ, pos, Bool, ◌&&◌, nat_lt, nat_le, List, slice_index, Option}
+use Rattle.std.specs.Prelude.{ℕ, ◌+◌, ◌*◌, ◌%◌, min, ℤ, pos, Bool, ◌&&◌, nat_lt, nat_le, if◌then◌else◌, List, slice_index, Option, Some, None}
 use Rattle.std.specs.Str.{bytes_eq}
 use Rattle.jiff_core.specs.Calendar.{days_in_month}
-use Rattle.krb_der.specs.Time.{Civil, seconds_of, text_of}
-use Rattle.krb_der.specs.Computed.Steps.{only_if}
+use Rattle.krb_time.specs.Time.{Civil, seconds_of, text_of}
 
 -- the number that the two digits at the place are; other bytes give some number below 100
 abbrev pub pair_at : ℕ → List ℕ → ℕ
@@ -28,4 +27,4 @@ is_civil t =
 
 unfoldable pub time_of : List ℕ → Option ℤ
 time_of content =
-    only_if (is_civil (civil_of content) && bytes_eq content (text_of (civil_of content))) (seconds_of (civil_of content))
+    if is_civil (civil_of content) && bytes_eq content (text_of (civil_of content)) then Some (seconds_of (civil_of content)) else None

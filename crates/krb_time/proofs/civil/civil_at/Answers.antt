@@ -5,9 +5,9 @@ use Rattle.jiff_core.specs.DateTime.{civil_seconds}
 use Rattle.jiff_core.specs.Time.{time_seconds}
 use Rattle.jiff_core.specs.declared.civil.datetime.DateTime.{DateTime}
 use Rattle.jiff_core.proofs.SignedLemmas.{signed_arith}
-use Rattle.krb_der.specs.Time.{IsSeconds}
-use Rattle.krb_der.proofs.Calendar.{year_of_seconds}
-use Rattle.krb_der.proofs.time.civil_at.Goals as goal
+use Rattle.krb_time.specs.Time.{IsSeconds}
+use Rattle.krb_time.proofs.Calendar.{year_of_seconds}
+use Rattle.krb_time.proofs.civil.civil_at.Goals as goal
 
 value_is : (t : DateTime) (n : ℕ) (s : ℤ) → pos n ≡ s +ℤ pos 377_705_116_800 → epoch_day t.date +ℤ pos 4_371_587 ≡ pos (n / 86_400) → time_seconds t.time ≡ n % 86_400 → civil_seconds t ≡ s
 unfolding civil_seconds

@@ -2,10 +2,10 @@ use Rattle.std.proofs.Common.{◌≡◌, ℤ, pos, arith}
 use Rattle.std.proofs.lemmas.Bool.{false≢true}
 use Rattle.std.proofs.lemmas.Int.{ints}
 use Rattle.jiff_core.specs.Calendar.{IsDate}
-use Rattle.krb_der.specs.Time.{Civil, IsCivil}
-use Rattle.krb_der.specs.Computed.Clock.{civil_of}
-use Rattle.krb_der.proofs.Calendar.{same_civil}
-use Rattle.krb_der.proofs.time.civil_in.Goals as goal
+use Rattle.krb_time.specs.Time.{Civil, IsCivil}
+use Rattle.krb_time.specs.Clock.{civil_of}
+use Rattle.krb_time.proofs.Calendar.{same_civil}
+use Rattle.krb_time.proofs.civil.civil_in.Goals as goal
 
 date_is : (y m d : ℤ) (t : Civil) → y ≡ pos t.year → m ≡ pos t.month → d ≡ pos t.day → IsCivil t → IsDate y m d
 date_is y m d t year month day v =

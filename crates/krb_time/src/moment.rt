@@ -1,14 +1,14 @@
 //! Moments.
 
 ghost use Rattle.std.specs.Prelude.{◌≡◌, ◌<◌, SomeIff};
-ghost use Rattle.krb_der.specs.Time.{IsSeconds};
-ghost use Rattle.krb_msg.specs.Moments.{micros_of};
+ghost use Rattle.krb_time.specs.Time.{IsSeconds};
+ghost use Rattle.krb_time.specs.Moments.{micros_of};
 ghost use Rattle.std.proofs.Common.{rules};
 ghost use Rattle.std.specs.Cmp.{partial_order_from_own_ties};
 ghost use Rattle.std.specs.Cmp.Rules.{comparing};
 ghost use Rattle.std.specs.Ordering.{as_partial_cmp, int_cmp};
 
-use krb_der::{Microseconds, Seconds};
+use crate::{Microseconds, Seconds};
 use std::cmp::Ordering;
 use std::marker::Model;
 
@@ -21,7 +21,7 @@ pub struct Moment {
 
 impl Model for Moment {
     ghost use Rattle.std.specs.Prelude.{ℤ};
-    ghost use Rattle.krb_msg.specs.Moments.{IsMoment};
+    ghost use Rattle.krb_time.specs.Moments.{IsMoment};
 
     ghost Value = { ℤ };
 

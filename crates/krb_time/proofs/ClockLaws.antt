@@ -1,15 +1,14 @@
 -- A time is read exactly where one is spelled.
-use Rattle.std.proofs.Common.{◌≡◌, ℕ, ◌+◌, ◌*◌, ◌/◌, ◌%◌, ◌<◌, min, ℤ, pos, true, ◌&&◌, List, Option, Some, None, refl, sym, ap, subst, ◌∙◌, arith}
-use Rattle.std.specs.Prelude.{IfSome}
+use Rattle.std.proofs.Common.{◌≡◌, ℕ, ◌+◌, ◌*◌, ◌/◌, ◌%◌, ◌<◌, min, ℤ, pos, true, false, ◌&&◌, List, Option, Some, None, refl, sym, ap, subst, ◌∙◌, arith}
+use Rattle.std.specs.Prelude.{IfSome, IfNone, Bool, if◌then◌else◌}
 use Rattle.std.specs.Str.{bytes_eq}
 use Rattle.std.proofs.lemmas.Bool.{and_parts}
 use Rattle.std.proofs.lemmas.Bool.Decides.{nat_tests}
 use Rattle.std.proofs.lemmas.Slice.Eq.{bytes_eq-Decides}
 use Rattle.jiff_core.proofs.SignedLemmas.{signed_arith}
 use Rattle.jiff_core.proofs.CalendarLemmas.{days_in_month_bounds}
-use Rattle.krb_der.specs.Time.{Civil, IsCivil, IsTime, seconds_of, text_of}
-use Rattle.krb_der.specs.Computed.Clock.{civil_of, is_civil, time_of}
-use Rattle.krb_der.proofs.IntegerLaws.{only_found}
+use Rattle.krb_time.specs.Time.{Civil, IsCivil, IsTime, seconds_of, text_of}
+use Rattle.krb_time.specs.Clock.{civil_of, is_civil, time_of}
 
 civil_true : (t : Civil) → IsCivil t → is_civil t ≡ true
 civil_true t v =
@@ -61,10 +60,14 @@ time_read s content h =
 -- ---- what is read is spelled
 pub time_found : (content : List ℕ) → IfSome (time_of content) (λ s. IsTime s content)
 unfolding time_of
-time_found content =
-    only_found _ (is_civil (civil_of content) && bytes_eq content (text_of (civil_of content))) (seconds_of (civil_of content)) (λ e.
-    let q = and_parts (is_civil (civil_of content)) (bytes_eq content (text_of (civil_of content))) e in
-    record { civil = civil_of content; valid = true_civil (civil_of content) q.0; value = refl; whole = (bytes_eq-Decides content _).0 q.1 })
+time_found content = only_if (is_civil (civil_of content) && bytes_eq content (text_of (civil_of content))) refl
+  where
+    only_if : (b : Bool) → is_civil (civil_of content) && bytes_eq content (text_of (civil_of content)) ≡ b
+        → IfSome (if b then Some (seconds_of (civil_of content)) else None) (λ s. IsTime s content)
+    only_if true e =
+        let q = and_parts (is_civil (civil_of content)) (bytes_eq content (text_of (civil_of content))) e in
+        record { civil = civil_of content; valid = true_civil (civil_of content) q.0; value = refl; whole = (bytes_eq-Decides content _).0 q.1 }
+    only_if false e = tt
 
 pub not_time : (content : List ℕ) → ((s : ℤ) → IsTime s content → ⊥) → time_of content ≡ None
 not_time content none = from (time_of content) (time_found content)
@@ -72,3 +75,13 @@ not_time content none = from (time_of content) (time_found content)
     from : (o : Option ℤ) → IfSome o (λ s. IsTime s content) → o ≡ None
     from (Some s) h = absurd (none s h)
     from None h = refl
+
+pub none_read : (content : List ℕ) → IfNone (time_of content) ((s : ℤ) → IsTime s content → ⊥)
+none_read content = from (time_of content) (λ s h. time_read s content h)
+  where
+    none_some : {s : ℤ} → ◌≡◌ {A = Option ℤ} None (Some s) → ⊥
+    none_some e = cc
+
+    from : (o : Option ℤ) → ((s : ℤ) → IsTime s content → o ≡ Some s) → IfNone o ((s : ℤ) → IsTime s content → ⊥)
+    from (Some s) h = tt
+    from None h = λ s time. none_some (h s time)

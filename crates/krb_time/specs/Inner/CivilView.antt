@@ -1,7 +1,7 @@
 -- What contracts see of a date-time of the code, whose fraction of a second is left out.
 use Rattle.std.specs.Prelude.{unsigned_abs}
 use Rattle.jiff_core.specs.declared.civil.datetime.DateTime.{DateTime}
-use Rattle.krb_der.specs.Time.{Civil}
+use Rattle.krb_time.specs.Time.{Civil}
 
 abbrev pub plain_civil : DateTime → Civil
 plain_civil t =

@@ -1,53 +1,13 @@
-//! Times: seconds of the years 0000 to 9999, and their texts (RFC 4120, section 5.2.3).
+//! Seconds of the calendar, and their texts.
 
-ghost use Rattle.std.specs.Prelude.{◌≡◌, ◌+◌, ◌<◌, ◌≤ℤ◌, length, pos, SomeIff, IfSome, IfNone};
+ghost use Rattle.std.specs.Prelude.{◌≡◌, ◌+◌, ◌<◌, ◌≤ℤ◌, length, pos, IfSome, IfNone};
 ghost use Rattle.jiff_core.specs.DateTime.{civil_seconds};
-ghost use Rattle.krb_der.specs.Time.{IsSeconds, IsCivil, IsTime, text_of, two};
-ghost use Rattle.krb_der.specs.Inner.CivilView.{plain_civil};
-ghost use Rattle.krb_der.specs.Computed.Clock.{pair_at, civil_of, time_of};
+ghost use Rattle.krb_time.specs.Clock.{pair_at, civil_of};
+ghost use Rattle.krb_time.specs.Inner.CivilView.{plain_civil};
+ghost use Rattle.krb_time.specs.Time.{IsCivil, text_of, two};
 
+use crate::seconds::Seconds;
 use jiff_core::civil::{Date, DateTime, Time};
-use std::marker::Model;
-
-/// A whole second of the years 0000 to 9999, counted from 1970-01-01T00:00:00Z:
-/// -62,167,219,200 to 253,402,300,799.
-#[derive(Clone, Copy, Debug, PartialEq, Eq, PartialOrd, Ord, Hash)]
-pub struct Seconds {
-    seconds: i64,
-}
-
-impl Model for Seconds {
-    ghost use Rattle.std.specs.Prelude.{ℤ};
-    ghost use Rattle.krb_der.specs.Time.{IsSeconds};
-
-    ghost Value = { ℤ };
-
-    ghost view = { λ s. s.seconds };
-
-    ghost invariant = { λ s. IsSeconds s.seconds };
-
-    ghost inverse = { λ z. record { seconds = z } };
-}
-
-impl Seconds {
-    /// Returns that second, or `None` outside the years 0000 to 9999.
-    pub fn new(seconds: i64) -> Option<Self>
-        ensures { SomeIff result (IsSeconds seconds) seconds }
-    {
-        if seconds < -62_167_219_200 || seconds > 253_402_300_799 {
-            return None;
-        }
-        Some(Seconds { seconds })
-    }
-
-    /// Returns the seconds since 1970-01-01T00:00:00Z.
-    pub fn get(self) -> i64
-        ensures value { result ≡ self }
-        ensures range { IsSeconds result }
-    {
-        self.seconds
-    }
-}
 
 /// The number that the two digits at the place are. Other bytes give some number below 100.
 fn pair(content: &[u8], at: usize) -> i8
@@ -58,7 +18,7 @@ fn pair(content: &[u8], at: usize) -> i8
 }
 
 /// The second that fourteen digits name, if the calendar has it.
-fn civil_in(content: &[u8]) -> Option<DateTime>
+pub(crate) fn civil_in(content: &[u8]) -> Option<DateTime>
     requires { length content.now ≡ 15 }
     ensures value { IfSome result (λ t. plain_civil t ≡ civil_of content.now) }
     ensures year { IfSome result (λ t. pos 0 ≤ℤ t.date.year) }
@@ -74,28 +34,11 @@ fn civil_in(content: &[u8]) -> Option<DateTime>
     Some(DateTime { date, time })
 }
 
-/// Returns the time that the content is.
-pub fn time_in(content: &[u8]) -> Option<Seconds>
-    ensures { result ≡ time_of content.now }
-{
-    if content.len() != 15 {
-        return None;
-    }
-    let civil = civil_in(content)?;
-    if content == text(civil).as_slice() {
-        Some(Seconds {
-            seconds: civil.to_second(),
-        })
-    } else {
-        None
-    }
-}
-
 /// The seconds from -9999-01-01T00:00:00Z, the first of jiff_core, to 1970-01-01T00:00:00Z.
 const EPOCH: i64 = 377_705_116_800;
 
 /// The second of the calendar that is so many seconds from 1970-01-01T00:00:00Z.
-fn civil_at(seconds: Seconds) -> DateTime
+pub(crate) fn civil_at(seconds: Seconds) -> DateTime
     ensures year { pos 0 ≤ℤ result.date.year }
     ensures value { civil_seconds result ≡ seconds }
 {
@@ -115,7 +58,7 @@ fn two(number: u8) -> [u8; 2]
 }
 
 /// The text of a second of the calendar.
-fn text(civil: DateTime) -> [u8; 15]
+pub(crate) fn text_of(civil: DateTime) -> [u8; 15]
     requires { pos 0 ≤ℤ civil.date.year }
     ensures { result ≡ text_of (plain_civil civil) }
 {
@@ -128,11 +71,4 @@ fn text(civil: DateTime) -> [u8; 15]
     let [n1, n2] = two(civil.time.minute);
     let [s1, s2] = two(civil.time.second);
     [y1, y2, y3, y4, m1, m2, d1, d2, h1, h2, n1, n2, s1, s2, b'Z']
-}
-
-/// Returns the text of a time: `YYYYMMDDHHMMSSZ`.
-pub fn text_of(seconds: Seconds) -> [u8; 15]
-    ensures { IsTime seconds result }
-{
-    text(civil_at(seconds))
 }
