@@ -109,11 +109,10 @@ def block_table(ours, blocks):
             print(f"| AES-{bits}, {way} | {time_of(it.ours)} | {time_of(it.theirs)} | {it.shown} | {time_of(slow)} | {time_of(fast)} |", flush=True)
 
 
-def sealing_row(ours, mit, way, etype, size, name, ready=False):
+def sealing_row(ours, mit, way, etype, size, name, form="to", more=""):
     count = str(max(4, 4_000_000 // (size + 2_000)))
-    word = f"{way}-ready" if ready else way
+    word = f"{way}-{form}" if form else way
     it = compared(run_of([ours, word, etype, str(size), count]), run_of([mit, way, etype, str(size), count]))
-    more = ", a prepared key" if ready else ""
     print(f"| {way}, type {etype}, {name}{more} | {time_of(it.ours)} | {time_of(it.theirs)} | {it.shown} |", flush=True)
 
 
@@ -123,7 +122,9 @@ def sealing_table(ours, mit):
         for way in ("seal", "open"):
             for size, name in SIZES:
                 sealing_row(ours, mit, way, etype, size, name)
-            sealing_row(ours, mit, way, etype, *SIZES[0], ready=True)
+            for size, name in SIZES[1:]:
+                sealing_row(ours, mit, way, etype, size, name, "", ", into memory of its own")
+            sealing_row(ours, mit, way, etype, *SIZES[0], "ready", ", a prepared key")
 
 
 def messages():

@@ -79,9 +79,9 @@ impl CCache {
 
     /// Parses the bytes of a file.
     ///
-    /// Finds a fault before it allocates memory. Then allocates memory as parts are read, and never
-    /// because of a count or a length that the bytes don't bear out. Beside the parts it holds a
-    /// copy of the bytes of one at a time. After the last credential it allocates 4 bytes or more
+    /// Finds a fault, and counts the credentials, before it allocates memory. Then allocates memory
+    /// for their list at once, and for parts as they are read, never because of a count or a length
+    /// that the bytes don't bear out. Beside the parts it holds a copy of the bytes of one at a time. After the last credential it allocates 4 bytes or more
     /// for each, for `find_server`.
     ///
     /// # Errors
@@ -111,8 +111,8 @@ impl CCache {
         ensures offset { IfErr result (λ fault.
             IfSome (offset_of fault) (λ at. at ≤ length bytes.now)) }
     {
-        check(bytes)?;
-        match CCache::read(alloc, &mut SliceSource::new(bytes)) {
+        let count = check(bytes)?;
+        match CCache::read_from(alloc, &mut SliceSource::new(bytes), count) {
             Ok(cache) => Ok(cache),
             Err(_) => Err(CacheFault::OutOfMemory),
         }
@@ -120,7 +120,7 @@ impl CCache {
 
     /// Reads a source to its end, or to one byte past 16,777,216, and parses what it gave.
     ///
-    /// Allocates memory as parts are read, as `parse` does if there is no fault.
+    /// Allocates memory as parts are read, also for the list of credentials.
     ///
     /// Condition: fewer than 18,446,744,073,709,551,615 reads of the source have failed so far.
     ///
@@ -138,13 +138,32 @@ impl CCache {
         ensures failed { S.failure_count source.new
             ≡ S.failure_count source.old + failed_reads result }
     {
+        CCache::read_from(alloc, source, 0)
+    }
+
+    // Reads a source, and allocates memory for so many credentials at once.
+    fn read_from<S: Source>(
+        alloc: Global,
+        source: &mut S,
+        expected: usize,
+    ) -> Result<CCache, CacheFault>
+        requires { S.failure_count source.old < 2 ^ 64 - 1 }
+        ensures reads { ReadsFile IsAnswerOf CacheFault.OutOfMemory CacheFault.Read
+            (S.remaining source.old) (S.remaining source.new) result }
+        ensures failed { S.failure_count source.new
+            ≡ S.failure_count source.old + failed_reads result }
+    {
         let mut window = Window::new(alloc, source);
-        let answer = CCache::read_window(alloc, &mut window);
+        let answer = CCache::read_window(alloc, &mut window, expected);
         let _source = window.into_source();
         answer
     }
 
-    fn read_window<S: Source>(alloc: Global, window: &mut Window<S>) -> Result<CCache, CacheFault>
+    fn read_window<S: Source>(
+        alloc: Global,
+        window: &mut Window<S>,
+        expected: usize,
+    ) -> Result<CCache, CacheFault>
         requires reads { S.failure_count window.old.source < 2 ^ 64 - 1 }
         requires start { window.old.given ≡ 0 }
         ensures reads { ReadsFile IsAnswerOf CacheFault.OutOfMemory CacheFault.Read
@@ -158,7 +177,7 @@ impl CCache {
             header,
             default_principal,
         } = begin(alloc, window)?;
-        let credentials = steps(alloc, layout, window)?;
+        let credentials = steps(alloc, layout, window, expected)?;
         Ok(CCache {
             header,
             default_principal,
