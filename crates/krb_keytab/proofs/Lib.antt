@@ -19,7 +19,6 @@ pub mod StandLaws
 pub mod ToldLaws
 pub mod OnePlace
 pub mod RoomLaws
-pub mod MaximaLaws
 pub mod HoleLaws
 pub mod AdderLaws
 pub mod KeyLaws

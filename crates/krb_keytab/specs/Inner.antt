@@ -2,7 +2,6 @@ pub mod Entry
 pub mod Finding
 pub mod Holes
 pub mod Index
-pub mod Maxima
 pub mod Meeting
 pub mod Pick
 pub mod Putting

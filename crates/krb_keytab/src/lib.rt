@@ -30,7 +30,6 @@ mod keytab;
 pub mod laws;
 mod layout;
 mod listed;
-mod maxima;
 mod part;
 mod pick;
 mod reader;
