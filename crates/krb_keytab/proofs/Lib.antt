@@ -1,8 +1,6 @@
 pub mod EntryLaws
 pub mod FileLaws
 pub mod PickLaws
-pub mod IndexLaws
-pub mod OnlyLaws
 pub mod AnswerLaws
 pub mod ChoiceLaws
 pub mod SomeChoice

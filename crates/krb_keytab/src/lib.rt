@@ -24,7 +24,6 @@ mod field;
 mod finding;
 mod found;
 mod holes;
-mod index;
 mod key_index;
 mod keytab;
 pub mod laws;
