@@ -1,6 +1,6 @@
 //! Finding the places of a hash.
 
-ghost use Rattle.std.specs.Prelude.{◌≡◌, ◌≢◌, ◌<◌, ◌≤◌, ◌%◌, ℕ, IfOk, MatchOption, length, min, replicate};
+ghost use Rattle.std.specs.Prelude.{◌≡◌, ◌≢◌, ◌<◌, ◌≤◌, ◌%◌, ◌^◌, ◌-◌, ℕ, IfOk, IfSome, MatchOption, length, min, replicate};
 ghost use Rattle.krb_index.specs.Inner.Buckets.{bucket_at, IsIndex, IsLinkedFrom};
 ghost use Rattle.krb_index.specs.Places.{IsFirstEqual, NoneEqual};
 
@@ -57,7 +57,10 @@ impl HashIndex {
     /// After a place that was found, the next one is found at once: `find(hash, at + 1)` begins
     /// after `at`.
     pub fn find(&self, hash: u32, from: usize) -> Option<usize>
-        ensures { MatchOption result (NoneEqual self.now hash from) (IsFirstEqual self.now hash from) }
+        ensures first { MatchOption result
+            (NoneEqual self.now hash from)
+            (IsFirstEqual self.now hash from) }
+        ensures bound { IfSome result (λ at. at < 2 ^ 64 - 1) }
     {
         let mut at = start(&self.hashes, &self.firsts, &self.nexts, hash, from);
         while at < self.hashes.len() {

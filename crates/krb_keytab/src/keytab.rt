@@ -190,9 +190,9 @@ impl Keytab {
     /// the highest number. Names are compared as by `Principal::same_name`. Decrypts nothing and
     /// allocates no memory.
     ///
-    /// If there are more than 8 entries, it looks only at those whose name has the same place in the
-    /// index. These are the entries of that name, and few others, unless the keytab's names were
-    /// chosen so that many share a place.
+    /// If there are more than 8 entries, it looks only at those whose name has the same hash, and
+    /// passes over those that share its place in the index. These are few, unless the keytab's names
+    /// were chosen so that many share a place.
     pub fn pick(&self, name: &Principal, etype: i32, kvno: Option<u32>) -> Picked<'_>
         ensures { IsPicked self.now name.now etype kvno result }
     {
