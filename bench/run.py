@@ -29,7 +29,7 @@ TOP = HERE.parent
 sys.path.append(str(TOP / "tests"))
 import msg_values as der
 
-CRATES = """krb_aes krb_cts krb_kdf krb_enc krb_time krb_der krb_gss krb_name krb_msg krb_keytab krb_ccache krb_replay krb_ap krb_c""".split()
+CRATES = """krb_aes krb_cts krb_kdf krb_enc krb_time krb_der krb_gss krb_index krb_name krb_msg krb_keytab krb_ccache krb_replay krb_ap krb_c""".split()
 # Our programs, and the crates that each stands on.
 PROGRAMS = {
     "krb_bench": "krb_aes krb_enc krb_msg krb_replay hex",

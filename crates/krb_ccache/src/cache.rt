@@ -81,8 +81,9 @@ impl CCache {
     ///
     /// Finds a fault, and counts the credentials, before it allocates memory. Then allocates memory
     /// for their list at once, and for parts as they are read, never because of a count or a length
-    /// that the bytes don't bear out. Beside the parts it holds a copy of the bytes of one at a time. After the last credential it allocates 4 bytes or more
-    /// for each, for `find_server`.
+    /// that the bytes don't bear out. Beside the parts it holds a copy of the bytes of one at a
+    /// time. After the last credential it allocates an index by server, of 20 bytes for each
+    /// credential and 8 more, for `find_server`.
     ///
     /// # Errors
     /// `OutOfMemory` if the bytes are a cache and there is no memory for a part; else the first
@@ -266,8 +267,10 @@ impl CCache {
     /// Returns the index of the first credential, from the index `from` on, whose server has the
     /// name `server`. Returns `None` if there is none. Name types aren't compared.
     ///
-    /// In a cache that was parsed or read, a name is compared only if its hash is that of `server`.
-    /// In a cache that was made by `from_parts` each is compared.
+    /// In a cache that was parsed or read, a name is compared only if its hash is that of `server`,
+    /// and finding it takes as long with many credentials as with few, unless their servers were
+    /// chosen so that many share a place in the index. In a cache that was made by `from_parts` each
+    /// is compared.
     pub fn find_server(&self, server: &Principal, from: usize) -> Option<usize>
         ensures found { IfSome result (IsFirstNamed server_of self.now.credentials server.now from) }
         ensures within { IfSome result (λ at. at < length self.now.credentials) }
