@@ -27,6 +27,7 @@ from pairs import PAIRS, compared, of_pairs, time_of
 HERE = Path(__file__).resolve().parent
 TOP = HERE.parent
 sys.path.append(str(TOP / "tests"))
+import edits
 import msg_values as der
 
 CRATES = """krb_aes krb_cts krb_kdf krb_enc krb_time krb_der krb_gss krb_index krb_name krb_msg krb_keytab krb_ccache krb_replay krb_ap krb_c""".split()
@@ -56,8 +57,28 @@ def lay_out(folder, name):
     shutil.copy(HERE / f"{name}.rt.in", crate / "src" / "main.rt")
 
 
+def is_left_by_ci(folder, name):
+    """Whether `rt ci` left the library of this crate, so that it needn't be proved and built again."""
+    left = folder / "crates" / name / "out/rlib"
+    return (left / f"{name}.rlib").exists() and not (left / "stamp").exists()
+
+
+def build_over_ci(folder, name):
+    crate, kit = edits.crates_of(str(folder))[name], Path(edits.KIT)
+    out = folder / "crates" / name / "out"
+    out.mkdir()
+    words = crate.words("out/incremental")
+    words[words.index("check")] = "build"
+    more = ["--toolchain", str(kit / "toolchain"), "--backend", "llvm", "-o", str(out / f"{name}.o")]
+    said([*words, *more], cwd=crate.folder)
+    said(["cc", str(out / f"{name}.o"), str(kit / "c/libos_c.a"), str(kit / "c/liblibc_c.a"), "-o", str(out / name)])
+
+
 def build_ours(folder, name):
     crate = folder / "crates" / name
+    if all(is_left_by_ci(folder, it) for it in edits.crates_of(str(folder))[name].below):
+        build_over_ci(folder, name)
+        return str(crate / "out" / name)
     # without words it ends with 2
     built = subprocess.run(["rt", "run"], cwd=crate, capture_output=True, text=True)
     if not (crate / "out" / name).exists():
