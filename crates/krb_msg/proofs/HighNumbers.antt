@@ -1,5 +1,5 @@
 -- Which messages have a sequence number above 2147483647.
-use Rattle.std.proofs.Common.{◌≡◌, ◌⊎◌, inl, inr, ℕ, zero, suc, ◌^◌, ◌≤◌, Option, Some, None, refl, lit≤}
+use Rattle.std.proofs.Common.{◌≡◌, ◌⊎◌, inl, inr, ℕ, zero, suc, ◌^◌, ◌≤◌, Option, Some, None, refl}
 use Rattle.std.specs.Prelude.{IsSomeAnd}
 use Rattle.krb_der.specs.Kind.{Kind, Fields, ends, must, may, each, ValueOf, FieldsOf}
 use Rattle.krb_der.specs.Numbers.{numbers_in, HasHigh, HaveHigh}
@@ -7,16 +7,6 @@ use Rattle.krb_msg.specs.Module.{IsMessageKind, is_ticket, is_authenticator, is_
 use Rattle.krb_msg.specs.Fields.{authenticator_seq_number, reply_seq_number}
 use Rattle.krb_msg.proofs.Sizes.{fields_of}
 use Rattle.krb_msg.specs.Numbers.{HasHighNumber, of_authenticator, of_reply}
-
--- a message holds one sequence number at most
-pub one_at_most : (k : Kind) → IsMessageKind k → numbers_in k ≤ 1
-one_at_most k is_ticket = lit≤ tt
-one_at_most k is_authenticator = lit≤ tt
-one_at_most k is_enc_ticket_part = lit≤ tt
-one_at_most k is_ap_req = lit≤ tt
-one_at_most k is_ap_rep = lit≤ tt
-one_at_most k is_enc_ap_rep_part = lit≤ tt
-one_at_most k is_krb_error = lit≤ tt
 
 number_is : (o : Option ℕ) → IsSomeAnd o (λ n. 2 ^ 31 ≤ n) → (n : ℕ) × (o ≡ Some n) × (2 ^ 31 ≤ n)
 number_is None h = absurd h
