@@ -1,18 +1,40 @@
--- Writing within the limit.
-use Rattle.std.proofs.Common.{◌≡◌, ℕ, ◌+◌, ◌≤◌, ltb, List, [], ◌++◌, length, take, drop, Result, Ok, Err, refl, sym, ap, subst, ◌∙◌, arith, length-append, append_assoc}
+-- What is written spells, and writing within the limit.
+use Rattle.std.proofs.Common.{◌≡◌, ℕ, ◌+◌, ◌≤◌, ltb, ℤ, List, [], ◌++◌, length, take, drop, Result, Ok, Err, refl, sym, ap, subst, ◌∙◌, arith, length-append, append_assoc}
 use Rattle.std.specs.Prelude.{OnOk, OnErr, Vec}
 use Rattle.std.proofs.lemmas.Bool.{ltb-true, ltb-false, cond_both}
 use Rattle.std.proofs.lemmas.List.{take_at, drop_at, append-nil}
 use Rattle.std.proofs.lemmas.Result.{on_ok_weaker, on_err_weaker}
 use Rattle.krb_der.specs.declared.fault.EncodeFault.{EncodeFault}
-use Rattle.krb_der.specs.Kind.{Kind, Fields, ValueOf, FieldsOf}
-use Rattle.krb_der.specs.Spells.{IsElement, IsJoined, limit}
+use Rattle.krb_der.specs.Kind.{Kind, Fields, ValueOf, FieldsOf, tag_of}
+use Rattle.krb_der.specs.Content.{Written}
+use Rattle.krb_der.specs.Whole.{IsInteger}
+use Rattle.krb_der.specs.Spells.{IsElement, IsJoined, SpellsContent, limit}
 use Rattle.krb_der.specs.Writing.{Appends, AppendsElement, Wraps, Writes, WritesFields, Encodes, IsEncoded}
 use Rattle.krb_der.specs.Inner.Limited.{limited_of, settled}
 use Rattle.krb_der.specs.Size.{element_size, fields_size, size_of}
+use Rattle.krb_der.proofs.PartLaws.{with_content}
 use Rattle.krb_der.proofs.Sizes.{HasSize, element_sized}
 use Rattle.krb_der.proofs.Spelled.{spelled_is, fields_is}
 
+pub element-map : (tag : ℕ) (P Q : List ℕ → Type 0) → ((c : List ℕ) → P c → Q c) → (bytes : List ℕ) → IsElement tag P bytes → IsElement tag Q bytes
+element-map tag P Q f bytes h = with_content h (f h.content h.content_is)
+
+pub appends-map : (P Q : List ℕ → Type 0) → ((b : List ℕ) → P b → Q b) → (old new : List ℕ) → Appends P old new → Appends Q old new
+appends-map P Q f old new h = record { bytes = h.bytes; is = f h.bytes h.is; whole = h.whole }
+
+pub writes : {E : Type 0} (k : Kind) (v : ValueOf k) (P : List ℕ → Type 0) (r : Result (Unit {0}) E) (old new : List ℕ)
+    → ((c : List ℕ) → P c → SpellsContent Written k v c) → OnOk r (Appends (IsElement (tag_of k) P) old new) → OnErr r (new ≡ old) → AppendsElement k v r old new
+writes k v P (Ok u) old new f ok kept =
+    record { ok = appends-map (IsElement (tag_of k) P) (Writes k v) (element-map (tag_of k) P (SpellsContent Written k v) f) old new ok; kept = tt }
+writes k v P (Err e) old new f ok kept = record { ok = tt; kept = kept }
+
+-- a whole number, which the code has as another term
+pub writes_whole : {E : Type 0} {old new : List ℕ} {z w : ℤ} (k : Kind) (v : ValueOf k) (r : Result (Unit {0}) E) → ((c : List ℕ) → IsInteger z c → SpellsContent Written k v c) → w ≡ z
+    → OnOk r (Appends (IsElement (tag_of k) (IsInteger w)) old new) → OnErr r (new ≡ old) → AppendsElement k v r old new
+writes_whole {old = old} {new = new} {w = w} k v r spells same ok kept =
+    writes k v (IsInteger w) r old new (λ c h. spells c (subst (λ x. IsInteger x c) same h)) ok kept
+
+-- ---- the limit
 -- what a part was appended to is what stood before it
 pub before_appended : (Part : List ℕ → Type 0) (start : ℕ) (old mid : List ℕ) → start ≡ length old → Appends Part old mid → take start mid ≡ old
 before_appended Part start old mid at a = ap (take start) a.whole ∙ take_at old a.bytes start (sym at)
