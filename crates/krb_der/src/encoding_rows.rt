@@ -55,6 +55,16 @@ impl<const TAG: u8, T: Encode> Encode for Field<TAG, T> {
     }
 }
 
+impl<R: EncodeRow> EncodeRow for &R {
+    ghost fields = { R.fields };
+
+    ghost view = { λ r. R.view r.now };
+
+    fn write_row(&self, out: &mut Writer) -> Result<(), EncodeFault> {
+        (**self).write_row(out)
+    }
+}
+
 impl EncodeRow for () {
     ghost fields = { ends };
 
@@ -66,41 +76,16 @@ impl EncodeRow for () {
     }
 }
 
-/// Writes an element with the tag around the value, and then the rest of the row.
-fn write_first<const TAG: u8, T: Encode, R: EncodeRow>(
-    value: &T,
-    rest: &R,
-    out: &mut Writer,
-) -> Result<(), EncodeFault>
-    ensures { EncodesFields (must (wrapped TAG T.kind) R.fields) (T.view value.now, R.view rest.now) result out.old out.new }
-{
-    let start = out.len();
-    Field::<TAG, _>(value).write(out)?;
-    let written = rest.write_row(out);
-    out.settle(start, written)
-}
-
 impl<const TAG: u8, T: Encode, R: EncodeRow> EncodeRow for (Field<TAG, T>, R) {
     ghost fields = { must (wrapped TAG T.kind) R.fields };
 
     ghost view = { λ r. (T.view r.0.0, R.view r.1) };
 
     fn write_row(&self, out: &mut Writer) -> Result<(), EncodeFault> {
-        write_first::<TAG, _, _>(&self.0.0, &self.1, out)
-    }
-}
-
-/// Writes an element with the tag around the value, if there is one, and then the rest of the row.
-fn write_maybe<const TAG: u8, T: Encode, R: EncodeRow>(
-    maybe: &Option<T>,
-    rest: &R,
-    out: &mut Writer,
-) -> Result<(), EncodeFault>
-    ensures { EncodesFields (may (wrapped TAG T.kind) R.fields) (option_map T.view maybe.now, R.view rest.now) result out.old out.new }
-{
-    match maybe {
-        Some(value) => write_first::<TAG, _, _>(value, rest, out),
-        None => rest.write_row(out),
+        let start = out.len();
+        self.0.write(out)?;
+        let written = self.1.write_row(out);
+        out.settle(start, written)
     }
 }
 
@@ -110,7 +95,7 @@ impl<const TAG: u8, T: Encode, R: EncodeRow> EncodeRow for (Maybe<TAG, T>, R) {
     ghost view = { λ r. (option_map T.view r.0.0, R.view r.1) };
 
     fn write_row(&self, out: &mut Writer) -> Result<(), EncodeFault> {
-        write_maybe::<TAG, _, _>(&self.0.0, &self.1, out)
+        (MaybeRef::<TAG, _>(&self.0.0), &self.1).write_row(out)
     }
 }
 
@@ -120,6 +105,9 @@ impl<const TAG: u8, T: Encode, R: EncodeRow> EncodeRow for (MaybeRef<'_, TAG, T>
     ghost view = { λ r. (option_map T.view r.0.0.now, R.view r.1) };
 
     fn write_row(&self, out: &mut Writer) -> Result<(), EncodeFault> {
-        write_maybe::<TAG, _, _>(self.0.0, &self.1, out)
+        match self.0.0 {
+            Some(value) => (Field::<TAG, _>(value), &self.1).write_row(out),
+            None => self.1.write_row(out),
+        }
     }
 }
