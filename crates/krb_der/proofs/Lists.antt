@@ -98,20 +98,18 @@ is-ok : {V : Type 0} (r : Result (List V) Fault) → IsOk r → r ≡ Ok (values
 is-ok (Ok vs) e = refl
 is-ok (Err f) e = cc
 
-sequence_is : (k : Kind) (p : Place) → element_at (sequence (each k)) p ≡ (enter_at 0x30 p >>= λ e. fields_at (each k) e.0 >>= λ vs. Ok (vs, e.1))
-unfolding element_at
-sequence_is k p = refl
-
 pub list_ok : (k : Kind) (p inside after : Place) → enter_at 0x30 p ≡ Ok (inside, after) → checked (fields_at (each k) inside) ≡ Ok tt
     → (element_at (sequence (each k)) p ≡ Ok (listed k inside, after)) × AreListed k inside
+unfolding element_at
 list_ok k p inside after e c =
     let f = checked-ok (fields_at (each k) inside) c in
-    (sequence_is k p ∙ bind_at (enter_at 0x30 p) _ (inside, after) e ∙ bind_at (fields_at (each k) inside) (λ vs. Ok (vs, after)) (listed k inside) f, ap is_ok f)
+    (bind_at (enter_at 0x30 p) _ (inside, after) e ∙ bind_at (fields_at (each k) inside) (λ vs. Ok (vs, after)) (listed k inside) f, ap is_ok f)
 
 pub list_err : (k : Kind) (p inside after : Place) (f : Fault) → enter_at 0x30 p ≡ Ok (inside, after) → checked (fields_at (each k) inside) ≡ Err f
     → element_at (sequence (each k)) p ≡ Err f
+unfolding element_at
 list_err k p inside after f e c =
-    sequence_is k p ∙ bind_at (enter_at 0x30 p) _ (inside, after) e ∙ ap (λ r. r >>= λ vs. Ok (vs, after)) (checked-err (fields_at (each k) inside) f c)
+    bind_at (enter_at 0x30 p) _ (inside, after) e ∙ ap (λ r. r >>= λ vs. Ok (vs, after)) (checked-err (fields_at (each k) inside) f c)
 
 pub listed_end : (k : Kind) (p : Place) → AreListed k p → p.rest ≡ [] → listed k p ≡ []
 listed_end k p h none =
