@@ -108,7 +108,7 @@ joined p q =
       size = p.size + q.size;
     }
 
--- with at most as many sequence numbers as are spoken of, or with more than one
+-- a part of two others; if `both` is one or none, they hold at most so many sequence numbers
 pub joined_is : {m n both : ℕ} {p q : Part} → (both ≤ 1 → m + n ≤ both) → IsPart m p → IsPart n q → IsPart both (joined p q)
 joined_is {m = m} {n = n} {both = both} {p = p} {q = q} sum is rest =
     record {
