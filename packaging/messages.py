@@ -398,12 +398,9 @@ class Message:
         """
 
     def view_calls(self):
+        said = f"Reads {self.parses} that takes up all of the bytes. Allocates no memory. Errors as of [`krb_der::parse`]."
         parse = f"""
-                /// Reads {self.parses} that takes up all of the bytes. Allocates no memory.
-                ///
-                /// # Errors
-                /// `TooLong` at offset 0 if there are more than 1,048,576 bytes. Otherwise a fault by the rules
-                /// of `krb_der`'s `specs::Fault`, at its offset.
+                {comment("/// ", said, 96)}
                 pub fn parse(bytes: &'a [u8]) -> Result<{self.view}<'a>, Fault>
                     ensures {{ Parses {self.kind} {self.view_value} result bytes.entry.now }}
                 {{
@@ -504,11 +501,7 @@ class Message:
             return ""
         return f"""
             impl {self.owned} {{
-                /// Returns the bytes of the message.
-                ///
-                /// # Errors
-                /// - `TooLong`: there would be more than 1,048,576 bytes.
-                /// - `OutOfMemory`: there is no memory.
+                /// Returns the bytes of the message. Errors as of [`krb_der::encoded`].
                 pub fn encode(&self, alloc: Global) -> Result<Vec<u8>, EncodeFault>
                     ensures {{ IsEncoded {self.kind} ({self.owned_value} self.now) result }}
                 {{
@@ -518,9 +511,9 @@ class Message:
         """
 
 
-def comment(mark, text):
+def comment(mark, text, width=100):
     """A comment, on lines that aren't too long."""
-    return textwrap.fill(text, 100, initial_indent=mark, subsequent_indent=mark, break_on_hyphens=False)
+    return textwrap.fill(text, width, initial_indent=mark, subsequent_indent=mark, break_on_hyphens=False)
 
 
 # ---- what a file uses

@@ -1,44 +1,58 @@
--- Writing within the limit.
-use Rattle.std.proofs.Common.{◌≡◌, ℕ, ◌+◌, ◌≤◌, ltb, List, [], ◌++◌, length, take, drop, Result, Ok, Err, refl, sym, ap, subst, ◌∙◌, arith, length-append, append_assoc}
+-- What is written spells, and writing within the limit.
+use Rattle.std.proofs.Common.{◌≡◌, ℕ, ◌+◌, ◌≤◌, ltb, ℤ, List, [], ◌++◌, length, take, drop, Result, Ok, Err, refl, sym, ap, subst, ◌∙◌, arith, length-append, append_assoc}
 use Rattle.std.specs.Prelude.{OnOk, OnErr, Vec}
 use Rattle.std.proofs.lemmas.Bool.{ltb-true, ltb-false, cond_both}
-use Rattle.std.proofs.lemmas.List.{take_at, drop_at, append-nil}
+use Rattle.std.proofs.lemmas.List.{take_at, take_all, drop_at}
 use Rattle.std.proofs.lemmas.Result.{on_ok_weaker, on_err_weaker}
 use Rattle.krb_der.specs.declared.fault.EncodeFault.{EncodeFault}
-use Rattle.krb_der.specs.Kind.{Kind, Fields, ValueOf, FieldsOf}
-use Rattle.krb_der.specs.Spells.{IsElement, IsJoined, limit}
+use Rattle.krb_der.specs.Kind.{Kind, Fields, ValueOf, FieldsOf, tag_of}
+use Rattle.krb_der.specs.Content.{Written}
+use Rattle.krb_der.specs.Whole.{IsInteger}
+use Rattle.krb_der.specs.Spells.{IsElement, IsJoined, SpellsContent, limit}
 use Rattle.krb_der.specs.Writing.{Appends, AppendsElement, Wraps, Writes, WritesFields, Encodes, IsEncoded}
 use Rattle.krb_der.specs.Inner.Limited.{limited_of, settled}
 use Rattle.krb_der.specs.Size.{element_size, fields_size, size_of}
+use Rattle.krb_der.proofs.PartLaws.{with_content}
 use Rattle.krb_der.proofs.Sizes.{HasSize, element_sized}
 use Rattle.krb_der.proofs.Spelled.{spelled_is, fields_is}
 
+pub element-map : (tag : ℕ) (P Q : List ℕ → Type 0) → ((c : List ℕ) → P c → Q c) → (bytes : List ℕ) → IsElement tag P bytes → IsElement tag Q bytes
+element-map tag P Q f bytes h = with_content h (f h.content h.content_is)
+
+pub appends-map : (P Q : List ℕ → Type 0) → ((b : List ℕ) → P b → Q b) → (old new : List ℕ) → Appends P old new → Appends Q old new
+appends-map P Q f old new h = record { bytes = h.bytes; is = f h.bytes h.is; whole = h.whole }
+
+pub writes : {E : Type 0} (k : Kind) (v : ValueOf k) (P : List ℕ → Type 0) (r : Result (Unit {0}) E) (old new : List ℕ)
+    → ((c : List ℕ) → P c → SpellsContent Written k v c) → OnOk r (Appends (IsElement (tag_of k) P) old new) → OnErr r (new ≡ old) → AppendsElement k v r old new
+writes k v P (Ok u) old new f ok kept =
+    record { ok = appends-map (IsElement (tag_of k) P) (Writes k v) (element-map (tag_of k) P (SpellsContent Written k v) f) old new ok; kept = tt }
+writes k v P (Err e) old new f ok kept = record { ok = tt; kept = kept }
+
+-- a whole number, which the code has as another term
+pub writes_whole : {E : Type 0} {old new : List ℕ} {z w : ℤ} (k : Kind) (v : ValueOf k) (r : Result (Unit {0}) E) → ((c : List ℕ) → IsInteger z c → SpellsContent Written k v c) → w ≡ z
+    → OnOk r (Appends (IsElement (tag_of k) (IsInteger w)) old new) → OnErr r (new ≡ old) → AppendsElement k v r old new
+writes_whole {old = old} {new = new} {w = w} k v r spells same ok kept =
+    writes k v (IsInteger w) r old new (λ c h. spells c (subst (λ x. IsInteger x c) same h)) ok kept
+
+-- ---- the limit
 -- what a part was appended to is what stood before it
 pub before_appended : (Part : List ℕ → Type 0) (start : ℕ) (old mid : List ℕ) → start ≡ length old → Appends Part old mid → take start mid ≡ old
 before_appended Part start old mid at a = ap (take start) a.whole ∙ take_at old a.bytes start (sym at)
 
-before_same : (start : ℕ) (old mid : List ℕ) → start ≡ length old → mid ≡ old → take start mid ≡ old
-before_same start old mid at e = ap (take start) (e ∙ sym (append-nil old)) ∙ take_at old [] start (sym at)
-
 -- what was written from start on, and the limit
-limited_at : {E : Type 0} (Part : List ℕ → Type 0) (size : ℕ) → HasSize Part size → (written : Result (Unit {0}) E) (start : ℕ) (old mid : List ℕ)
-    → start ≡ length old → OnOk written (Appends Part old mid) → OnErr written (take start mid ≡ old)
-    → Encodes Part size (limited_of written mid) old (settled (limited_of written mid) start mid)
-limited_at Part size sized (Err e) start old mid at a kept =
-    record { ok = tt; too_long = λ t. absurd cc; kept = kept }
-limited_at Part size sized (Ok u) start old mid at a kept =
-    cond_both (ltb limit (length mid)) _ _ (λ r. Encodes Part size r old (settled r start mid))
+pub encodes-limited : {E : Type 0} (Part : List ℕ → Type 0) (size : ℕ) → HasSize Part size → (written : Result (Unit {0}) E) (r : Result (Unit {0}) EncodeFault) (start : ℕ) (old mid new : List ℕ)
+    → start ≡ length old → OnOk written (Appends Part old mid) → OnErr written (take start mid ≡ old) → r ≡ limited_of written mid → new ≡ settled r start mid
+    → Encodes Part size r old new
+encodes-limited Part size sized (Err e) r start old mid new at a kept l n = rw (n, l) (record { ok = tt; too_long = λ t. absurd cc; kept = kept })
+encodes-limited Part size sized (Ok u) r start old mid new at a kept l n =
+    rw (n, l)
+    (cond_both (ltb limit (length mid)) _ _ (λ r. Encodes Part size r old (settled r start mid))
     (λ long. record {
       ok = tt;
       too_long = λ t. omega (arith, ltb-true limit (length mid) long, ap length a.whole, length-append old a.bytes, sized a.bytes a.is);
       kept = before_appended Part start old mid at a;
     })
-    (λ fits. record { ok = (a, ltb-false limit (length mid) fits); too_long = λ t. absurd cc; kept = tt })
-
-pub encodes-limited : {E : Type 0} (Part : List ℕ → Type 0) (size : ℕ) → HasSize Part size → (written : Result (Unit {0}) E) (r : Result (Unit {0}) EncodeFault) (start : ℕ) (old mid new : List ℕ)
-    → start ≡ length old → OnOk written (Appends Part old mid) → OnErr written (take start mid ≡ old) → r ≡ limited_of written mid → new ≡ settled r start mid
-    → Encodes Part size r old new
-encodes-limited Part size sized written r start old mid new at a kept l n = rw (n, l) (limited_at Part size sized written start old mid at a kept)
+    (λ fits. record { ok = (a, ltb-false limit (length mid) fits); too_long = λ t. absurd cc; kept = tt }))
 
 pub value_size : (k : Kind) (v : ValueOf k) → HasSize (Writes k v) (size_of k v)
 value_size k v = (spelled_is k v).sized
@@ -46,7 +60,8 @@ value_size k v = (spelled_is k v).sized
 pub encodes_leaf : {E : Type 0} {written : Result (Unit {0}) E} {r : Result (Unit {0}) EncodeFault} {start : ℕ} {old mid new : List ℕ} (k : Kind) (v : ValueOf k)
     → start ≡ length old → AppendsElement k v written old mid → r ≡ limited_of written mid → new ≡ settled r start mid → Encodes (Writes k v) (size_of k v) r old new
 encodes_leaf {written = written} {r = r} {start = start} {old = old} {mid = mid} {new = new} k v at w l n =
-    encodes-limited (Writes k v) (size_of k v) (value_size k v) written r start old mid new at w.ok (on_err_weaker written (before_same start old mid at) w.kept) l n
+    encodes-limited (Writes k v) (size_of k v) (value_size k v) written r start old mid new at w.ok
+    (on_err_weaker written (λ same. ap (take start) same ∙ take_all start old (omega (arith, at))) w.kept) l n
 
 -- ---- an element round what was written
 wrapped-appends : (tag start : ℕ) (Part : List ℕ → Type 0) (old mid new : List ℕ) → start ≡ length old → Appends Part old mid → Wraps tag start mid new → Appends (IsElement tag Part) old new
@@ -77,26 +92,28 @@ pub row_size : (fs : Fields) (v : FieldsOf fs) → HasSize (WritesFields fs v) (
 row_size fs v = (fields_is fs v).sized
 
 -- ---- one part and then others: mid has the first, end what the call for the others left
-joined_at : (First Rest : List ℕ → Type 0) (size others : ℕ) → HasSize First size → (written : Result (Unit {0}) EncodeFault) (start : ℕ) (old mid end : List ℕ)
-    → start ≡ length old → Appends First old mid → Encodes Rest others written mid end → Encodes (IsJoined First Rest) (size + others) written old (settled written start end)
-joined_at First Rest size others sized (Ok u) start old mid end at a e =
+pub encodes-joined : {First Rest : List ℕ → Type 0} {size others : ℕ} {written r : Result (Unit {0}) EncodeFault} {start : ℕ} {old mid end new : List ℕ} → HasSize First size
+    → start ≡ length old → Appends First old mid → Encodes Rest others written mid end → r ≡ written → new ≡ settled r start end → Encodes (IsJoined First Rest) (size + others) r old new
+encodes-joined {written = Ok u} {old = old} sized at a e same n =
     let b = e.ok.0 in
-    let both : Appends (IsJoined First Rest) old end = record {
-      bytes = a.bytes ++ b.bytes;
-      is = record { front = a.bytes; back = b.bytes; first = a.is; rest = b.is; whole = refl };
-      whole = b.whole ∙ ap (λ (l : List ℕ). l ++ b.bytes) a.whole ∙ append_assoc old a.bytes b.bytes;
-    } in
-    record { ok = (both, e.ok.1); too_long = λ t. absurd cc; kept = tt }
-joined_at First Rest size others sized (Err f) start old mid end at a e =
-    record {
+    rw (n, same) (record {
+      ok = (
+        record {
+          bytes = a.bytes ++ b.bytes;
+          is = record { front = a.bytes; back = b.bytes; first = a.is; rest = b.is; whole = refl };
+          whole = b.whole ∙ ap (λ (l : List ℕ). l ++ b.bytes) a.whole ∙ append_assoc old a.bytes b.bytes;
+        },
+        e.ok.1,
+      );
+      too_long = λ t. absurd cc;
+      kept = tt;
+    })
+encodes-joined {First = First} {written = Err f} {start = start} {old = old} {mid = mid} sized at a e same n =
+    rw (n, same) (record {
       ok = tt;
       too_long = λ t. omega (arith, e.too_long t, ap length a.whole, length-append old a.bytes, sized a.bytes a.is);
       kept = ap (take start) e.kept ∙ before_appended First start old mid at a;
-    }
-
-pub encodes-joined : {First Rest : List ℕ → Type 0} {size others : ℕ} {written r : Result (Unit {0}) EncodeFault} {start : ℕ} {old mid end new : List ℕ} → HasSize First size
-    → start ≡ length old → Appends First old mid → Encodes Rest others written mid end → r ≡ written → new ≡ settled r start end → Encodes (IsJoined First Rest) (size + others) r old new
-encodes-joined sized at a e same n = rw (n, same) (joined_at _ _ _ _ sized _ _ _ _ _ at a e)
+    })
 
 -- ---- a whole message, from nothing
 pub encoded_ok : {Z : Type 0} (k : Kind) (v : ValueOf k) (made : Vec ℕ Z) (old new : List ℕ) → old ≡ [] → Appends (Writes k v) old new → length new ≤ limit → made.items ≡ new

@@ -5,19 +5,14 @@ use Rattle.std.proofs.lemmas.Nat.Bits.{bit_at-pow_same, bit_at-pow_other}
 use Rattle.std.proofs.lemmas.Bool.{cases_eq}
 use Rattle.krb_der.specs.Flags.{HasBit, weight}
 
-set_is : (b n : ℕ) → b < 32 → HasBit (weight b) n → n ≡ b
-set_is b n small has =
-    elim (cases_eq n b) [
-      | inl same ↦ same
-      | inr other ↦ absurd (omega (arith, has.1, bit_at-pow_other (31 - b) (31 - n) (λ e. other (omega (arith, e, small, has.0)))))
-    ]
-
-is_set : (b n : ℕ) → b < 32 → n ≡ b → HasBit (weight b) n
-is_set b n small same =
-    (omega (arith, small, same), subst (λ k. weight b / weight k % 2 ≡ 1) (sym same) (bit_at-pow_same (31 - b)))
-
 pub only_flag : (b n : ℕ) → b < 32 → HasBit (weight b) n ↔ ((n ≡ b) × (n < 32))
-only_flag b n small = ((λ has. (set_is b n small has, has.0)), λ e. is_set b n small e.0)
+only_flag b n small = (
+  λ has. elim (cases_eq n b) [
+    | inl same ↦ (same, has.0)
+    | inr other ↦ absurd (omega (arith, has.1, bit_at-pow_other (31 - b) (31 - n) (λ e. other (omega (arith, e, small, has.0)))))
+  ],
+  λ is. (is.1, subst (λ k. weight b / weight k % 2 ≡ 1) (sym is.0) (bit_at-pow_same (31 - b))),
+)
 
 -- the number as it is computed
 pub shifted : (b : ℕ) → 1 * 2 ^ (31 - b) % 2 ^ 32 ≡ weight b

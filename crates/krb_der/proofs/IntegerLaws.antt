@@ -58,9 +58,6 @@ redundant-turned [] h = refl
 redundant-turned (a ∷ []) h = refl
 redundant-turned (a ∷ b ∷ bytes) h = grind (arith, nat_tests, h.0, h.1.0)
 
-redundant_turned : (content : List ℕ) → AreBytes content → IsShortest (turned content) → is_redundant content ≡ false
-redundant_turned content h s = sym (redundant-turned content h) ∙ not_redundant (turned content) s
-
 negative_turned : (content : List ℕ) → IsShortest (turned content) → is_negative content ≡ true
 negative_turned [] s = absurd s
 negative_turned (a ∷ []) s = le-leb 128 a (omega (arith, s))
@@ -75,7 +72,7 @@ negative_value a b m e = omega (arith, ints)
 
 pub negative_read : (m : ℕ) (content : List ℕ) → IsInteger (negsuc m) content → m < 2 ^ 39 → whole_of content ≡ Some (negsuc m)
 negative_read m content h lt =
-    whole_of-some content true (redundant_turned content h.0 h.1.shortest) h.0 (omega (arith, natural_few m (turned content) h.1 lt, length-turned content)) (negative_turned content h.1.shortest)
+    whole_of-some content true (sym (redundant-turned content h.0) ∙ not_redundant (turned content) h.1.shortest) h.0 (omega (arith, natural_few m (turned content) h.1 lt, length-turned content)) (negative_turned content h.1.shortest)
     ∙ ap Some (negative_value (number content) (256 ^ length content) m (omega (arith, number-turned content h.0, h.1.value)))
 
 -- ---- what is read is spelled

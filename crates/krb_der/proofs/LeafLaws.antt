@@ -29,17 +29,13 @@ integer_made : (z : ℤ) → FitsSigned w32 z → (content : List ℕ) × (FitsS
 integer_made (pos n) fits = (_, (fits, integer_be (pos n) (omega (arith, ints, fits))))
 integer_made (negsuc m) fits = (_, (fits, integer_be (negsuc m) (omega (arith, ints, fits))))
 
--- n with a content, if it is below a bound that is at most 2^32
-natural_made : (bound n : ℕ) → bound ≤ 2 ^ 32 → n < bound → (content : List ℕ) × ((n < bound) × IsNatural n content)
-natural_made bound n small lt = (_, (lt, integer_be (pos n) (omega (arith, ints, lt, small))))
-
 natural_is : (bound : ℕ) → bound ≤ 2 ^ 32 → IsLeaf (natural_leaf bound) (λ content. whole_of content >>? natural_below bound)
 natural_is bound small =
     record {
       found = below_found bound;
       only = λ n content h. below_only bound n content (omega (arith, small)) h;
       is = λ n. plain_is (λ a b h k. natural_unique n a b (omega (arith, small, h.0)) h.1 k.1) (λ content h. h.0)
-          (λ content h. natural_sized n content h.1 (omega (arith, small, h.0))) (λ lt. natural_made bound n small lt);
+          (λ content h. natural_sized n content h.1 (omega (arith, small, h.0))) (λ lt. (_, (lt, integer_be (pos n) (omega (arith, ints, lt, small)))));
     }
 
 bytes_is : (tag : ℕ) → IsLeaf (bytes_leaf tag) Some
@@ -50,26 +46,18 @@ bytes_is tag =
       is = λ v. plain_is (λ a b h k. h ∙ sym k) (λ content h. tt) (λ content h. ap length h) (λ fits. (v, refl));
     }
 
-number_either : (n : ℕ) (content : List ℕ) → IsSeqNumber n content → IsUnsigned n content ⊎ (IsNegative n content × (2 ^ 31 ≤ n))
-number_either n content (inl h) = inl h
-number_either n content (inr h) = inr (h, h.0)
-
-number_fits : (n : ℕ) (content : List ℕ) → IsSeqNumber n content → n < 2 ^ 32
-number_fits n content (inl h) = h.0
-number_fits n content (inr h) = h.1
-
 number_part : (n : ℕ) → IsPart 1 (leaf_part (leaf_of seq_number) n)
 number_part n =
     let plain = (natural_is (2 ^ 32) (lit≤ tt)).is n in
     record {
       one = plain.one;
       one_negative = λ a b h k. integer_unique (pos n -ℤ pos (2 ^ 32)) a b (omega (arith, ints, h.0, h.1)) h.2 k.2;
-      fits = number_fits n;
+      fits = λ content h. elim h [ inl k ↦ k.0 | inr k ↦ k.1 ];
       sized = plain.sized;
       made = plain.made;
       written = λ content h. inl h;
       negative = λ content h. inr h;
-      either = λ few. number_either n;
+      either = λ few content h. elim h [ inl k ↦ inl k | inr k ↦ inr (k, k.0) ];
       same = λ none content h. absurd (omega (arith, none));
       none = λ none h. omega (arith, none);
     }
@@ -85,12 +73,7 @@ is_leaf uint32 = natural_is (2 ^ 32) (lit≤ tt)
 is_leaf seq_number = record { found = seq_number_found; only = seq_number_only; is = number_part }
 is_leaf microseconds = natural_is 1_000_000 (lit≤ tt)
 is_leaf (constant n) =
-    record {
-      found = constant_found n;
-      only = constant_only n;
-      is = λ v. plain_is (λ a b h k. natural_unique n a b (omega (arith, h.0)) h.1 k.1) (λ content h. h.0)
-          (λ content h. natural_sized n content h.1 (omega (arith, h.0))) (λ lt. natural_made (2 ^ 32) n (lit≤ tt) lt);
-    }
+    record { found = constant_found n; only = constant_only n; is = λ v. (natural_is (2 ^ 32) (lit≤ tt)).is n }
 is_leaf octets = bytes_is 0x04
 is_leaf string = bytes_is 0x1b
 is_leaf flags =

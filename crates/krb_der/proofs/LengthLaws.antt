@@ -53,17 +53,14 @@ long_of-ok count bytes n rest enough are first digits behind big =
     let big' : 128 ≤ number (take count bytes) = omega (arith, digits) in
     rw (digits, behind, le-ltb (length bytes) count enough, are_bytes-true (take count bytes) are, first, le-leb 128 (number (take count bytes)) big') refl
 
-length_of-short : (n : ℕ) (rest : List ℕ) → n < 128 → length_of (n ∷ rest) ≡ Ok (n, rest)
-unfolding length_of
-length_of-short n rest lt = rw (lt-ltb n 0x80 lt) refl
-
 length_of-long : (count : ℕ) (bytes : List ℕ) → 1 ≤ count → count ≤ 4 → length_of ((0x80 + count) ∷ bytes) ≡ long_of count bytes
 unfolding length_of
 length_of-long count bytes some four = grind (arith, nat_tests)
 
 -- ---- what is spelled is read
 pub length_of-spelled : (n : ℕ) (size rest : List ℕ) → IsLength n size → length_of (size ++ rest) ≡ Ok (n, rest)
-length_of-spelled n size rest (short lt e) = ap (λ (s : List ℕ). length_of (s ++ rest)) e ∙ length_of-short n rest lt
+unfolding length_of
+length_of-spelled n size rest (short lt e) = ap (λ (s : List ℕ). length_of (s ++ rest)) e ∙ rw (lt-ltb n 0x80 lt) refl
 length_of-spelled n size rest (long ds w four are first' big value) =
     let some : 1 ≤ length ds = digits_nonempty ds n value big in
     ap (λ (s : List ℕ). length_of (s ++ rest)) w ∙ length_of-long (length ds) (ds ++ rest) some four
@@ -88,14 +85,12 @@ no_value d x e = cc
 pub same_error : {A E : Type 0} (c d : E) → ◌≡◌ {A = Result A E} (Err c) (Err d) → c ≡ d
 same_error c d e = cc
 
-are_length-true : (digits : List ℕ) → AreBytes digits → begins 0 digits ≡ false → 128 ≤ number digits → are_length digits ≡ true
-are_length-true digits are first big = rw (are_bytes-true digits are, first, le-leb 0x80 (number digits) big) refl
-
 not_long : (count : ℕ) (digits : List ℕ) → are_length digits ≡ false → (n : ℕ) → IsLength n ((0x80 + count) ∷ digits) → ⊥
 not_long count digits bad n (short lt e) = let same : 0x80 + count ≡ n = cc in omega arith
 not_long count digits bad n (long ds w four are first big value) =
     let same : digits ≡ ds = cc in
-    let good = are_length-true ds are first (omega (arith, value)) in
+    let high : 0x80 ≤ number ds = omega (arith, value) in
+    let good : are_length ds ≡ true = rw (are_bytes-true ds are, first, le-leb 0x80 (number ds) high) refl in
     true≢false (sym good ∙ ap are_length (sym same) ∙ bad)
 
 long_out : (count : ℕ) (bytes : List ℕ) → 1 ≤ count → count ≤ 4 → LengthOut ((0x80 + count) ∷ bytes) (long_of count bytes)

@@ -11,7 +11,6 @@ pub mod Outcomes
 pub mod Reading
 pub mod HeadLaws
 pub mod ShortestLaws
-pub mod WriteLaws
 pub mod Messages
 pub mod EncodeLaws
 pub mod Lists

@@ -1,5 +1,5 @@
 -- One element after another: reading the first and then the others, as a whole, and one by one.
-use Rattle.std.proofs.Common.{◌≡◌, ◌⊎◌, inl, inr, ℕ, zero, suc, ◌<◌, ◌≤◌, List, [], ◌∷◌, length, Result, Ok, Err, refl, sym, ap, ◌∙◌, arith, length-append}
+use Rattle.std.proofs.Common.{◌≡◌, ◌≢◌, ◌⊎◌, inl, inr, ℕ, zero, suc, ◌<◌, ◌≤◌, List, [], ◌∷◌, length, Result, Ok, Err, refl, sym, ap, ◌∙◌, arith, length-append}
 use Rattle.std.specs.Prelude.{IsOk, is_ok}
 use Rattle.std.proofs.Math.Nat.{le_refl}
 use Rattle.krb_der.specs.declared.fault.Fault.{Fault}
@@ -23,6 +23,14 @@ checked_more : {V : Type 0} (v : V) (r : Result (List V) Fault) → checked (r >
 checked_more v (Ok xs) = refl
 checked_more v (Err f) = refl
 
+none_or_more : (l : List ℕ) → (l ≡ []) ⊎ (l ≢ [])
+none_or_more [] = inl refl
+none_or_more (b ∷ bytes) = inr (λ e. cc)
+
+is_more : (l : List ℕ) → l ≢ [] → (b : ℕ) × (bytes : List ℕ) × (l ≡ b ∷ bytes)
+is_more [] some = absurd (some refl)
+is_more (b ∷ bytes) some = (b, bytes, refl)
+
 module _ (k : Kind) where
   -- each takes at least a byte
   pub element_at_shrinks : (p : Place) (v : ValueOf k) (q : Place) → element_at k p ≡ Ok (v, q) → length q.rest < length p.rest
@@ -45,41 +53,34 @@ module _ (k : Kind) where
   unfolding fields_at
   list_nil p w = ap (λ (l : List ℕ). each_from (element_at k) (length l) p l) w
 
-  list_more : (p : Place) (b : ℕ) (bytes : List ℕ) → p.rest ≡ b ∷ bytes
-      → fields_at (each k) p ≡ (element_at k p >>= λ x. fields_at (each k) x.1 >>= λ xs. Ok (x.0 ∷ xs))
+  list_more : (p : Place) → p.rest ≢ [] → fields_at (each k) p ≡ (element_at k p >>= λ x. fields_at (each k) x.1 >>= λ xs. Ok (x.0 ∷ xs))
   unfolding fields_at
-  list_more p b bytes w =
-      ap (λ (l : List ℕ). each_from (element_at k) (length l) p l) w
+  list_more p some =
+      let m = is_more p.rest some in
+      ap (λ (l : List ℕ). each_from (element_at k) (length l) p l) m.2
       ∙ bind_same (element_at k p) _ _ (λ x e. ap (λ (r : Result (List (ValueOf k)) Fault). r >>= λ xs. Ok (x.0 ∷ xs))
-      (each_fuel (length bytes) (length x.1.rest) x.1 x.1.rest refl
-      (omega (arith, element_at_shrinks p x.0 x.1 e, ap length w)) (le_refl (length x.1.rest))))
+      (each_fuel (length m.1) (length x.1.rest) x.1 x.1.rest refl
+      (omega (arith, element_at_shrinks p x.0 x.1 e, ap length m.2)) (le_refl (length x.1.rest))))
 
   pub list_step : (p : Place) (v : ValueOf k) (q : Place) → element_at k p ≡ Ok (v, q) → checked (fields_at (each k) q) ≡ checked (fields_at (each k) p)
-  list_step p v q e = by p.rest refl
-    where
-      by : (bytes : List ℕ) → p.rest ≡ bytes → checked (fields_at (each k) q) ≡ checked (fields_at (each k) p)
-      by [] w = absurd (omega (arith, element_at_shrinks p v q e, ap length w))
-      by (b ∷ bytes) w = sym (ap checked (list_more p b bytes w ∙ bind_at (element_at k p) _ (v, q) e) ∙ checked_more v (fields_at (each k) q))
+  list_step p v q e =
+      let some : p.rest ≢ [] = λ w. absurd (omega (arith, element_at_shrinks p v q e, ap length w)) in
+      sym (ap checked (list_more p some ∙ bind_at (element_at k p) _ (v, q) e) ∙ checked_more v (fields_at (each k) q))
 
-  pub list_fault : (p : Place) (f : Fault) → element_at k p ≡ Err f → 1 ≤ length p.rest → checked (fields_at (each k) p) ≡ Err f
-  list_fault p f e some = by p.rest refl
-    where
-      by : (bytes : List ℕ) → p.rest ≡ bytes → checked (fields_at (each k) p) ≡ Err f
-      by [] w = absurd (omega (arith, some, ap length w))
-      by (b ∷ bytes) w = ap checked (list_more p b bytes w ∙ ap (λ r. r >>= λ x. fields_at (each k) x.1 >>= λ xs. Ok (x.0 ∷ xs)) e)
+  pub list_fault : (p : Place) (f : Fault) → element_at k p ≡ Err f → p.rest ≢ [] → checked (fields_at (each k) p) ≡ Err f
+  list_fault p f e some = ap checked (list_more p some ∙ ap (λ r. r >>= λ x. fields_at (each k) x.1 >>= λ xs. Ok (x.0 ∷ xs)) e)
 
   -- what is read is nothing, or one element and the others
   pub list_next : (p : Place) (vs : List (ValueOf k)) → fields_at (each k) p ≡ Ok vs
       → ((p.rest ≡ []) × (vs ≡ [])) ⊎ ((v : ValueOf k) × (q : Place) × (ws : List (ValueOf k)) × (vs ≡ v ∷ ws) × (element_at k p ≡ Ok (v, q)) × (fields_at (each k) q ≡ Ok ws))
-  list_next p vs e = by p.rest refl
-    where
-      by : (bytes : List ℕ) → p.rest ≡ bytes
-          → ((p.rest ≡ []) × (vs ≡ [])) ⊎ ((v : ValueOf k) × (q : Place) × (ws : List (ValueOf k)) × (vs ≡ v ∷ ws) × (element_at k p ≡ Ok (v, q)) × (fields_at (each k) q ≡ Ok ws))
-      by [] w = inl (w, same_ok {E = Fault} vs [] (sym e ∙ list_nil p w))
-      by (b ∷ bytes) w =
-          let f = bind_ok (element_at k p) (λ x. fields_at (each k) x.1 >>= λ xs. Ok (x.0 ∷ xs)) vs (sym (list_more p b bytes w) ∙ e) in
-          let g = bind_ok (fields_at (each k) f.0.1) (λ xs. Ok (f.0.0 ∷ xs)) vs f.2 in
-          inr (f.0.0, f.0.1, g.0, sym (same_ok {E = Fault} (f.0.0 ∷ g.0) vs g.2), f.1, g.1)
+  list_next p vs e =
+      elim (none_or_more p.rest) [
+        | inl none ↦ inl (none, same_ok {E = Fault} vs [] (sym e ∙ list_nil p none))
+        | inr some ↦
+            let f = bind_ok (element_at k p) (λ x. fields_at (each k) x.1 >>= λ xs. Ok (x.0 ∷ xs)) vs (sym (list_more p some) ∙ e) in
+            let g = bind_ok (fields_at (each k) f.0.1) (λ xs. Ok (f.0.0 ∷ xs)) vs f.2 in
+            inr (f.0.0, f.0.1, g.0, sym (same_ok {E = Fault} (f.0.0 ∷ g.0) vs g.2), f.1, g.1)
+      ]
 
   pub list_end : (p : Place) → p.rest ≡ [] → checked (fields_at (each k) p) ≡ Ok tt
   list_end p w = ap checked (list_nil p w)
@@ -97,20 +98,18 @@ is-ok : {V : Type 0} (r : Result (List V) Fault) → IsOk r → r ≡ Ok (values
 is-ok (Ok vs) e = refl
 is-ok (Err f) e = cc
 
-sequence_is : (k : Kind) (p : Place) → element_at (sequence (each k)) p ≡ (enter_at 0x30 p >>= λ e. fields_at (each k) e.0 >>= λ vs. Ok (vs, e.1))
-unfolding element_at
-sequence_is k p = refl
-
 pub list_ok : (k : Kind) (p inside after : Place) → enter_at 0x30 p ≡ Ok (inside, after) → checked (fields_at (each k) inside) ≡ Ok tt
     → (element_at (sequence (each k)) p ≡ Ok (listed k inside, after)) × AreListed k inside
+unfolding element_at
 list_ok k p inside after e c =
     let f = checked-ok (fields_at (each k) inside) c in
-    (sequence_is k p ∙ bind_at (enter_at 0x30 p) _ (inside, after) e ∙ bind_at (fields_at (each k) inside) (λ vs. Ok (vs, after)) (listed k inside) f, ap is_ok f)
+    (bind_at (enter_at 0x30 p) _ (inside, after) e ∙ bind_at (fields_at (each k) inside) (λ vs. Ok (vs, after)) (listed k inside) f, ap is_ok f)
 
 pub list_err : (k : Kind) (p inside after : Place) (f : Fault) → enter_at 0x30 p ≡ Ok (inside, after) → checked (fields_at (each k) inside) ≡ Err f
     → element_at (sequence (each k)) p ≡ Err f
+unfolding element_at
 list_err k p inside after f e c =
-    sequence_is k p ∙ bind_at (enter_at 0x30 p) _ (inside, after) e ∙ ap (λ r. r >>= λ vs. Ok (vs, after)) (checked-err (fields_at (each k) inside) f c)
+    bind_at (enter_at 0x30 p) _ (inside, after) e ∙ ap (λ r. r >>= λ vs. Ok (vs, after)) (checked-err (fields_at (each k) inside) f c)
 
 pub listed_end : (k : Kind) (p : Place) → AreListed k p → p.rest ≡ [] → listed k p ≡ []
 listed_end k p h none =

@@ -30,21 +30,6 @@ pub record IsPart (numbers : ℕ) (p : Part) : Type 0 where
   pub same : numbers ≡ 0 → (bytes : List ℕ) → p.Reads bytes → p.Writes bytes × p.Negative bytes
   pub none : numbers ≡ 0 → p.IsHigh → ⊥
 
-pub fewer : {m n : ℕ} {p : Part} → (n ≤ 1 → m ≤ n) → IsPart m p → IsPart n p
-fewer less is =
-    record {
-      one = is.one;
-      one_negative = is.one_negative;
-      fits = is.fits;
-      sized = is.sized;
-      made = is.made;
-      written = is.written;
-      negative = is.negative;
-      either = λ few. is.either (omega (arith, less few, few));
-      same = λ none. is.same (omega (arith, less (omega (arith, none)), none));
-      none = λ none. is.none (omega (arith, less (omega (arith, none)), none));
-    }
-
 -- ---- a part that is read as it is written
 abbrev pub plain_part : (List ℕ → Type 0) → Type 0 → ℕ → Part
 plain_part Is Fits size = record { Reads = Is; Writes = Is; Negative = Is; Fits = Fits; IsHigh = ⊥; size = size }
@@ -79,11 +64,6 @@ element_unique tag P one a b h k =
     let size = IsLength-unique (length k.content) h.size k.size (subst (λ l. IsLength (length l) h.size) content h.length_is) k.length_is in
     h.whole ∙ ap (λ (s : List ℕ). tag ∷ (s ++ h.content)) size ∙ ap (λ (c : List ℕ). tag ∷ (k.size ++ c)) content ∙ sym k.whole
 
-element_made : (tag : ℕ) (P : List ℕ → Type 0) (content : List ℕ) → P content → length content < 2 ^ 32 → (bytes : List ℕ) × IsElement tag P bytes
-element_made tag P content is lt =
-    let head = head_is 0 (length content) lt in
-    (tag ∷ (head.size ++ content), record { size = head.size; content = content; length_is = head.length_is; content_is = is; whole = refl })
-
 abbrev pub element : ℕ → Part → Part
 element tag p =
     record p { Reads = IsElement tag p.Reads; Writes = IsElement tag p.Writes; Negative = IsElement tag p.Negative; size = element_size p.size }
@@ -95,7 +75,10 @@ element_is {p = p} tag is =
       one_negative = element_unique tag p.Negative is.one_negative;
       fits = λ bytes h. is.fits h.content h.content_is;
       sized = element_sized tag p.Writes p.size is.sized;
-      made = λ f small. let c = is.made f (omega (arith, small)) in element_made tag p.Writes c.0 c.1 (omega (arith, is.sized c.0 c.1, small));
+      made = λ f small.
+          let c = is.made f (omega (arith, small)) in
+          let head = head_is tag (length c.0) (omega (arith, is.sized c.0 c.1, small)) in
+          (tag ∷ (head.size ++ c.0), record { size = head.size; content = c.0; length_is = head.length_is; content_is = c.1; whole = refl });
       written = λ bytes h. with_content h (is.written h.content h.content_is);
       negative = λ bytes h. with_content h (is.negative h.content h.content_is);
       either = λ few bytes h. elim (is.either few h.content h.content_is) [
@@ -125,8 +108,9 @@ joined p q =
       size = p.size + q.size;
     }
 
-pub joined_is : {m n : ℕ} {p q : Part} → IsPart m p → IsPart n q → IsPart (m + n) (joined p q)
-joined_is {m = m} {n = n} {p = p} {q = q} is rest =
+-- a part of two others; if `both` is one or none, they hold at most so many sequence numbers
+pub joined_is : {m n both : ℕ} {p q : Part} → (both ≤ 1 → m + n ≤ both) → IsPart m p → IsPart n q → IsPart both (joined p q)
+joined_is {m = m} {n = n} {both = both} {p = p} {q = q} sum is rest =
     record {
       one = joined_unique p.Writes q.Writes is.one rest.one;
       one_negative = joined_unique p.Negative q.Negative is.one_negative rest.one_negative;
@@ -141,23 +125,29 @@ joined_is {m = m} {n = n} {p = p} {q = q} is rest =
       either = λ few bytes h. elim (cases_eq m 0) [
         | inl none ↦
             let s = is.same none h.front h.first in
-            elim (rest.either (omega (arith, few)) h.back h.rest) [
+            elim (rest.either (omega (arith, sum few, few)) h.back h.rest) [
               | inl w ↦ inl (with_parts h s.0 w)
               | inr w ↦ inr (with_parts h s.1 w.0, inr w.1)
             ]
         | inr some ↦
-            let s = rest.same (omega (arith, few, some)) h.back h.rest in
-            elim (is.either (omega (arith, few)) h.front h.first) [
+            let s = rest.same (omega (arith, sum few, few, some)) h.back h.rest in
+            elim (is.either (omega (arith, sum few, few)) h.front h.first) [
               | inl w ↦ inl (with_parts h w s.0)
               | inr w ↦ inr (with_parts h w.0 s.1, inl w.1)
             ]
       ];
       same = λ none bytes h.
-          let s = is.same (omega (arith, none)) h.front h.first in
-          let t = rest.same (omega (arith, none)) h.back h.rest in
+          let s = is.same (left none) h.front h.first in
+          let t = rest.same (right none) h.back h.rest in
           (with_parts h s.0 t.0, with_parts h s.1 t.1);
       none = λ none h. elim h [
-        | inl k ↦ is.none (omega (arith, none)) k
-        | inr k ↦ rest.none (omega (arith, none)) k
+        | inl k ↦ is.none (left none) k
+        | inr k ↦ rest.none (right none) k
       ];
     }
+  where
+    left : both ≡ 0 → m ≡ 0
+    left none = omega (arith, sum (omega (arith, none)), none)
+
+    right : both ≡ 0 → n ≡ 0
+    right none = omega (arith, sum (omega (arith, none)), none)

@@ -6,7 +6,7 @@ use Rattle.krb_der.specs.Content.{Elementary, Written, Negated}
 use Rattle.krb_der.specs.Spells.{IfPresent, SpellsContent, SpellsFields, SpellsBy}
 use Rattle.krb_der.specs.Size.{size_if, content_size, fields_size, size_of, NumbersFit, FieldsFit}
 use Rattle.krb_der.specs.Numbers.{numbers_in, numbers_among, HasHigh, HaveHigh}
-use Rattle.krb_der.proofs.PartLaws.{Part, IsPart, fewer, nothing_is, element, element_is, joined_is}
+use Rattle.krb_der.proofs.PartLaws.{Part, IsPart, nothing_is, element, element_is, joined_is}
 use Rattle.krb_der.proofs.LeafLaws.{is_leaf}
 
 abbrev pub content_part : (k : Kind) → ValueOf k → Part
@@ -53,7 +53,7 @@ module _ (k : Kind) (is : (v : ValueOf k) → IsPart (numbers_in k) (content_par
   -- two for each sequence number, since there may be any number of parts
   each_is : (vs : List (ValueOf k)) → IsPart (2 * numbers_in k) (fields_part (each k) vs)
   each_is [] = nothing_is
-  each_is (v ∷ vs) = fewer (λ few. omega (arith, few)) (joined_is (one_is v) (each_is vs))
+  each_is (v ∷ vs) = joined_is (λ few. omega (arith, few)) (one_is v) (each_is vs)
 
 mutual
   content_is : (k : Kind) (v : ValueOf k) → IsPart (numbers_in k) (content_part k v)
@@ -63,8 +63,8 @@ mutual
 
   pub fields_is : (fs : Fields) (v : FieldsOf fs) → IsPart (numbers_among fs) (fields_part fs v)
   fields_is ends v = nothing_is
-  fields_is (must k fs) v = joined_is (one_is k (λ x. content_is k x) v.0) (fields_is fs v.1)
-  fields_is (may k fs) v = joined_is (option_is k (λ x. content_is k x) v.0) (fields_is fs v.1)
+  fields_is (must k fs) v = joined_is (λ few. omega arith) (one_is k (λ x. content_is k x) v.0) (fields_is fs v.1)
+  fields_is (may k fs) v = joined_is (λ few. omega arith) (option_is k (λ x. content_is k x) v.0) (fields_is fs v.1)
   fields_is (each k) v = each_is k (λ x. content_is k x) v
 
 pub spelled_is : (k : Kind) (v : ValueOf k) → IsPart (numbers_in k) (element (tag_of k) (content_part k v))

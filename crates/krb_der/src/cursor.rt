@@ -1,7 +1,7 @@
 //! Reading elements from left to right.
 
-ghost use Rattle.std.specs.Prelude.{◌≡◌, ◌≤◌, ◌↔◌, [], length, true, IsTrue, IsOk, IfOk, IfErr};
-ghost use Rattle.krb_der.specs.Place.{begin_at, begins, end_of};
+ghost use Rattle.std.specs.Prelude.{◌≡◌, ◌+◌, ◌≤◌, ◌↔◌, [], length, true, IsTrue, IsOk, IfOk, IfErr};
+ghost use Rattle.krb_der.specs.Place.{Place, begin_at, begins, end_of};
 ghost use Rattle.krb_der.specs.Spells.{limit};
 ghost use Rattle.krb_der.specs.Reading.{Reads, Enters, MayEnter};
 ghost use Rattle.krb_der.specs.Computed.Gives.{Gives};
@@ -31,10 +31,6 @@ impl fmt::Debug for Cursor<'_> {
 }
 
 impl<'a> Model for Cursor<'a> {
-    ghost use Rattle.std.specs.Prelude.{◌+◌, ◌≤◌, length};
-    ghost use Rattle.krb_der.specs.Place.{Place};
-    ghost use Rattle.krb_der.specs.Spells.{limit};
-
     ghost Value = { Place };
 
     ghost view = { λ c. record { at = c.at; rest = c.rest.now } };

@@ -18,16 +18,6 @@ pub trait EncodeRow {
         ensures { EncodesFields fields (view self.now) result out.old out.new };
 }
 
-/// Writes an element with this tag around the value.
-fn write_wrapped<T: Encode>(value: &T, tag: u8, out: &mut Writer) -> Result<(), EncodeFault>
-    ensures { EncodesValue (wrapped tag T.kind) (T.view value.now) result out.old out.new }
-{
-    let start = out.len();
-    value.write(out)?;
-    let written = out.wrap(tag, start);
-    out.limited(start, written)
-}
-
 /// Writes a SEQUENCE of these fields. Errors as of [`Encode::write`].
 pub fn write_sequence<R: EncodeRow>(row: &R, out: &mut Writer) -> Result<(), EncodeFault>
     ensures { EncodesValue (sequence R.fields) (R.view row.now) result out.old out.new }
@@ -58,7 +48,20 @@ impl<const TAG: u8, T: Encode> Encode for Field<TAG, T> {
     ghost view = { λ f. T.view f.0 };
 
     fn write(&self, out: &mut Writer) -> Result<(), EncodeFault> {
-        write_wrapped(&self.0, TAG, out)
+        let start = out.len();
+        self.0.write(out)?;
+        let written = out.wrap(TAG, start);
+        out.limited(start, written)
+    }
+}
+
+impl<R: EncodeRow> EncodeRow for &R {
+    ghost fields = { R.fields };
+
+    ghost view = { λ r. R.view r.now };
+
+    fn write_row(&self, out: &mut Writer) -> Result<(), EncodeFault> {
+        (**self).write_row(out)
     }
 }
 
@@ -73,43 +76,16 @@ impl EncodeRow for () {
     }
 }
 
-/// Writes an element with this tag around the value, and then the rest of the row.
-fn write_first<T: Encode, R: EncodeRow>(
-    value: &T,
-    tag: u8,
-    rest: &R,
-    out: &mut Writer,
-) -> Result<(), EncodeFault>
-    ensures { EncodesFields (must (wrapped tag T.kind) R.fields) (T.view value.now, R.view rest.now) result out.old out.new }
-{
-    let start = out.len();
-    write_wrapped(value, tag, out)?;
-    let written = rest.write_row(out);
-    out.settle(start, written)
-}
-
 impl<const TAG: u8, T: Encode, R: EncodeRow> EncodeRow for (Field<TAG, T>, R) {
     ghost fields = { must (wrapped TAG T.kind) R.fields };
 
     ghost view = { λ r. (T.view r.0.0, R.view r.1) };
 
     fn write_row(&self, out: &mut Writer) -> Result<(), EncodeFault> {
-        write_first(&self.0.0, TAG, &self.1, out)
-    }
-}
-
-/// Writes an element with this tag around the value, if there is one, and then the rest of the row.
-fn write_maybe<T: Encode, R: EncodeRow>(
-    maybe: &Option<T>,
-    tag: u8,
-    rest: &R,
-    out: &mut Writer,
-) -> Result<(), EncodeFault>
-    ensures { EncodesFields (may (wrapped tag T.kind) R.fields) (option_map T.view maybe.now, R.view rest.now) result out.old out.new }
-{
-    match maybe {
-        Some(value) => write_first(value, tag, rest, out),
-        None => rest.write_row(out),
+        let start = out.len();
+        self.0.write(out)?;
+        let written = self.1.write_row(out);
+        out.settle(start, written)
     }
 }
 
@@ -119,7 +95,7 @@ impl<const TAG: u8, T: Encode, R: EncodeRow> EncodeRow for (Maybe<TAG, T>, R) {
     ghost view = { λ r. (option_map T.view r.0.0, R.view r.1) };
 
     fn write_row(&self, out: &mut Writer) -> Result<(), EncodeFault> {
-        write_maybe(&self.0.0, TAG, &self.1, out)
+        (MaybeRef::<TAG, _>(&self.0.0), &self.1).write_row(out)
     }
 }
 
@@ -129,6 +105,9 @@ impl<const TAG: u8, T: Encode, R: EncodeRow> EncodeRow for (MaybeRef<'_, TAG, T>
     ghost view = { λ r. (option_map T.view r.0.0.now, R.view r.1) };
 
     fn write_row(&self, out: &mut Writer) -> Result<(), EncodeFault> {
-        write_maybe(self.0.0, TAG, &self.1, out)
+        match self.0.0 {
+            Some(value) => (Field::<TAG, _>(value), &self.1).write_row(out),
+            None => self.1.write_row(out),
+        }
     }
 }

@@ -6,13 +6,15 @@ ghost use Rattle.krb_der.specs.Content.{Elementary};
 ghost use Rattle.krb_der.specs.Fault.{HasHead};
 ghost use Rattle.krb_der.specs.Spells.{StandsAt};
 ghost use Rattle.krb_der.specs.Reading.{Reads, ReadsList};
-ghost use Rattle.krb_der.specs.Writing.{EncodesFields, EncodesValue};
+ghost use Rattle.krb_der.specs.Writing.{EncodesValue};
 ghost use Rattle.krb_der.specs.Computed.Gives.{Gives, checked};
 ghost use Rattle.krb_der.specs.Computed.Listed.{AreListed, listed};
 ghost use Rattle.krb_der.specs.Computed.Read.{element_at, fields_at};
 
 use crate::element::is_clear;
-use crate::{Cursor, Element, Encode, EncodeFault, Fault, Text, Writer, tag};
+use crate::{
+    Cursor, Element, Encode, EncodeFault, EncodeRow, Fault, Text, Writer, tag, write_sequence,
+};
 use std::convert::AsSlice;
 
 impl<'a> Cursor<'a> {
@@ -103,6 +105,7 @@ trait Item<T> {
 }
 
 /// As the elements that they are.
+#[derive(Drop)]
 struct AsElements;
 
 impl<T: Encode> Item<T> for AsElements {
@@ -116,6 +119,7 @@ impl<T: Encode> Item<T> for AsElements {
 }
 
 /// As GeneralStrings of their bytes.
+#[derive(Drop)]
 struct AsTexts;
 
 impl<T: AsSlice<u8>> Item<T> for AsTexts {
@@ -128,13 +132,33 @@ impl<T: AsSlice<u8>> Item<T> for AsTexts {
     }
 }
 
+/// The items of a slice, one after another.
+#[derive(Drop)]
+struct Items<'a, T, As>(&'a [T], As);
+
+impl<T, As: Item<T>> EncodeRow for Items<'_, T, As> {
+    ghost fields = { each As.kind };
+
+    ghost view = { λ row. map As.view row.0.now };
+
+    fn write_row(&self, out: &mut Writer) -> Result<(), EncodeFault> {
+        let start = out.len();
+        for item in self.0 {
+            if let Err(fault) = As::write_item(item, out) {
+                return out.settle(start, Err(fault));
+            }
+        }
+        out.limited(start, Ok(()))
+    }
+}
+
 impl<T: Encode> Encode for &[T] {
     ghost kind = { sequence (each T.kind) };
 
     ghost view = { λ items. map T.view items.now };
 
     fn write(&self, out: &mut Writer) -> Result<(), EncodeFault> {
-        write_list::<T, AsElements>(self, out)
+        write_sequence(&Items(*self, AsElements), out)
     }
 }
 
@@ -144,7 +168,7 @@ impl<T: Encode> Encode for Vec<T> {
     ghost view = { λ list. map T.view list.items };
 
     fn write(&self, out: &mut Writer) -> Result<(), EncodeFault> {
-        write_list::<T, AsElements>(self.as_slice(), out)
+        write_sequence(&Items(self.as_slice(), AsElements), out)
     }
 }
 
@@ -158,29 +182,6 @@ impl<T: AsSlice<u8>> Encode for TextList<'_, T> {
     ghost view = { λ texts. map T.items texts.0.now };
 
     fn write(&self, out: &mut Writer) -> Result<(), EncodeFault> {
-        write_list::<T, AsTexts>(self.0, out)
+        write_sequence(&Items(self.0, AsTexts), out)
     }
-}
-
-/// Writes a SEQUENCE OF the items.
-fn write_list<T, As: Item<T>>(items: &[T], out: &mut Writer) -> Result<(), EncodeFault>
-    ensures { EncodesValue (sequence (each As.kind)) (map As.view items.now) result out.old out.new }
-{
-    let start = out.len();
-    write_each::<T, As>(items, out)?;
-    let written = out.wrap(tag::SEQUENCE, start);
-    out.limited(start, written)
-}
-
-/// Writes the items one after another.
-fn write_each<T, As: Item<T>>(items: &[T], out: &mut Writer) -> Result<(), EncodeFault>
-    ensures { EncodesFields (each As.kind) (map As.view items.now) result out.old out.new }
-{
-    let start = out.len();
-    for item in items {
-        if let Err(fault) = As::write_item(item, out) {
-            return out.settle(start, Err(fault));
-        }
-    }
-    out.limited(start, Ok(()))
 }

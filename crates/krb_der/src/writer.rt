@@ -1,6 +1,6 @@
 //! Writing elements.
 
-ghost use Rattle.std.specs.Prelude.{◌≡◌, ◌+◌, ◌-◌, ◌≤◌, ◌<◌, ◌^◌, ◌↔◌, [], ◌++◌, length, drop, IsTrue, IfOk, OnOk, OnErr};
+ghost use Rattle.std.specs.Prelude.{◌≡◌, ℕ, ◌+◌, ◌-◌, ◌≤◌, ◌<◌, ◌^◌, ◌↔◌, List, [], ◌++◌, length, drop, IsTrue, IfOk, OnOk, OnErr};
 ghost use Rattle.krb_der.specs.Kind.{leaf, int32, uint32, microseconds, constant, octets, string, flags, time};
 ghost use Rattle.krb_der.specs.Whole.{IsInteger};
 ghost use Rattle.krb_der.specs.Spells.{IsElement};
@@ -30,8 +30,6 @@ impl fmt::Debug for Writer {
 }
 
 impl Model for Writer {
-    ghost use Rattle.std.specs.Prelude.{List, ℕ};
-
     ghost Value = { List ℕ };
 
     ghost view = { λ w. w.bytes.items };
@@ -93,7 +91,14 @@ impl Writer {
         ensures ok { OnOk result (Appends (IsElement tag (λ c. c ≡ content.now)) self.old self.new) }
         ensures kept { OnErr result (self.new ≡ self.old) }
     {
-        append_element(&mut self.bytes, tag, content)
+        let head = head_of(tag, content.len() as u32);
+        let start = self.bytes.len();
+        self.bytes.extend_from_slice(&head.bytes[..head.len])?;
+        if let Err(error) = self.bytes.extend_from_slice(content) {
+            self.bytes.truncate(start);
+            return Err(error);
+        }
+        Ok(())
     }
 
     /// Finishes a call that wrote from `start` on: removes what was refused or passes the limit of
@@ -216,35 +221,11 @@ impl Writer {
         ensures ok { OnOk result (Wraps tag start self.old self.new) }
         ensures kept { OnErr result (self.new ≡ self.old) }
     {
-        wrap_from(&mut self.bytes, tag, start)
+        let head = head_of(tag, (self.bytes.len() - start) as u32);
+        self.bytes.extend_from_slice(&head.bytes[..head.len])?;
+        turn(&mut self.bytes, start, head.len);
+        Ok(())
     }
-}
-
-fn append_element(bytes: &mut Vec<u8>, tag: u8, content: &[u8]) -> Result<(), AllocError>
-    requires { length content.now < 2 ^ 32 }
-    ensures ok { OnOk result (Appends (IsElement tag (λ c. c ≡ content.now)) bytes.old.items bytes.new.items) }
-    ensures kept { OnErr result (bytes.new.items ≡ bytes.old.items) }
-{
-    let head = head_of(tag, content.len() as u32);
-    let start = bytes.len();
-    bytes.extend_from_slice(&head.bytes[..head.len])?;
-    if let Err(error) = bytes.extend_from_slice(content) {
-        bytes.truncate(start);
-        return Err(error);
-    }
-    Ok(())
-}
-
-fn wrap_from(bytes: &mut Vec<u8>, tag: u8, start: usize) -> Result<(), AllocError>
-    requires within { start ≤ length bytes.old.items }
-    requires fits { length (drop start bytes.old.items) < 2 ^ 32 }
-    ensures ok { OnOk result (Wraps tag start bytes.old.items bytes.new.items) }
-    ensures kept { OnErr result (bytes.new.items ≡ bytes.old.items) }
-{
-    let head = head_of(tag, (bytes.len() - start) as u32);
-    bytes.extend_from_slice(&head.bytes[..head.len])?;
-    turn(bytes, start, head.len);
-    Ok(())
 }
 
 /// Moves the last `count` bytes, a head of at most six, to `start`.

@@ -6,7 +6,7 @@ use Rattle.std.proofs.lemmas.List.{take_at, drop_at}
 use Rattle.krb_der.specs.Spells.{IsElement, IsJoined, limit}
 use Rattle.krb_der.specs.Size.{length_size, element_size}
 use Rattle.krb_der.specs.Writing.{Appends, Wraps}
-use Rattle.krb_der.proofs.WriteLaws.{element-map}
+use Rattle.krb_der.proofs.EncodeLaws.{element-map}
 use Rattle.krb_der.proofs.Sizes.{HasSize, element_sized, joined_sized}
 use Rattle.krb_gss.specs.declared.mechanism.Mechanism.{Mechanism}
 use Rattle.krb_gss.specs.declared.mechanism.Mechanism.TheVariants.{Kerberos, Microsoft}

@@ -1,5 +1,5 @@
 -- Which messages have a sequence number above 2147483647.
-use Rattle.std.proofs.Common.{◌≡◌, ◌⊎◌, inl, inr, ℕ, zero, suc, ◌^◌, ◌≤◌, Option, Some, None, refl, lit≤}
+use Rattle.std.proofs.Common.{◌≡◌, ◌⊎◌, inl, inr, ℕ, zero, suc, ◌^◌, ◌≤◌, Option, Some, None, refl}
 use Rattle.std.specs.Prelude.{IsSomeAnd}
 use Rattle.krb_der.specs.Kind.{Kind, Fields, ends, must, may, each, ValueOf, FieldsOf}
 use Rattle.krb_der.specs.Numbers.{numbers_in, HasHigh, HaveHigh}
@@ -7,16 +7,6 @@ use Rattle.krb_msg.specs.Module.{IsMessageKind, is_ticket, is_authenticator, is_
 use Rattle.krb_msg.specs.Fields.{authenticator_seq_number, reply_seq_number}
 use Rattle.krb_msg.proofs.Sizes.{fields_of}
 use Rattle.krb_msg.specs.Numbers.{HasHighNumber, of_authenticator, of_reply}
-
--- a message holds one sequence number at most
-pub one_at_most : (k : Kind) → IsMessageKind k → numbers_in k ≤ 1
-one_at_most k is_ticket = lit≤ tt
-one_at_most k is_authenticator = lit≤ tt
-one_at_most k is_enc_ticket_part = lit≤ tt
-one_at_most k is_ap_req = lit≤ tt
-one_at_most k is_ap_rep = lit≤ tt
-one_at_most k is_enc_ap_rep_part = lit≤ tt
-one_at_most k is_krb_error = lit≤ tt
 
 number_is : (o : Option ℕ) → IsSomeAnd o (λ n. 2 ^ 31 ≤ n) → (n : ℕ) × (o ≡ Some n) × (2 ^ 31 ≤ n)
 number_is None h = absurd h
@@ -55,21 +45,15 @@ module _ (none : (k : Kind) → numbers_in k ≡ 0 → (v : ValueOf k) → HasHi
   one_is (may k fs) v h = left (numbers_in k) (λ e. none_there k e v.0) (one_is fs v.1) h
   one_is (each k) v h = h
 
-  in_authenticator : (v : ValueOf authenticator) → HasHigh authenticator v → HasHighNumber authenticator v
-  in_authenticator v h =
-      let is = number_is (authenticator_seq_number v) (only (one_is (fields_of authenticator) v h)) in
-      of_authenticator is.0 is.1 is.2
-
-  in_reply : (v : ValueOf enc_ap_rep_part) → HasHigh enc_ap_rep_part v → HasHighNumber enc_ap_rep_part v
-  in_reply v h =
-      let is = number_is (reply_seq_number v) (only (one_is (fields_of enc_ap_rep_part) v h)) in
-      of_reply is.0 is.1 is.2
-
   pub high : (k : Kind) → IsMessageKind k → (v : ValueOf k) → HasHigh k v → HasHighNumber k v
   high k is_ticket v h = absurd (none ticket refl v h)
-  high k is_authenticator v h = in_authenticator v h
+  high k is_authenticator v h =
+      let is = number_is (authenticator_seq_number v) (only (one_is (fields_of authenticator) v h)) in
+      of_authenticator is.0 is.1 is.2
   high k is_enc_ticket_part v h = absurd (none enc_ticket_part refl v h)
   high k is_ap_req v h = absurd (none ap_req refl v h)
   high k is_ap_rep v h = absurd (none ap_rep refl v h)
-  high k is_enc_ap_rep_part v h = in_reply v h
+  high k is_enc_ap_rep_part v h =
+      let is = number_is (reply_seq_number v) (only (one_is (fields_of enc_ap_rep_part) v h)) in
+      of_reply is.0 is.1 is.2
   high k is_krb_error v h = absurd (none krb_error refl v h)

@@ -42,11 +42,8 @@ impl<'a> Element<'a> for ApRepRef<'a> {
 impl<'a> Message<'a> for ApRepRef<'a> {}
 
 impl<'a> ApRepRef<'a> {
-    /// Reads a message of this type that takes up all of the bytes. Allocates no memory.
-    ///
-    /// # Errors
-    /// `TooLong` at offset 0 if there are more than 1,048,576 bytes. Otherwise a fault by the rules
-    /// of `krb_der`'s `specs::Fault`, at its offset.
+    /// Reads a message of this type that takes up all of the bytes. Allocates no memory. Errors as
+    /// of [`krb_der::parse`].
     pub fn parse(bytes: &'a [u8]) -> Result<ApRepRef<'a>, Fault>
         ensures { Parses ap_rep ap_rep_of result bytes.entry.now }
     {
@@ -90,11 +87,7 @@ impl Encode for ApRep {
 }
 
 impl ApRep {
-    /// Returns the bytes of the message.
-    ///
-    /// # Errors
-    /// - `TooLong`: there would be more than 1,048,576 bytes.
-    /// - `OutOfMemory`: there is no memory.
+    /// Returns the bytes of the message. Errors as of [`krb_der::encoded`].
     pub fn encode(&self, alloc: Global) -> Result<Vec<u8>, EncodeFault>
         ensures { IsEncoded ap_rep (owned_ap_rep_of self.now) result }
     {

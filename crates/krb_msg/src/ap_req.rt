@@ -52,11 +52,8 @@ impl<'a> Element<'a> for ApReqRef<'a> {
 impl<'a> Message<'a> for ApReqRef<'a> {}
 
 impl<'a> ApReqRef<'a> {
-    /// Reads a message of this type that takes up all of the bytes. Allocates no memory.
-    ///
-    /// # Errors
-    /// `TooLong` at offset 0 if there are more than 1,048,576 bytes. Otherwise a fault by the rules
-    /// of `krb_der`'s `specs::Fault`, at its offset.
+    /// Reads a message of this type that takes up all of the bytes. Allocates no memory. Errors as
+    /// of [`krb_der::parse`].
     pub fn parse(bytes: &'a [u8]) -> Result<ApReqRef<'a>, Fault>
         ensures { Parses ap_req ap_req_of result bytes.entry.now }
     {
@@ -108,11 +105,7 @@ impl Encode for ApReq {
 }
 
 impl ApReq {
-    /// Returns the bytes of the message.
-    ///
-    /// # Errors
-    /// - `TooLong`: there would be more than 1,048,576 bytes.
-    /// - `OutOfMemory`: there is no memory.
+    /// Returns the bytes of the message. Errors as of [`krb_der::encoded`].
     pub fn encode(&self, alloc: Global) -> Result<Vec<u8>, EncodeFault>
         ensures { IsEncoded ap_req (owned_ap_req_of self.now) result }
     {

@@ -89,11 +89,8 @@ impl<'a> Element<'a> for EncTicketRef<'a> {
 impl<'a> Message<'a> for EncTicketRef<'a> {}
 
 impl<'a> EncTicketRef<'a> {
-    /// Reads a message of this type that takes up all of the bytes. Allocates no memory.
-    ///
-    /// # Errors
-    /// `TooLong` at offset 0 if there are more than 1,048,576 bytes. Otherwise a fault by the rules
-    /// of `krb_der`'s `specs::Fault`, at its offset.
+    /// Reads a message of this type that takes up all of the bytes. Allocates no memory. Errors as
+    /// of [`krb_der::parse`].
     pub fn parse(bytes: &'a [u8]) -> Result<EncTicketRef<'a>, Fault>
         ensures { Parses enc_ticket_part enc_ticket_part_of result bytes.entry.now }
     {
@@ -169,11 +166,7 @@ impl Encode for EncTicketPart {
 }
 
 impl EncTicketPart {
-    /// Returns the bytes of the message.
-    ///
-    /// # Errors
-    /// - `TooLong`: there would be more than 1,048,576 bytes.
-    /// - `OutOfMemory`: there is no memory.
+    /// Returns the bytes of the message. Errors as of [`krb_der::encoded`].
     pub fn encode(&self, alloc: Global) -> Result<Vec<u8>, EncodeFault>
         ensures { IsEncoded enc_ticket_part (owned_enc_ticket_part_of self.now) result }
     {

@@ -90,11 +90,8 @@ impl<'a> Element<'a> for KrbErrorRef<'a> {
 impl<'a> Message<'a> for KrbErrorRef<'a> {}
 
 impl<'a> KrbErrorRef<'a> {
-    /// Reads a message of this type that takes up all of the bytes. Allocates no memory.
-    ///
-    /// # Errors
-    /// `TooLong` at offset 0 if there are more than 1,048,576 bytes. Otherwise a fault by the rules
-    /// of `krb_der`'s `specs::Fault`, at its offset.
+    /// Reads a message of this type that takes up all of the bytes. Allocates no memory. Errors as
+    /// of [`krb_der::parse`].
     pub fn parse(bytes: &'a [u8]) -> Result<KrbErrorRef<'a>, Fault>
         ensures { Parses krb_error krb_error_of result bytes.entry.now }
     {
@@ -175,11 +172,7 @@ impl Encode for KrbError {
 }
 
 impl KrbError {
-    /// Returns the bytes of the message.
-    ///
-    /// # Errors
-    /// - `TooLong`: there would be more than 1,048,576 bytes.
-    /// - `OutOfMemory`: there is no memory.
+    /// Returns the bytes of the message. Errors as of [`krb_der::encoded`].
     pub fn encode(&self, alloc: Global) -> Result<Vec<u8>, EncodeFault>
         ensures { IsEncoded krb_error (owned_krb_error_of self.now) result }
     {

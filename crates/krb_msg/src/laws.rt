@@ -64,6 +64,7 @@ pub fn decided()
 }
 
 /// Bytes that aren't a message of a type have a fault by the rules.
+#[tactic(auto, using(crate::proofs::Messages::clear))]
 pub fn faulty()
     ensures { (k : Kind) → IsMessageKind k → (bytes : List ℕ)
         → ((v : ValueOf k) → IsMessage k v bytes → ⊥) → (fault : Fault) × IsFault k bytes fault }

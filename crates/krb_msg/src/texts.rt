@@ -1,8 +1,9 @@
 //! Texts in a row.
 
-ghost use Rattle.std.specs.Prelude.{refl, ◌≡◌, IfOk};
+ghost use Rattle.std.specs.Prelude.{refl, ◌≡◌, ℕ, List, IfOk};
 ghost use Rattle.std.specs.Iterator.{YieldsFirstBy, item_count};
 ghost use Rattle.krb_der.specs.Kind.{leaf, string};
+ghost use Rattle.krb_der.specs.Computed.Listed.{AreListed, listed};
 ghost use Rattle.krb_msg.specs.Module.{sequence_of};
 
 use krb_der::{Cursor, Element, Fault, Text};
@@ -18,10 +19,6 @@ pub struct Texts<'a> {
 }
 
 impl<'a> Model for Texts<'a> {
-    ghost use Rattle.std.specs.Prelude.{List, ℕ};
-    ghost use Rattle.krb_der.specs.Kind.{leaf, string};
-    ghost use Rattle.krb_der.specs.Computed.Listed.{AreListed, listed};
-
     ghost Value = { List (List ℕ) };
 
     ghost view = { λ t. listed (leaf string) t.content };
@@ -62,10 +59,6 @@ pub struct TextsIter<'a> {
 }
 
 impl<'a> Model for TextsIter<'a> {
-    ghost use Rattle.std.specs.Prelude.{List, ℕ};
-    ghost use Rattle.krb_der.specs.Kind.{leaf, string};
-    ghost use Rattle.krb_der.specs.Computed.Listed.{AreListed, listed};
-
     ghost Value = { List (List ℕ) };
 
     ghost view = { λ t. listed (leaf string) t.left };

@@ -123,11 +123,8 @@ impl<'a> Element<'a> for TicketRef<'a> {
 impl<'a> Message<'a> for TicketRef<'a> {}
 
 impl<'a> TicketRef<'a> {
-    /// Reads a ticket that takes up all of the bytes. Allocates no memory.
-    ///
-    /// # Errors
-    /// `TooLong` at offset 0 if there are more than 1,048,576 bytes. Otherwise a fault by the rules
-    /// of `krb_der`'s `specs::Fault`, at its offset.
+    /// Reads a ticket that takes up all of the bytes. Allocates no memory. Errors as of
+    /// [`krb_der::parse`].
     pub fn parse(bytes: &'a [u8]) -> Result<TicketRef<'a>, Fault>
         ensures { Parses ticket ticket_of result bytes.entry.now }
     {
@@ -172,11 +169,7 @@ impl Encode for Ticket {
 }
 
 impl Ticket {
-    /// Returns the bytes of the message.
-    ///
-    /// # Errors
-    /// - `TooLong`: there would be more than 1,048,576 bytes.
-    /// - `OutOfMemory`: there is no memory.
+    /// Returns the bytes of the message. Errors as of [`krb_der::encoded`].
     pub fn encode(&self, alloc: Global) -> Result<Vec<u8>, EncodeFault>
         ensures { IsEncoded ticket (owned_ticket_of self.now) result }
     {

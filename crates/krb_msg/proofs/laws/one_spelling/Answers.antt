@@ -1,4 +1,5 @@
-use Rattle.krb_msg.proofs.HighNumbers.{one_at_most, high}
+use Rattle.krb_msg.proofs.HighNumbers.{high}
+use Rattle.krb_msg.proofs.Messages.{one_at_most}
 use Rattle.krb_msg.proofs.laws.one_spelling.Goals as goal
 
 pub returns-clause-written : goal.returns-clause-written

@@ -1,7 +1,7 @@
 use Rattle.std.proofs.Common.{pos, arith}
 use Rattle.std.proofs.lemmas.Int.{ints}
 use Rattle.krb_der.specs.Kind.{leaf, microseconds}
-use Rattle.krb_der.proofs.WriteLaws.{writes_whole}
+use Rattle.krb_der.proofs.EncodeLaws.{writes_whole}
 use Rattle.krb_der.proofs.writer.Writer.microseconds.Goals as goal
 
 pub returns : goal.returns

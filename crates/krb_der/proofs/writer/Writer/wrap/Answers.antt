@@ -1,14 +1,14 @@
 use Rattle.std.proofs.Common.{◌≡◌, ◌-◌, length, take, drop, sym, ap, subst, ◌∙◌, arith, length-append, length-drop}
 use Rattle.krb_der.specs.Inner.HeadView.{IsHeadOf, head_bytes, turned_at}
 use Rattle.krb_der.proofs.HeadLaws.{head_is, wraps-turned, written_back}
-use Rattle.krb_der.proofs.writer.wrap_from.Goals as goal
+use Rattle.krb_der.proofs.writer.Writer.wrap.Goals as goal
 
 pub returns-clause-ok : goal.returns-clause-ok
 returns-clause-ok c =
-    let old = c.args.bytes.now.items in
+    let old = c.args.self.now in
     let head = take c.head_of-head.result.len c.head_of-head.result.bytes in
-    let mid = c.in_ok-extend_from_slice.ensures.items in
-    let rest : c.len.result - c.args.start ≡ length (drop c.args.start old) = omega (arith, length-drop c.args.start old, c.len.ensures, c.args.bytes.now.ok.0) in
+    let mid = rw c.self.view_is at c.in_ok-extend_from_slice.ensures.items in
+    let rest : c.len.result - c.args.start ≡ length (drop c.args.start old) = omega (arith, length-drop c.args.start old, c.len.ensures, c.self.inside.bytes.ok.0, ap length c.self.view_is) in
     let same : length c.turn.new.bytes ≡ length c.extend_from_slice.new.self.items = c.turn.auto.bytes ∙ ap length c.deref_mut.ensures.value in
     let end : length c.deref_mut.result.now - c.head_of-head.result.len ≡ length old =
     omega (arith, ap length c.deref_mut.ensures.value, ap length mid, length-append old head, c.head_of-head.ensures.width) in
