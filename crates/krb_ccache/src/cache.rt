@@ -86,7 +86,7 @@ impl CCache {
     /// credential and 8 more, for `find_server`.
     ///
     /// # Errors
-    /// `OutOfMemory` if the bytes are a cache and there is no memory for a part; else the first
+    /// `OutOfMemory` if the bytes are a cache and there is no memory for it; else the first
     /// that applies:
     /// - `TooLong`: there are more than 16,777,216 bytes.
     /// - `Version`: they don't begin with 0x05 0x04 or 0x05 0x03.
@@ -121,7 +121,8 @@ impl CCache {
 
     /// Reads a source to its end, or to one byte past 16,777,216, and parses what it gave.
     ///
-    /// Allocates memory as parts are read, also for the list of credentials.
+    /// Allocates memory as parts are read, also for the list of credentials, and after the last
+    /// credential the index that `parse` allocates.
     ///
     /// Condition: fewer than 18,446,744,073,709,551,615 reads of the source have failed so far.
     ///

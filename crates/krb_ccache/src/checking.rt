@@ -1,7 +1,7 @@
 //! Whether the bytes of a file are a cache. Allocates no memory, so no fault is hidden by the lack
 //! of it.
 
-ghost use Rattle.std.specs.Prelude.{◌≡◌, ◌+◌, ◌<◌, ◌^◌, List, [], true, Some, None, OnOk, OnErr, IfErr, length};
+ghost use Rattle.std.specs.Prelude.{◌≡◌, ◌+◌, ◌<◌, ◌^◌, List, [], true, Some, None, OnOk, OnErr, IfErr, IfOk, ◌≤◌, length};
 ghost use Rattle.krb_name.specs.Field.{IsBytes};
 ghost use Rattle.krb_ccache.specs.Types.{HeaderField as HeaderFieldValue};
 ghost use Rattle.krb_ccache.specs.Spelling.{header_bytes};
@@ -26,6 +26,7 @@ use krb_name::{FileCursor, Principal, Short};
 #[tactic(auto, using(crate::proofs::WalkParts::passed_some, crate::proofs::FileLaws::name_lies))]
 pub(crate) fn check(bytes: &[u8]) -> Result<usize, CacheFault>
     ensures ok { OnOk result ((cache : Cache) × IsCache bytes.now cache) }
+    ensures count { IfOk result (λ count. count ≤ length bytes.now) }
     ensures fault { IfErr result (IsFaultOf bytes.now) }
 {
     let (layout, mut cursor) = open(bytes)?;
@@ -87,6 +88,7 @@ fn check_credentials(layout: Layout, cursor: &mut FileCursor<'_>) -> Result<usiz
     requires { IsBytes cursor.old.rest }
     ensures ok { OnOk result ((credentials : List Spelled)
         × Reaches bytes_of (Spells layout) cursor.old credentials cursor.new) }
+    ensures count { IfOk result (λ count. count ≤ length cursor.old.rest) }
     ensures end { OnOk result (cursor.new.rest ≡ []) }
     ensures missing { IfErr result (StopsBy layout cursor.old) }
 {

@@ -10,8 +10,8 @@ use std::marker::Model;
 /// An index of hashes, to find the places of one of them. A contract sees it as their list.
 ///
 /// Each hash falls into a bucket, and the places of a bucket are linked, from the first to the last.
-/// So finding a hash takes as long with many hashes as with few, unless they were chosen so that
-/// many share a bucket.
+/// So finding a hash takes as long with many hashes as with few, unless many are equal, or were
+/// chosen so that many share a bucket.
 #[derive(Drop)]
 pub struct HashIndex {
     hashes: Vec<u32>,
@@ -54,8 +54,8 @@ impl HashIndex {
 
     /// Returns the first place of `hash`, from the place `from` on, or `None` if there is none.
     ///
-    /// After a place that was found, the next one is found at once: `find(hash, at + 1)` begins
-    /// after `at`.
+    /// After a place that was found, `find(hash, at + 1)` goes on from there. From any other place it
+    /// looks at the whole bucket, from its first place on.
     pub fn find(&self, hash: u32, from: usize) -> Option<usize>
         ensures first { MatchOption result
             (NoneEqual self.now hash from)
@@ -96,6 +96,8 @@ fn start(hashes: &[u32], firsts: &[usize], nexts: &[usize], hash: u32, from: usi
         → bucket_at (length firsts.now) hashes.now k ≢ hash % length firsts.now }
     ensures lands { result < length hashes.now
         → bucket_at (length firsts.now) hashes.now result ≡ hash % length firsts.now }
+    ensures goes_on { 0 < from → from ≤ length hashes.now
+        → bucket_at (length firsts.now) hashes.now (from - 1) ≡ hash % length firsts.now → from ≤ result }
 {
     let bucket = bucket_of(hash, firsts.len());
     if 0 < from && from <= hashes.len() && bucket_of(hashes[from - 1], firsts.len()) == bucket {

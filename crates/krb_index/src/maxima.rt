@@ -1,17 +1,17 @@
 //! Finding the first number that is great enough.
 
-ghost use Rattle.std.specs.Prelude.{◌≡◌, ◌+◌, ◌*◌, ◌-◌, ◌^◌, ◌<◌, ◌≤◌, All, IfOk, MatchOption, drop, length, replicate, slice_index, slice_set, ◌++◌};
+ghost use Rattle.std.specs.Prelude.{◌≡◌, ◌+◌, ◌*◌, ◌-◌, ◌^◌, ◌<◌, ◌≤◌, All, IfOk, IfSome, MatchOption, drop, length, max, replicate, slice_index, slice_set, ◌++◌};
 ghost use Rattle.krb_index.specs.Inner.Maxima.{greater_child, IsPowerOfTwo, IsTree, JoinsFrom};
 ghost use Rattle.krb_index.specs.Places.{IsFirstAtLeast};
 
 use std::alloc::{AllocError, Global};
 use std::marker::Model;
 
-/// Numbers in an order, among which the first that is great enough is found. A contract sees them
-/// as their list.
+/// A list of numbers, in which the first that is great enough is found. A contract sees it as the
+/// list.
 ///
 /// They are the leaves of a tree, in which each node is the greater of its two children. So finding
-/// a number, or changing one, takes a few steps for each doubling of their count.
+/// a number, or making one 0, takes a few steps for each doubling of their count.
 #[derive(Drop)]
 pub struct Maxima {
     // The nodes from the root, which is the node 1. The children of a node `n` are the nodes `2 n`
@@ -36,6 +36,9 @@ impl Maxima {
     /// Makes the list of these numbers.
     ///
     /// Allocates 16 to 24 bytes for each number, and 8 for an empty list.
+    ///
+    /// # Errors
+    /// There is no memory.
     pub fn new(alloc: Global, numbers: &[usize]) -> Result<Maxima, AllocError>
         ensures { IfOk result (λ made. made ≡ numbers.now) }
     {
@@ -47,9 +50,10 @@ impl Maxima {
 
     /// Returns the place of the first number that is at least `least`, or `None` if there is none.
     pub fn first(&self, least: usize) -> Option<usize>
-        ensures { MatchOption result
+        ensures first { MatchOption result
             (All (λ number. number < least) self.now)
             (IsFirstAtLeast self.now least) }
+        ensures bound { IfSome result (λ at. at < 2 ^ 64 - 1) }
     {
         let tree = self.tree.as_slice();
         if tree.len() == self.leaves || number_at(tree, 1) < least {
@@ -58,7 +62,7 @@ impl Maxima {
         Some(first_leaf(tree, self.leaves, least) - self.leaves)
     }
 
-    /// Makes the number at the place `at` 0. Does nothing if there is none.
+    /// Makes the number at the place `at` 0. Does nothing if the list has no such place.
     pub fn clear(&mut self, at: usize)
         ensures { self.new ≡ slice_set self.old at 0 }
     {
@@ -73,7 +77,7 @@ fn power_above(count: usize) -> usize
     requires { count < 2 ^ 62 }
     ensures power { IsPowerOfTwo result }
     ensures least { count ≤ result }
-    ensures most { result ≤ 2 * count + 1 }
+    ensures most { result < 2 * max count 1 }
 {
     let mut power = 1;
     while power < count {

@@ -39,6 +39,9 @@ impl<'a> KeyIndex<'a> {
     /// Makes the index of `entries`.
     ///
     /// Allocates 20 bytes for each entry, and 8 more.
+    ///
+    /// # Errors
+    /// There is no memory.
     pub fn new(alloc: Global, entries: &'a [Entry]) -> Result<KeyIndex<'a>, AllocError>
         ensures { IfOk result (λ index. index ≡ entries.now) }
     {

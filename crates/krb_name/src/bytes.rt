@@ -13,7 +13,8 @@ use std::marker::Model;
 /// A string of bytes: a realm, or one component of a name (`KerberosString`, RFC 4120, section
 /// 5.2.1). Any bytes are allowed. A contract sees it as their list.
 ///
-/// Up to 24 bytes are held in place, without an allocation.
+/// Up to 24 bytes are held in place, without an allocation. Bytes that are made from a `Vec` with
+/// room for more keep its allocation.
 #[derive(Debug, Drop)]
 pub struct Bytes {
     bytes: SmallVec<u8, 24>,

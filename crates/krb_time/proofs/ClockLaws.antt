@@ -85,3 +85,8 @@ none_read content = from (time_of content) (λ s h. time_read s content h)
     from : (o : Option ℤ) → ((s : ℤ) → IsTime s content → o ≡ Some s) → IfNone o ((s : ℤ) → IsTime s content → ⊥)
     from (Some s) h = tt
     from None h = λ s time. none_some (h s time)
+
+pub second_unique : (s r : ℤ) (content : List ℕ) → IsTime s content → IsTime r content → s ≡ r
+second_unique s r content h k =
+    let same : ◌≡◌ {A = Option ℤ} (Some s) (Some r) = sym (time_read s content h) ∙ time_read r content k in
+    cc

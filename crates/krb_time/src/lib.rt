@@ -15,6 +15,7 @@
 #![tactic(auto)]
 
 mod civil;
+pub mod laws;
 mod microseconds;
 mod moment;
 mod seconds;

@@ -4,7 +4,8 @@ ghost use Rattle.std.specs.Prelude.{◌≡◌, ◌<◌, SomeIff};
 
 use std::marker::Model;
 
-/// The microseconds of a time: 0 to 999,999 (RFC 4120, section 5.2.4).
+/// The microseconds of a time: 0 to 999,999 (RFC 4120, section 5.2.4). A contract sees them as that
+/// number.
 #[derive(Clone, Copy, Debug, PartialEq, Eq, PartialOrd, Ord, Hash)]
 pub struct Microseconds {
     micros: u32,

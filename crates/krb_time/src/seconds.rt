@@ -8,7 +8,7 @@ use crate::civil::{civil_at, civil_in, text_of};
 use std::marker::Model;
 
 /// A whole second of the years 0000 to 9999, counted from 1970-01-01T00:00:00Z:
-/// -62,167,219,200 to 253,402,300,799.
+/// -62,167,219,200 to 253,402,300,799. A contract sees it as that number.
 #[derive(Clone, Copy, Debug, PartialEq, Eq, PartialOrd, Ord, Hash)]
 pub struct Seconds {
     seconds: i64,

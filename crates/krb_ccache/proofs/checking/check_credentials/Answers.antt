@@ -1,4 +1,4 @@
-use Rattle.std.proofs.Common.{[], ◌∷◌, ◌++◌, ap}
+use Rattle.std.proofs.Common.{[], ◌∷◌, ◌++◌, ap, arith}
 use Rattle.krb_ccache.specs.Types.{BadItem}
 use Rattle.krb_ccache.proofs.CredentialLaws.{passed_lies, passed_missing}
 use Rattle.krb_ccache.proofs.FileLaws.{credential_goes, stops}
@@ -12,7 +12,8 @@ loop-layout-smaller c =
 pub loop-layout-preserved : goal.loop-layout-preserved
 loop-layout-preserved c =
     let one = passed_lies c.args.layout c.loop-layout.cursor c.skip.new.cursor c.loop-layout.invariant.1.takes.rest_fits c.in-Ok.ensures.ok in
-    (c.loop-layout.invariant.0 ++ one.0 ∷ [], (credential_goes c.args.layout c.args.cursor.now c.loop-layout.cursor c.loop-layout.invariant.0 one.0 c.skip.new.cursor c.loop-layout.invariant.1 one.1).reaches)
+    let goes = credential_goes c.args.layout c.args.cursor.now c.loop-layout.cursor c.loop-layout.invariant.0 one.0 c.skip.new.cursor c.loop-layout.invariant.1 one.1 in
+    (c.loop-layout.invariant.0 ++ one.0 ∷ [], goes.reaches, omega (arith, goes.smaller, c.loop-layout.invariant.2))
 
 pub returns-in-Err-clause-missing : goal.returns-in-Err-clause-missing
 returns-in-Err-clause-missing c =

@@ -1,0 +1,18 @@
+//! Laws of the definitions. Each function has an empty body: its contract is the law.
+
+ghost use Rattle.std.specs.Prelude.{◌≡◌, ℕ, ℤ, List};
+ghost use Rattle.krb_time.specs.Time.{IsSeconds, IsTime};
+
+/// Each second of the years 0000 to 9999 has a text, and no other. Only these seconds have one.
+#[tactic(auto, using(crate::proofs::Calendar::time_made, crate::proofs::Calendar::time_unique, crate::proofs::Calendar::time_range))]
+pub fn a_second_has_one_text()
+    ensures exists { (s : ℤ) → IsSeconds s → (text : List ℕ) × IsTime s text }
+    ensures one { (s : ℤ) (a b : List ℕ) → IsTime s a → IsTime s b → a ≡ b }
+    ensures only { (s : ℤ) (text : List ℕ) → IsTime s text → IsSeconds s }
+{}
+
+/// A text is that of at most one second.
+#[tactic(auto, using(crate::proofs::ClockLaws::second_unique))]
+pub fn a_text_has_one_second()
+    ensures { (s r : ℤ) (text : List ℕ) → IsTime s text → IsTime r text → s ≡ r }
+{}
