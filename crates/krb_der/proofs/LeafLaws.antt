@@ -1,10 +1,10 @@
 -- The laws of each element without parts, a row for each.
-use Rattle.std.proofs.Common.{◌≡◌, ◌⊎◌, inl, inr, ℕ, ◌^◌, ◌<◌, ◌≤◌, ℤ, pos, negsuc, ◌-ℤ◌, List, length, Option, Some, refl, sym, ap, ◌∙◌, arith, lit≤}
+use Rattle.std.proofs.Common.{◌≡◌, inl, inr, ℕ, ◌^◌, ◌≤◌, ℤ, pos, negsuc, ◌-ℤ◌, List, length, Option, Some, refl, sym, ap, ◌∙◌, arith, lit≤}
 use Rattle.std.specs.Prelude.{FitsSigned, IfSome}
 use Rattle.std.specs.Int.{w32, to_be_bytes}
 use Rattle.std.proofs.lemmas.Int.{ints}
 use Rattle.krb_der.specs.Content.{Content, int32, uint32, seq_number, microseconds, constant, octets, string, flags, time, Leaf, natural_leaf, bytes_leaf, leaf_of}
-use Rattle.krb_der.specs.Whole.{IsNatural, IsInteger, IsUnsigned, IsNegative, IsSeqNumber}
+use Rattle.krb_der.specs.Whole.{IsInteger}
 use Rattle.krb_der.specs.Computed.Steps.{◌>>?◌}
 use Rattle.krb_der.specs.Computed.Whole.{whole_of, natural_below}
 use Rattle.krb_der.specs.Computed.Read.{content_of}

@@ -1,11 +1,11 @@
 //! Reading elements from left to right.
 
-ghost use Rattle.std.specs.Prelude.{◌≡◌, ◌+◌, ◌≤◌, ◌↔◌, [], length, true, IsTrue, IsOk, IfOk, IfErr};
+ghost use Rattle.std.specs.Prelude.{◌≡◌, ◌+◌, ◌≤◌, ◌↔◌, [], length, IsTrue, IsOk, IfOk, IfErr};
 ghost use Rattle.krb_der.specs.Place.{Place, begin_at, begins, end_of};
 ghost use Rattle.krb_der.specs.Spells.{limit};
 ghost use Rattle.krb_der.specs.Reading.{Reads, Enters, MayEnter};
 ghost use Rattle.krb_der.specs.Computed.Gives.{Gives};
-ghost use Rattle.krb_der.specs.Computed.Read.{enter_at, may_enter, split_at, length_fault, element_at, finish_at};
+ghost use Rattle.krb_der.specs.Computed.Read.{enter_at, may_enter, split_at, length_fault, finish_at};
 
 use crate::element::is_clear;
 use crate::length::length;
