@@ -10,7 +10,7 @@ use Rattle.krb_enc.specs.Key.{KeyValue, UsageKeyValue, profile_of}
 use Rattle.krb_enc.specs.Sealed.{sealed}
 use Rattle.krb_msg.specs.Module.{ap_req, authenticator, checksum, encrypted_data, encryption_key, ticket as ticket_kind, is_ticket}
 use Rattle.krb_msg.specs.Fields.{authenticator_value, ap_req_value, encrypted_value}
-use Rattle.krb_msg.specs.Moments.{micros_of}
+use Rattle.krb_time.specs.Moments.{micros_of}
 use Rattle.krb_msg.specs.Owned.{principal_name_of}
 use Rattle.krb_ccache.specs.declared.credential.Credential.{Credential}
 use Rattle.krb_ap.specs.Written.{IsWritten, IsSealed, key_value}

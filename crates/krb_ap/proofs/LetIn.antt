@@ -5,7 +5,7 @@ use Rattle.krb_name.specs.declared.principal.Principal.{Principal}
 use Rattle.krb_der.specs.Kind.{ValueOf}
 use Rattle.krb_msg.specs.Module.{ticket as ticket_kind, enc_ticket_part}
 use Rattle.krb_msg.specs.Fields.{ticket_service, part_client}
-use Rattle.krb_msg.specs.Moments.{micros_of}
+use Rattle.krb_time.specs.Moments.{micros_of}
 use Rattle.krb_ccache.specs.Value.{Cache}
 use Rattle.krb_replay.specs.Stamp.{Stamp}
 use Rattle.krb_ap.specs.Setup.{Setup, Arrival, arrival}

@@ -10,7 +10,7 @@ use Rattle.krb_enc.specs.Key.{KeyValue, IsUsable, profile_of}
 use Rattle.krb_enc.specs.Sealed.{Profile, IsProfile, sealed}
 use Rattle.krb_msg.specs.Module.{enc_ap_rep_part, encrypted_data, encryption_key, krb_error}
 use Rattle.krb_msg.specs.Fields.{ap_rep_value, enc_ap_rep_part_value, bytes_of, reply_enc_part, reply_subkey}
-use Rattle.krb_msg.specs.Moments.{micros_of}
+use Rattle.krb_time.specs.Moments.{micros_of}
 use Rattle.krb_ap.specs.Written.{IsSealed, key_value}
 use Rattle.krb_ap.specs.Taken.{Taken}
 use Rattle.krb_ap.specs.Reply.{reply_for, reply_part_for}

@@ -5,7 +5,7 @@ use Rattle.krb_der.specs.Spells.{IsMessage}
 use Rattle.krb_enc.specs.Key.{KeyValue}
 use Rattle.krb_msg.specs.Module.{ap_req, ap_rep, ticket as ticket_kind, enc_ticket_part, enc_ap_rep_part, authenticator, is_ap_rep, is_ticket, is_authenticator, is_enc_ap_rep_part}
 use Rattle.krb_msg.specs.Fields.{ticket_service, part_client, cipher_of, authenticator_of_request, authenticator_ctime, authenticator_cusec}
-use Rattle.krb_msg.specs.Moments.{micros_of}
+use Rattle.krb_time.specs.Moments.{micros_of}
 use Rattle.krb_ccache.specs.declared.credential.Credential.{Credential}
 use Rattle.krb_ap.specs.Setup.{Setup, Arrival}
 use Rattle.krb_ap.specs.Opened.{OpensAs, Asks, Ticketed, OpensAuthenticator, OpenedAs, authenticator_usage, stamp_at, stamp_of}

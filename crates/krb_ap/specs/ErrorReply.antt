@@ -5,7 +5,7 @@ use Rattle.krb_name.specs.declared.principal.Principal.{Principal}
 use Rattle.krb_der.specs.Kind.{ValueOf}
 use Rattle.krb_msg.specs.Module.{krb_error}
 use Rattle.krb_msg.specs.Fields.{krb_error_value}
-use Rattle.krb_msg.specs.Moments.{micros_of}
+use Rattle.krb_time.specs.Moments.{micros_of}
 use Rattle.krb_msg.specs.Owned.{principal_name_of}
 use Rattle.krb_ap.specs.Causes.{code_of}
 use Rattle.krb_ap.specs.Written.{IsWritten}

@@ -9,7 +9,7 @@ use Rattle.krb_der.specs.Spells.{IsMessage}
 use Rattle.krb_enc.specs.Key.{KeyValue}
 use Rattle.krb_msg.specs.Module.{ap_rep, enc_ap_rep_part, typed}
 use Rattle.krb_msg.specs.Fields.{cipher_of, etype_of, reply_enc_part, reply_ctime, reply_cusec, reply_subkey, reply_seq_number}
-use Rattle.krb_msg.specs.Moments.{micros_of}
+use Rattle.krb_time.specs.Moments.{micros_of}
 use Rattle.krb_msg.specs.Owned.{owned_key_of}
 use Rattle.krb_ap.specs.Opened.{OpensAs}
 use Rattle.krb_ap.specs.Causes.{BeginsOtherwise}

@@ -9,7 +9,7 @@ use Rattle.krb_der.specs.Flags.{HasBit}
 use Rattle.krb_msg.specs.Bits.{transited_policy_checked}
 use Rattle.krb_msg.specs.Module.{ticket as ticket_kind, enc_ticket_part}
 use Rattle.krb_msg.specs.Fields.{ticket_service, realm_of, enc_part_of, etype_of, kvno_of, cipher_of, part_client, crealm_of, flags_of, authorization_of}
-use Rattle.krb_msg.specs.Moments.{micros_of}
+use Rattle.krb_time.specs.Moments.{micros_of}
 use Rattle.krb_keytab.specs.Entry.{KeytabEntry}
 use Rattle.krb_keytab.specs.Pick.{chosen, IsChoice}
 use Rattle.krb_ccache.specs.declared.credential.Credential.{Credential}

@@ -11,7 +11,7 @@ use Rattle.krb_enc.specs.Key.{KeyValue, IsKnown, IsUsable, profile_of}
 use Rattle.krb_enc.specs.Opens.{Opens}
 use Rattle.krb_msg.specs.Module.{ap_req, encrypted_data, enc_ticket_part, authenticator}
 use Rattle.krb_msg.specs.Fields.{ticket_of_request, authenticator_of_request, options_of, enc_part_of, etype_of, kvno_of, cipher_of, session_key_of, type_of, bytes_of, ticket_service, part_client, authenticator_client, authenticator_ctime, authenticator_cusec}
-use Rattle.krb_msg.specs.Moments.{micros_of}
+use Rattle.krb_time.specs.Moments.{micros_of}
 use Rattle.krb_der.specs.Flags.{HasBit}
 use Rattle.krb_msg.specs.Bits.{use_session_key}
 use Rattle.krb_keytab.specs.Entry.{KeytabEntry}

@@ -11,7 +11,7 @@ use Rattle.krb_enc.specs.Key.{KeyValue}
 use Rattle.krb_msg.specs.Bits.{mutual_required}
 use Rattle.krb_msg.specs.Module.{ap_req, authenticator, checksum as checksum_kind, ticket as ticket_kind}
 use Rattle.krb_msg.specs.Fields.{authenticator_value, ap_req_value, encrypted_value, typed_value}
-use Rattle.krb_msg.specs.Moments.{micros_of}
+use Rattle.krb_time.specs.Moments.{micros_of}
 use Rattle.krb_msg.specs.Owned.{principal_name_of}
 use Rattle.krb_ccache.specs.Value.{Cache}
 use Rattle.krb_ccache.specs.declared.credential.Credential.{Credential}

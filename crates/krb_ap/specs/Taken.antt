@@ -8,7 +8,7 @@ use Rattle.krb_msg.specs.Bits.{mutual_required}
 use Rattle.krb_msg.specs.Module.{typed, ap_req, enc_ticket_part, authenticator}
 use Rattle.krb_msg.specs.Fields.{options_of, part_client, flags_of, authtime_of, starttime_of, endtime_of, caddr_of, authorization_of, authenticator_subkey, authenticator_seq_number, authenticator_checksum, authenticator_authorization, authenticator_ctime, authenticator_cusec}
 use Rattle.krb_ap.specs.Setup.{Setup, Arrival}
-use Rattle.krb_msg.specs.Moments.{micros_of}
+use Rattle.krb_time.specs.Moments.{micros_of}
 use Rattle.krb_replay.specs.Stamp.{Stamp}
 use Rattle.krb_ap.specs.Opened.{OpenedAs, service_of, session_key, sent_at, stamp_at, stamp_of}
 use Rattle.krb_ap.specs.Times.{Near, Alive, IsPathTrusted, IsDataIgnorable}

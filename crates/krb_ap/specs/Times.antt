@@ -5,7 +5,7 @@ use Rattle.std.specs.Prelude.{◌≡◌, ◌⊎◌, ℕ, ℤ, pos, ◌+ℤ◌, �
 use Rattle.krb_der.specs.Kind.{ValueOf}
 use Rattle.krb_msg.specs.Module.{ap_req, enc_ticket_part, authenticator, authorization_data}
 use Rattle.krb_msg.specs.Fields.{ticket_of_request, realm_of, flags_of, crealm_of, authtime_of, starttime_of, endtime_of, authorization_of, authenticator_authorization, type_of}
-use Rattle.krb_msg.specs.Moments.{micros_of}
+use Rattle.krb_time.specs.Moments.{micros_of}
 use Rattle.krb_der.specs.Flags.{HasBit}
 use Rattle.krb_msg.specs.Bits.{invalid, transited_policy_checked}
 

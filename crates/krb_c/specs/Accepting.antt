@@ -1,9 +1,9 @@
 -- What a handle holds when it isn't empty, and what a call makes of it.
 use Rattle.std.specs.Prelude.{◌≡◌, ◌≤◌, ◌<◌, ℕ, ℤ, List, [], ◌∷◌, length, Contains, Option, Some, None, Result, Ok, Err, IfErr, IfSome, IsErrOf}
 use Rattle.krb_der.specs.Kind.{ValueOf}
-use Rattle.krb_der.specs.Time.{IsSeconds}
+use Rattle.krb_time.specs.Time.{IsSeconds}
 use Rattle.krb_msg.specs.Module.{ap_req}
-use Rattle.krb_msg.specs.Moments.{micros_of}
+use Rattle.krb_time.specs.Moments.{micros_of}
 use Rattle.krb_keytab.specs.Entry.{KeytabEntry}
 use Rattle.krb_keytab.specs.Only.{KeepsOnly}
 use Rattle.krb_name.specs.Reading.{IsReadAs}

@@ -5,7 +5,7 @@ use Rattle.krb_name.specs.Reading.{IsReadAs}
 use Rattle.krb_name.specs.declared.principal.Principal.{Principal}
 use Rattle.krb_name.specs.declared.text_fault.TextFault.{TextFault}
 use Rattle.krb_name.specs.declared.text_fault.TextFault.TheVariants as text
-use Rattle.krb_msg.specs.Moments.{micros_of}
+use Rattle.krb_time.specs.Moments.{micros_of}
 use Rattle.krb_ccache.specs.Format.{IsCache, IsFaultOf}
 use Rattle.krb_ccache.specs.Value.{Cache}
 use Rattle.krb_ccache.specs.declared.fault.CacheFault.{CacheFault}

@@ -1,7 +1,7 @@
 -- What is returned of an accepted request for a store that several services share, and when its
 -- ticket becomes valid.
 use Rattle.std.specs.Prelude.{◌≡◌, ◌≤◌, ◌<◌, ◌⊎◌, ◌*◌, ℕ, ℤ, List, Option, Some, None}
-use Rattle.krb_msg.specs.Moments.{IsMoment, micros_of}
+use Rattle.krb_time.specs.Moments.{IsMoment, micros_of}
 use Rattle.krb_replay.specs.Bytes.{IsBytesOf}
 use Rattle.krb_replay.specs.Keeping.{kept_until}
 use Rattle.krb_ap.specs.declared.accepted.Accepted.{Accepted}

@@ -2,7 +2,7 @@
 
 ghost use Rattle.std.specs.Prelude.{◌≡◌, ◌≢◌, ◌<◌, ◌≤◌, ◌*◌, ◌↔◌, ◌⊎◌, Contains, List, [], None, Some, Err, IfErr, IfOk, IsErrOf, IsSomeAnd, MatchResult};
 ghost use Rattle.std.specs.Option.{MatchOption, option_map};
-ghost use Rattle.krb_msg.specs.Moments.{micros_of};
+ghost use Rattle.krb_time.specs.Moments.{micros_of};
 ghost use Rattle.krb_replay.specs.Memory.{IsSizeOf};
 ghost use Rattle.krb_ap.specs.History.{StandsFor};
 ghost use Rattle.krb_ap.specs.Setup.{arrival};

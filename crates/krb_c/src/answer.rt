@@ -1,7 +1,7 @@
 //! What each call answers.
 
 ghost use Rattle.std.specs.Prelude.{◌≡◌, SomeIff};
-ghost use Rattle.krb_msg.specs.Moments.{micros_of};
+ghost use Rattle.krb_time.specs.Moments.{micros_of};
 ghost use Rattle.krb_c.specs.Accepting.{IsMomentOf};
 ghost use Rattle.krb_c.specs.Codes.{cause_code};
 ghost use Rattle.krb_c.specs.Answer.{Hands, keytab_answer, plain, placed, refused, sized};

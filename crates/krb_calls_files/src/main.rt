@@ -1,10 +1,10 @@
-//! Makes the calls of names, keytabs and credential caches that the lines of standard input say, for the tests (tests/library.py).
+//! Makes the calls of lists, names, keytabs and credential caches that the lines of standard input say, for the tests (tests/library.py).
 //!
 //! One line is answered for each: what the call gave, or `bad line` if it can't be read. Single spaces stand between words.
 //!
 //! BYTES are hexadecimal digits, `-` for none, `HEX*N` for HEX N times, several such joined by `+`; more than 1,024 bytes are shown as
 //! `#LENGTH:SHA256`. LIST is `.` for none, or items joined by `,`, where `ITEM^N` is ITEM N times; what is shown of more than 2,048
-//! characters stands as `#LENGTH:SHA256` of it. A name is `TYPE/REALM/LIST`, of BYTES. A text follows `=`, up to the line's end.
+//! characters stands as `#LENGTH:SHA256` of it. NUMBERS is a LIST of decimal numbers. A name is `TYPE/REALM/LIST`, of BYTES. A text follows `=`, up to the line's end.
 //! SOURCE is `slice`, `reader`, `piece:N` (N bytes a read), `piece:N:K`, whose Kth read fails, or `flaky:0`, a reader that gives
 //! one byte, fails and is at its end (`flaky:1` has given it already). Faults are shown by `Debug`.
 //!
@@ -12,6 +12,10 @@
 //! new                                     ends what an earlier line opened
 //! laws                                    calls the laws, which do nothing
 //! fault name|read|keytab|cache FAULT [AT] the fault's text, and its offset
+//! index find HASH FROM NUMBERS            the places of the hash
+//! index fill HASH COUNT NUMBERS           and after `fill`
+//! maxima first LEAST NUMBERS              the place
+//! maxima taken LEAST NUMBERS              the places of numbers that are found and cleared, one after another
 //! name text NAME, read TYPE =TEXT, same NAME NAME, clone NAME
 //! bytes from|pushed|of|clone BYTES, bytes same BYTES BYTES       how many, whether there are none, and the bytes
 //! components pushed|clone LIST, room COUNT LIST, same LIST LIST
@@ -41,6 +45,7 @@ mod cache_calls;
 mod counted;
 mod flows;
 mod keytab_calls;
+mod lists;
 mod names;
 mod readers;
 mod sinks;
@@ -114,6 +119,8 @@ fn one(alloc: Global, line: &str) -> Option<String> {
         "name" => names::name(alloc, rest),
         "bytes" => names::bytes(alloc, rest),
         "components" => names::components(alloc, rest),
+        "index" => lists::index(alloc, rest),
+        "maxima" => lists::maxima(alloc, rest),
         "keytab" => keytab_calls::keytab(alloc, rest),
         "entry" => keytab_calls::entry(alloc, rest),
         "cache" => cache_calls::cache(alloc, rest),

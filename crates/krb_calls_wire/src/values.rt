@@ -9,6 +9,8 @@ use std::alloc::Global;
 
 /// ```text
 /// der seconds|microseconds NUMBER       the number, or none if it is no such value
+/// der to-text SECONDS                   the text of that second
+/// der from-text BYTES                   the second of which this is the text, or none
 /// der flags                             the bits of no flags
 /// der flag BIT                          the bits of flags with only this one
 /// der has BITS BIT                      whether this one is among them
@@ -24,6 +26,11 @@ pub(crate) fn answer(call: &str, words: &mut Words, out: &mut Answer) -> Option<
         },
         "microseconds" => match Microseconds::new(words.uint32()?) {
             Some(micros) => out.shown(micros.get()),
+            None => out.word("none"),
+        },
+        "to-text" => out.bytes(&Seconds::new(words.int64()?)?.to_text()),
+        "from-text" => match Seconds::from_text(&words.bytes()?) {
+            Some(seconds) => out.shown(seconds.get()),
             None => out.word("none"),
         },
         "flags" => out.shown(Flags::none().bits()),

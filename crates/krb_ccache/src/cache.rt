@@ -79,10 +79,11 @@ impl CCache {
 
     /// Parses the bytes of a file.
     ///
-    /// Finds a fault before it allocates memory. Then allocates memory as parts are read, and never
-    /// because of a count or a length that the bytes don't bear out. Beside the parts it holds a
-    /// copy of the bytes of one at a time. After the last credential it allocates 4 bytes or more
-    /// for each, for `find_server`.
+    /// Finds a fault, and counts the credentials, before it allocates memory. Then allocates memory
+    /// for their list at once, and for parts as they are read, never because of a count or a length
+    /// that the bytes don't bear out. Beside the parts it holds a copy of the bytes of one at a
+    /// time. After the last credential it allocates an index by server, of 20 bytes for each
+    /// credential and 8 more, for `find_server`.
     ///
     /// # Errors
     /// `OutOfMemory` if the bytes are a cache and there is no memory for a part; else the first
@@ -111,8 +112,8 @@ impl CCache {
         ensures offset { IfErr result (λ fault.
             IfSome (offset_of fault) (λ at. at ≤ length bytes.now)) }
     {
-        check(bytes)?;
-        match CCache::read(alloc, &mut SliceSource::new(bytes)) {
+        let count = check(bytes)?;
+        match CCache::read_from(alloc, &mut SliceSource::new(bytes), count) {
             Ok(cache) => Ok(cache),
             Err(_) => Err(CacheFault::OutOfMemory),
         }
@@ -120,7 +121,7 @@ impl CCache {
 
     /// Reads a source to its end, or to one byte past 16,777,216, and parses what it gave.
     ///
-    /// Allocates memory as parts are read, as `parse` does if there is no fault.
+    /// Allocates memory as parts are read, also for the list of credentials.
     ///
     /// Condition: fewer than 18,446,744,073,709,551,615 reads of the source have failed so far.
     ///
@@ -138,13 +139,32 @@ impl CCache {
         ensures failed { S.failure_count source.new
             ≡ S.failure_count source.old + failed_reads result }
     {
+        CCache::read_from(alloc, source, 0)
+    }
+
+    // Reads a source, and allocates memory for so many credentials at once.
+    fn read_from<S: Source>(
+        alloc: Global,
+        source: &mut S,
+        expected: usize,
+    ) -> Result<CCache, CacheFault>
+        requires { S.failure_count source.old < 2 ^ 64 - 1 }
+        ensures reads { ReadsFile IsAnswerOf CacheFault.OutOfMemory CacheFault.Read
+            (S.remaining source.old) (S.remaining source.new) result }
+        ensures failed { S.failure_count source.new
+            ≡ S.failure_count source.old + failed_reads result }
+    {
         let mut window = Window::new(alloc, source);
-        let answer = CCache::read_window(alloc, &mut window);
+        let answer = CCache::read_window(alloc, &mut window, expected);
         let _source = window.into_source();
         answer
     }
 
-    fn read_window<S: Source>(alloc: Global, window: &mut Window<S>) -> Result<CCache, CacheFault>
+    fn read_window<S: Source>(
+        alloc: Global,
+        window: &mut Window<S>,
+        expected: usize,
+    ) -> Result<CCache, CacheFault>
         requires reads { S.failure_count window.old.source < 2 ^ 64 - 1 }
         requires start { window.old.given ≡ 0 }
         ensures reads { ReadsFile IsAnswerOf CacheFault.OutOfMemory CacheFault.Read
@@ -158,7 +178,7 @@ impl CCache {
             header,
             default_principal,
         } = begin(alloc, window)?;
-        let credentials = steps(alloc, layout, window)?;
+        let credentials = steps(alloc, layout, window, expected)?;
         Ok(CCache {
             header,
             default_principal,
@@ -247,8 +267,10 @@ impl CCache {
     /// Returns the index of the first credential, from the index `from` on, whose server has the
     /// name `server`. Returns `None` if there is none. Name types aren't compared.
     ///
-    /// In a cache that was parsed or read, a name is compared only if its hash is that of `server`.
-    /// In a cache that was made by `from_parts` each is compared.
+    /// In a cache that was parsed or read, a name is compared only if its hash is that of `server`,
+    /// and finding it takes as long with many credentials as with few, unless their servers were
+    /// chosen so that many share a place in the index. In a cache that was made by `from_parts` each
+    /// is compared.
     pub fn find_server(&self, server: &Principal, from: usize) -> Option<usize>
         ensures found { IfSome result (IsFirstNamed server_of self.now.credentials server.now from) }
         ensures within { IfSome result (λ at. at < length self.now.credentials) }

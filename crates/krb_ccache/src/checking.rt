@@ -19,12 +19,12 @@ use crate::layout::Layout;
 use crate::taker::{Passing, Taker};
 use krb_name::{FileCursor, Principal, Short};
 
-/// Returns `Ok` if the bytes are a cache.
+/// Returns how many credentials the bytes have, if they are a cache.
 ///
 /// # Errors
 /// Those of `CCache::parse` except `OutOfMemory`.
 #[tactic(auto, using(crate::proofs::WalkParts::passed_some, crate::proofs::FileLaws::name_lies))]
-pub(crate) fn check(bytes: &[u8]) -> Result<(), CacheFault>
+pub(crate) fn check(bytes: &[u8]) -> Result<usize, CacheFault>
     ensures ok { OnOk result ((cache : Cache) × IsCache bytes.now cache) }
     ensures fault { IfErr result (IsFaultOf bytes.now) }
 {
@@ -38,8 +38,7 @@ pub(crate) fn check(bytes: &[u8]) -> Result<(), CacheFault>
         Ok(()) => {}
         Err(Short) => return Err(CacheFault::BadItem { at }),
     }
-    check_credentials(layout, &mut cursor)?;
-    Ok(())
+    Ok(check_credentials(layout, &mut cursor)?)
 }
 
 // Moves past the header that begins here, if the layout has one.
@@ -82,23 +81,24 @@ fn check_fields(body: &[u8]) -> Result<(), Short>
     Ok(())
 }
 
-// Moves past the credentials from here to the end.
+// Moves past the credentials from here to the end, and counts them.
 #[tactic(auto, using(crate::proofs::FileLaws::none_reached))]
-fn check_credentials(layout: Layout, cursor: &mut FileCursor<'_>) -> Result<(), CacheFault>
+fn check_credentials(layout: Layout, cursor: &mut FileCursor<'_>) -> Result<usize, CacheFault>
     requires { IsBytes cursor.old.rest }
     ensures ok { OnOk result ((credentials : List Spelled)
         × Reaches bytes_of (Spells layout) cursor.old credentials cursor.new) }
     ensures end { OnOk result (cursor.new.rest ≡ []) }
     ensures missing { IfErr result (StopsBy layout cursor.old) }
 {
+    let mut count: usize = 0;
     while !cursor.is_at_end() {
         let at = cursor.at();
         match skip::<Row>(layout, cursor) {
-            Ok(()) => {}
+            Ok(()) => count = count.saturating_add(1),
             Err(Short) => return Err(CacheFault::BadItem { at }),
         }
     }
-    Ok(())
+    Ok(count)
 }
 
 // Moves past the field that begins here. If there is none, the position is unspecified.

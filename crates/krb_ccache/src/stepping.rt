@@ -217,12 +217,14 @@ fn none_past<S: Source>(
     }
 }
 
-/// Reads the credentials to the end of the source.
+/// Reads the credentials to the end of the source. Allocates memory for so many of them at once, and
+/// for others as they are read.
 #[tactic(auto, using(crate::proofs::StepLaws::gives_step))]
 pub(crate) fn steps<S: Source>(
     alloc: Global,
     layout: Layout,
     window: &mut Window<S>,
+    expected: usize,
 ) -> Result<Vec<Credential>, CacheFault>
     requires within { window.old.given ≤ file_limit }
     requires reads { S.failure_count window.old.source < 2 ^ 64 - 1 }
@@ -241,7 +243,7 @@ pub(crate) fn steps<S: Source>(
         ≡ S.failure_count window.old.source + failed_reads result }
     ensures lent { S.lender window.new.source ≡ S.lender window.old.source }
 {
-    let mut credentials = Vec::new(alloc);
+    let mut credentials = Vec::with_capacity(alloc, expected)?;
     while let Some(credential) = step(alloc, layout, window)? {
         credentials.push(credential)?;
     }

@@ -10,8 +10,8 @@ use Rattle.krb_der.specs.Computed.Whole.{whole_of, natural_below}
 use Rattle.krb_der.specs.Computed.Read.{content_of}
 use Rattle.krb_der.proofs.Numbers.{number_within}
 use Rattle.krb_der.proofs.ContentLaws.{flags_found, flags_read, flags_unique, below_found, below_only, int32_found, int32_only, seq_number_found, seq_number_only, constant_found, constant_only}
-use Rattle.krb_der.proofs.ClockLaws.{time_read, time_found}
-use Rattle.krb_der.proofs.Calendar.{time_range, time_made, time_unique}
+use Rattle.krb_time.proofs.ClockLaws.{time_read, time_found}
+use Rattle.krb_time.proofs.Calendar.{time_range, time_made, time_unique}
 use Rattle.krb_der.proofs.ShortestLaws.{integer_be, flags_be}
 use Rattle.krb_der.proofs.Sizes.{natural_sized, integer_sized, natural_unique, integer_unique}
 use Rattle.krb_der.proofs.PartLaws.{IsPart, Part, plain_is}

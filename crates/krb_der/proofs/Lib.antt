@@ -1,9 +1,7 @@
 pub mod Numbers
-pub mod Calendar
 pub mod Found
 pub mod LengthLaws
 pub mod IntegerLaws
-pub mod ClockLaws
 pub mod ContentLaws
 pub mod PartLaws
 pub mod LeafLaws

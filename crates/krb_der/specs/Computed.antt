@@ -3,7 +3,6 @@
 -- else a fault by the rules.
 pub mod Steps
 pub mod Whole
-pub mod Clock
 pub mod Read
 pub mod Gives
 pub mod Listed

@@ -4,7 +4,7 @@ use Rattle.std.specs.Int.{w32}
 use Rattle.krb_der.specs.declared.fault.FaultKind.{FaultKind}
 use Rattle.krb_der.specs.declared.fault.FaultKind.TheVariants.{Length, Integer, Time, Flags}
 use Rattle.krb_der.specs.Whole.{IsNatural, IsInteger, AreFlags, IsNegative, IsSeqNumber, natural_size, integer_size}
-use Rattle.krb_der.specs.Time.{IsTime, IsSeconds}
+use Rattle.krb_time.specs.Time.{IsTime, IsSeconds}
 
 -- what an element without parts contains
 pub data Content : Type 0 where

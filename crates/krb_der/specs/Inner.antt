@@ -1,6 +1,5 @@
 -- Words that only private contracts and proofs cite.
 pub mod Shortest
-pub mod CivilView
 pub mod LengthView
 pub mod HeadView
 pub mod Limited

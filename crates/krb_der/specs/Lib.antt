@@ -1,4 +1,3 @@
-pub mod Time
 pub mod Whole
 pub mod Content
 pub mod Kind

@@ -8,10 +8,10 @@ ghost use Rattle.krb_der.specs.Computed.Gives.{Finds};
 ghost use Rattle.krb_der.specs.Computed.Read.{content_of};
 
 use crate::element::Element;
-use crate::time::{Seconds, time_in};
-use crate::value::{Constant, Flags, Microseconds, Octets, SeqNumber, Text};
+use crate::value::{Constant, Flags, Octets, SeqNumber, Text};
 use crate::whole::{flags_in, seq_number_in, whole};
 use crate::{Cursor, Fault, FaultKind, tag};
+use krb_time::{Microseconds, Seconds};
 
 /// A type whose values are those of one kind of element without parts.
 pub trait Leaf<'a>: Sized {
@@ -179,6 +179,6 @@ impl<'a> Leaf<'a> for Seconds {
     }
 
     fn value_in(bytes: &'a [u8]) -> Option<Seconds> {
-        time_in(bytes)
+        Seconds::from_text(bytes)
     }
 }

@@ -30,7 +30,7 @@
 //! The files by what they do. Reading: `head`, `length` and `tag` (an element's first bytes),
 //! `cursor`, `contents`, `leaf` and `whole` (elements without parts), `element`, `parts` and `row`
 //! (those with parts), `message`, `fault`. Writing: `writer`, `encoding`, `encoding_rows`. Both:
-//! `list`, `value`, `time`.
+//! `list`, `value`.
 //!
 //! `specs::Size` says how many bytes are written for a value, and so which values are too long for
 //! a message. `specs::Flags` says which bit of flags is which.
@@ -58,7 +58,6 @@ mod message;
 mod parts;
 mod row;
 mod tag;
-mod time;
 mod value;
 mod whole;
 mod writer;
@@ -68,9 +67,9 @@ pub use element::Element;
 pub use encoding::{Encode, encoded};
 pub use encoding_rows::{EncodeRow, write_application, write_sequence};
 pub use fault::{EncodeFault, Fault, FaultKind};
+pub use krb_time::{Microseconds, Seconds};
 pub use list::TextList;
 pub use message::{Message, parse};
 pub use row::{Field, Maybe, MaybeRef, Row};
-pub use time::Seconds;
-pub use value::{Constant, Flags, Microseconds, Octets, SeqNumber, Text};
+pub use value::{Constant, Flags, Octets, SeqNumber, Text};
 pub use writer::Writer;

@@ -1,10 +1,9 @@
 //! Values that share a Rust type with others.
 
-ghost use Rattle.std.specs.Prelude.{◌≡◌, ◌<◌, ◌↔◌, ℕ, IsTrue, SomeIff};
+ghost use Rattle.std.specs.Prelude.{◌≡◌, ◌<◌, ◌↔◌, ℕ, IsTrue};
 ghost use Rattle.krb_der.specs.Flags.{HasBit, weight};
 
 use std::fmt;
-use std::marker::Model;
 
 /// The bytes of an OCTET STRING.
 #[derive(Clone, Copy, PartialEq, Eq)]
@@ -65,44 +64,6 @@ impl Flags {
 /// the same 32 bits.
 #[derive(Clone, Copy, Debug, PartialEq, Eq)]
 pub struct SeqNumber(pub u32);
-
-/// The microseconds of a time: 0 to 999,999 (RFC 4120, section 5.2.4).
-#[derive(Clone, Copy, Debug, PartialEq, Eq, PartialOrd, Ord, Hash)]
-pub struct Microseconds {
-    micros: u32,
-}
-
-impl Model for Microseconds {
-    ghost use Rattle.std.specs.Prelude.{ℕ, ◌<◌};
-
-    ghost Value = { ℕ };
-
-    ghost view = { λ m. m.micros };
-
-    ghost invariant = { λ m. m.micros < 1_000_000 };
-
-    ghost inverse = { λ n. record { micros = n } };
-}
-
-impl Microseconds {
-    /// Returns that many microseconds, or `None` from 1,000,000 on.
-    pub fn new(micros: u32) -> Option<Self>
-        ensures { SomeIff result (micros < 1_000_000) micros }
-    {
-        if micros >= 1_000_000 {
-            return None;
-        }
-        Some(Microseconds { micros })
-    }
-
-    /// Returns the number of microseconds.
-    pub fn get(self) -> u32
-        ensures value { result ≡ self }
-        ensures range { result < 1_000_000 }
-    {
-        self.micros
-    }
-}
 
 /// The whole number `N`, at a place at which no other is allowed.
 #[derive(Clone, Copy, Debug, PartialEq, Eq)]

@@ -10,7 +10,6 @@ ghost use Rattle.krb_der.specs.Writing.{Appends, AppendsElement, Wraps};
 
 use crate::cursor::LIMIT;
 use crate::head::head_of;
-use crate::time::text_of;
 use crate::whole::shortest;
 use crate::{EncodeFault, Flags, Microseconds, Seconds, tag};
 use std::alloc::{AllocError, Global};
@@ -207,7 +206,7 @@ impl Writer {
     pub fn time(&mut self, value: Seconds) -> Result<(), AllocError>
         ensures { AppendsElement (leaf time) value result self.old self.new }
     {
-        self.element(tag::GENERALIZED_TIME, &text_of(value))
+        self.element(tag::GENERALIZED_TIME, &value.to_text())
     }
 
     /// Makes what was written from `start` on the content of an element with this tag: puts the tag

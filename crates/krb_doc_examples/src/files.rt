@@ -2,12 +2,27 @@
 
 use anyhow::Result;
 use krb_ccache::CCache;
+use krb_index::{HashIndex, Maxima};
 use krb_keytab::{EntryReader, Keytab};
 use krb_name::{Bytes, Components, Principal, ReadSource, WriteSink, write_all};
 use krb_readable::readable_keytab;
 use std::alloc::Global;
 use std::fs::File;
 use std::io;
+
+/// Finds hashes and numbers in lists.
+pub fn find_in_lists(alloc: Global) -> Result<()> {
+    let index = HashIndex::new(alloc, Vec::from_array(alloc, [7, 9, 7])?)?;
+    index.find(7, 0); // Some(0)
+    index.find(7, 1); // Some(2)
+    index.find(7, 3); // None
+
+    let mut sizes = Maxima::new(alloc, &[3, 8, 5])?;
+    sizes.first(4); // Some(1)
+    sizes.clear(1);
+    sizes.first(4); // Some(2)
+    Ok(())
+}
 
 /// Writes a name.
 pub fn write_name(rt: &HostRuntime, alloc: Global) -> Result<()> {

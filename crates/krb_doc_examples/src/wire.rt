@@ -4,6 +4,7 @@ use anyhow::Result;
 use krb_gss::{Opened, open_token};
 use krb_msg::{ApReqRef, Authenticator, MUTUAL_REQUIRED, Moment};
 use krb_name::Principal;
+use krb_time::{Microseconds, Seconds};
 use krb_words::{Answer, Words};
 use std::alloc::Global;
 use std::fmt::Write;
@@ -26,6 +27,13 @@ pub fn derive(header: &[u8], body: &[u8], base_key: [u8; 16], long_base_key: [u8
     // A key made ready once gives many codes, or many keys, for half the work.
     let ready = HmacSha256::new(&base_key);
     let ke: [u8; 16] = ready.derive_19(2, Purpose::Ke);
+}
+
+/// Returns the microseconds of a moment a quarter of a second after a message's time.
+pub fn a_quarter_after(text: &[u8]) -> Option<i64> {
+    let second = Seconds::from_text(text)?;
+    let moment = Moment::at(second, Microseconds::new(250_000)?);
+    Some(moment.micros())
 }
 
 /// Prints the service of a request, and writes an authenticator.

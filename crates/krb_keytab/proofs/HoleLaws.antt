@@ -5,9 +5,9 @@ use Rattle.std.specs.Prelude.{All, nat_lt, slice_index, slice_set}
 use Rattle.std.proofs.lemmas.Bool.{lt-ltb}
 use Rattle.std.proofs.lemmas.List.{get_or-map, get_or-take, length-map, set_split}
 use Rattle.std.proofs.lemmas.List.Elements.{All-filter, All-from_recursion, All-head, All-tail, filter-append}
+use Rattle.krb_index.specs.Places.{IsFirstAtLeast}
 use Rattle.krb_keytab.specs.Format.{KeytabRecord, hole, entry, record_bytes}
 use Rattle.krb_keytab.specs.Inner.Holes.{free}
-use Rattle.krb_keytab.specs.Inner.Maxima.{AreLess, IsFirstPlace}
 use Rattle.krb_keytab.specs.Inner.Room.{holes_of, IsTaken}
 use Rattle.krb_keytab.specs.declared.holes.Hole.{Hole}
 use Rattle.krb_keytab.proofs.RoomLaws.{hole_at}
@@ -36,21 +36,23 @@ have_bytes_all at records holes are = subst (All (λ (hole : Hole). 0 < hole.siz
 size_at : (holes : List Hole) (sizes : List ℕ) (k : ℕ) (d : Hole) → sizes ≡ map (λ (hole : Hole). hole.size) holes → k < length holes → (get_or holes k d).size ≡ slice_index sizes k
 size_at holes sizes k d are within = sym (ap (λ (l : List ℕ). slice_index l k) are ∙ get_or-map (λ (hole : Hole). hole.size) holes k d 0 within)
 
-pub none_long : (holes : List Hole) (sizes : List ℕ) (size : ℕ) → sizes ≡ map (λ (hole : Hole). hole.size) holes → AreLess sizes size → All (λ hole. hole.size < size) (free holes)
+pub none_long : (holes : List Hole) (sizes : List ℕ) (size : ℕ) → sizes ≡ map (λ (hole : Hole). hole.size) holes → All (λ number. number < size) sizes → All (λ hole. hole.size < size) (free holes)
 none_long holes sizes size are less =
     All-filter (λ (hole : Hole). nat_lt 0 hole.size) (λ (hole : Hole). hole.size < size) holes
-    (λ k d within. subst (λ n. n < size) (sym (size_at holes sizes k d are within)) (less k))
+    (λ k d within.
+    let inside : k < length sizes = omega (arith, ap length are, length-map holes (λ (hole : Hole). hole.size)) in
+    subst (λ n. n < size) (sym (size_at holes sizes k d are within)) (less k 0 inside))
 
-before_short : (holes : List Hole) (sizes : List ℕ) (size at : ℕ) → sizes ≡ map (λ (hole : Hole). hole.size) holes → IsFirstPlace sizes size at → at < length holes → All (λ hole. hole.size < size) (take at holes)
+before_short : (holes : List Hole) (sizes : List ℕ) (size at : ℕ) → sizes ≡ map (λ (hole : Hole). hole.size) holes → IsFirstAtLeast sizes size at → at < length holes → All (λ hole. hole.size < size) (take at holes)
 before_short holes sizes size at are is inside = λ k d within.
     let below : k < at = omega (arith, length-take at holes) in
     let there = size_at holes sizes k d are (omega arith) in
     rw (get_or-take at holes k d below) (subst (λ n. n < size) (sym there) (is.before k below))
 
-pub in_holes : (holes : List Hole) (sizes : List ℕ) (size at : ℕ) → sizes ≡ map (λ (hole : Hole). hole.size) holes → IsFirstPlace sizes size at → at < length holes
+pub in_holes : (holes : List Hole) (sizes : List ℕ) (size at : ℕ) → sizes ≡ map (λ (hole : Hole). hole.size) holes → IsFirstAtLeast sizes size at → at < length holes
 in_holes holes sizes size at are is = omega (arith, is.within, ap length are, length-map holes (λ (hole : Hole). hole.size))
 
-pub is_taken : (holes : List Hole) (sizes : List ℕ) (size at : ℕ) (one : Hole) → 0 < size → sizes ≡ map (λ (hole : Hole). hole.size) holes → IsFirstPlace sizes size at → one ≡ get_or holes at one
+pub is_taken : (holes : List Hole) (sizes : List ℕ) (size at : ℕ) (one : Hole) → 0 < size → sizes ≡ map (λ (hole : Hole). hole.size) holes → IsFirstAtLeast sizes size at → one ≡ get_or holes at one
     → IsTaken (free holes) size one (free (slice_set holes at (record one { size = 0 })))
 is_taken holes sizes size at one some are is there =
     let within = in_holes holes sizes size at are is in

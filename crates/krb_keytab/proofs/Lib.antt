@@ -1,8 +1,6 @@
 pub mod EntryLaws
 pub mod FileLaws
 pub mod PickLaws
-pub mod IndexLaws
-pub mod OnlyLaws
 pub mod AnswerLaws
 pub mod ChoiceLaws
 pub mod SomeChoice
@@ -19,7 +17,6 @@ pub mod StandLaws
 pub mod ToldLaws
 pub mod OnePlace
 pub mod RoomLaws
-pub mod MaximaLaws
 pub mod HoleLaws
 pub mod AdderLaws
 pub mod KeyLaws

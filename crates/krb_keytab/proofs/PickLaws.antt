@@ -1,10 +1,13 @@
 -- What is picked where one entry more is there.
-use Rattle.std.proofs.Common.{◌≡◌, ℕ, ◌<◌, ◌≤◌, ℤ, Bor, subst, List, [], ◌∷◌, ◌++◌, ◌+◌, length, take, get_or, Option, refl, sym, ap, ◌∙◌, append_assoc, arith}
+use Rattle.std.proofs.Common.{◌≡◌, ℕ, ◌<◌, ◌≤◌, ℤ, Bor, subst, List, [], ◌∷◌, ◌++◌, ◌+◌, length, take, drop, get_or, Option, refl, sym, ap, ◌∙◌, append_assoc, append-nil, arith}
+use Rattle.std.specs.List.{AllByRecursion}
 use Rattle.std.specs.Prelude.{All}
-use Rattle.std.proofs.lemmas.List.Elements.{All-push, All-append, All-cons, All-weaker, All-nil, All-same}
-use Rattle.std.proofs.lemmas.List.{take_more, take_all}
+use Rattle.std.proofs.Math.Seq.{get_or-append_seam, take-append_seam}
+use Rattle.std.proofs.lemmas.List.Elements.{All-push, All-append, All-cons, All-weaker, All-nil, All-same, recursion_from_All}
+use Rattle.std.proofs.lemmas.List.{take_more, take-append-drop, take-append-le}
 use Rattle.krb_name.specs.declared.principal.Principal.{Principal}
 use Rattle.krb_name.specs.Name.{SameName}
+use Rattle.krb_name.specs.Named.{HasOtherName, IsFirstNamed}
 use Rattle.krb_keytab.specs.Entry.{KeytabEntry}
 use Rattle.krb_keytab.specs.Usable.{IsUsable}
 use Rattle.krb_keytab.specs.Pick.{IsKeyOf, IsCandidate, HasEntry, IsChosen, IsChoice, Choice, chosen, no_name, no_key, no_version, choice_of, IsPicked}
@@ -114,7 +117,36 @@ pub one_more : (entries : List KeytabEntry) (index : ℕ) (e : KeytabEntry) (nam
 one_more entries index e name etype kvno picked lt is h =
     subst (λ (t : List KeytabEntry). IsPicked t name etype kvno picked) (ap (λ (x : KeytabEntry). take index entries ++ x ∷ []) is ∙ sym (take_more entries index e lt)) h
 
-pub all_seen : (entries all : List KeytabEntry) (index : ℕ) (name : Principal) (etype other : ℤ) (kvno : Option ℕ) (picked : Picked) → length entries ≤ index → entries ≡ all → other ≡ etype
-    → IsPicked (take index entries) name other kvno picked → IsPicked all name etype kvno picked
-all_seen entries all index name etype other kvno picked le same e h =
-    subst (λ (z : ℤ). IsPicked all name z kvno picked) e (subst (λ (t : List KeytabEntry). IsPicked t name other kvno picked) (take_all index entries le ∙ same) h)
+-- ---- passing over other names
+
+others_more : (front others : List KeytabEntry) (name : Principal) (etype : ℤ) (kvno : Option ℕ) (choice : Choice) → AllByRecursion (λ (e : KeytabEntry). ¬ SameName e.principal name) others → IsChoice front name etype kvno choice
+    → IsChoice (front ++ others) name etype kvno choice
+others_more front [] name etype kvno choice all h = subst (λ (t : List KeytabEntry). IsChoice t name etype kvno choice) (sym (append-nil front)) h
+others_more front (e ∷ others) name etype kvno choice all h =
+    subst (λ (t : List KeytabEntry). IsChoice t name etype kvno choice) (append_assoc front (e ∷ []) others)
+    (others_more (front ++ e ∷ []) others name etype kvno choice all.1 (other_name front name etype kvno e choice all.0 h))
+
+others_passed : (entries : List KeytabEntry) (from : ℕ) (name : Principal) (etype : ℤ) (kvno : Option ℕ) (choice : Choice) → All (HasOtherName (λ (e : KeytabEntry). e.principal) name) (drop from entries) → IsChoice (take from entries) name etype kvno choice
+    → IsChoice entries name etype kvno choice
+others_passed entries from name etype kvno choice all h =
+    subst (λ (t : List KeytabEntry). IsChoice t name etype kvno choice) (take-append-drop from entries)
+    (others_more (take from entries) (drop from entries) name etype kvno choice (recursion_from_All (λ (e : KeytabEntry). ¬ SameName e.principal name) (drop from entries) all) h)
+
+pub none_left : (entries : List KeytabEntry) (from : ℕ) (name : Principal) (etype : ℤ) (kvno : Option ℕ) (picked : Picked) → All (HasOtherName (λ (e : KeytabEntry). e.principal) name) (drop from entries) → IsPicked (take from entries) name etype kvno picked
+    → IsPicked entries name etype kvno picked
+none_left entries from name etype kvno picked all h = others_passed entries from name etype kvno (choice_of picked) all h
+
+-- the entries before the one that was found
+pub passed_over : (entries : List KeytabEntry) (from at : ℕ) (name : Principal) (etype : ℤ) (kvno : Option ℕ) (picked : Picked) → IsFirstNamed (λ (e : KeytabEntry). e.principal) entries name from at → IsPicked (take from entries) name etype kvno picked
+    → IsPicked (take at entries) name etype kvno picked
+passed_over entries from at name etype kvno picked first h =
+    let short : take from entries ≡ take from first.before = ap (take from) first.items_are ∙ take-append-le from first.before (first.one ∷ first.after) (omega (arith, first.forward, first.at_is)) in
+    let whole : take at entries ≡ first.before = ap (take at) first.items_are ∙ ap (λ n. take n (first.before ++ first.one ∷ first.after)) first.at_is ∙ take-append_seam first.before (first.one ∷ first.after) in
+    subst (λ (t : List KeytabEntry). IsPicked t name etype kvno picked) (sym whole)
+    (others_passed first.before from name etype kvno (choice_of picked) first.others (subst (λ (t : List KeytabEntry). IsPicked t name etype kvno picked) short h))
+
+-- and that one
+pub found_name : (entries : List KeytabEntry) (from at : ℕ) (name : Principal) (e : KeytabEntry) → IsFirstNamed (λ (e : KeytabEntry). e.principal) entries name from at → e ≡ get_or entries at e → SameName e.principal name
+found_name entries from at name e first is =
+    let one : e ≡ first.one = is ∙ ap (λ (t : List KeytabEntry). get_or t at e) first.items_are ∙ ap (λ n. get_or (first.before ++ first.one ∷ first.after) n e) first.at_is ∙ get_or-append_seam first.before first.one first.after e in
+    subst (λ (x : KeytabEntry). SameName x.principal name) (sym one) first.same

@@ -1,8 +1,7 @@
 pub mod Entry
 pub mod Finding
 pub mod Holes
-pub mod Index
-pub mod Maxima
+pub mod KeyHash
 pub mod Meeting
 pub mod Pick
 pub mod Putting

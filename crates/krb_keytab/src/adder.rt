@@ -43,7 +43,8 @@ impl Model for EntryAdder {
 impl EntryAdder {
     /// Takes the bytes of a file, and reads where its holes are.
     ///
-    /// Allocates memory for the list of holes, 32 bytes or more for each.
+    /// Allocates memory for the list of holes, 40 bytes or more for each. It frees 8 of these before
+    /// it returns.
     ///
     /// # Errors
     /// The bytes are freed.

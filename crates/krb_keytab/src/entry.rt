@@ -1,14 +1,13 @@
 //! An entry of a keytab.
 
 ghost use Rattle.std.specs.Prelude.{◌≡◌, ◌↔◌, ◌<◌, ◌≤◌, ◌*◌, ◌^◌, length, All, IsTrue, SomeIff, Some};
-ghost use Rattle.krb_name.specs.Name.{name_hash};
 ghost use Rattle.krb_keytab.specs.Entry.{KeytabEntry, LengthsFit, FitsEntry};
-ghost use Rattle.krb_keytab.specs.Inner.Index.{key_hash};
+ghost use Rattle.krb_keytab.specs.Inner.KeyHash.{key_hash};
 ghost use Rattle.krb_keytab.specs.Written.{record_length};
 
 use crate::part::Part;
 use crate::step::SIZE_LENGTH;
-use krb_name::{Bytes, Principal};
+use krb_name::{Bytes, Named, Principal};
 use std::fmt;
 use std::hash::{FoldHasher, Hasher};
 use std::marker::Model;
@@ -24,8 +23,6 @@ pub struct Entry {
     timestamp: u32,
     kvno: u32,
     etype: i16,
-    // That of the principal.
-    hash: u32,
     key: Vec<u8>,
 }
 
@@ -40,7 +37,7 @@ impl Model for Entry {
       key = e.key.items;
     } };
 
-    ghost invariant = { λ e. LengthsFit e.principal e.key.items × (e.hash ≡ name_hash e.principal) };
+    ghost invariant = { λ e. LengthsFit e.principal e.key.items };
 }
 
 // The greatest count, and the greatest length in bytes, of a field of 16 bits.
@@ -91,7 +88,6 @@ impl Entry {
         } }
     {
         Entry {
-            hash: principal.name_hash(),
             principal,
             timestamp,
             kvno,
@@ -135,20 +131,13 @@ impl Entry {
         self.etype
     }
 
-    // The hash of the principal's name.
-    pub(crate) fn hash(&self) -> u32
-        ensures { result ≡ name_hash self.now.principal }
-    {
-        self.hash
-    }
-
     // The hash of the whole key.
-    #[tactic(auto, unfolding(crate::specs::Inner::Index::key_hash))]
+    #[tactic(auto, unfolding(crate::specs::Inner::KeyHash::key_hash))]
     pub(crate) fn key_hash(&self) -> u32
         ensures { result ≡ key_hash self.now }
     {
         let mut hasher = FoldHasher::default();
-        hasher.write_u32(self.hash);
+        hasher.write_u32(self.principal.name_hash());
         hasher.write_i16(self.etype);
         hasher.write_u32(self.kvno);
         hasher.write(self.key.as_slice());
@@ -169,6 +158,14 @@ impl Entry {
         ensures { result.now ≡ self.now.key }
     {
         self.key.as_slice()
+    }
+}
+
+impl Named for Entry {
+    ghost name_of = { λ entry. entry.principal };
+
+    fn name(&self) -> &Principal {
+        &self.principal
     }
 }
 

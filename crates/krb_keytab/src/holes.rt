@@ -1,10 +1,10 @@
 //! The holes of a keytab, which take entries.
 
-ghost use Rattle.std.specs.Prelude.{◌≡◌, ◌<◌, All, IfOk, MatchOption, length, slice_index_or, slice_set};
+ghost use Rattle.std.specs.Prelude.{◌≡◌, ◌<◌, All, IfOk, MatchOption, length, map, slice_index_or, slice_set};
 ghost use Rattle.krb_keytab.specs.Inner.Room.{IsTaken};
 
 use crate::finding::{Extent, Gather};
-use crate::maxima::Maxima;
+use krb_index::Maxima;
 use std::alloc::{AllocError, Global};
 use std::marker::Model;
 
@@ -41,7 +41,7 @@ impl Holes {
         requires { All (λ hole. 0 < hole.size) holes.items }
         ensures { IfOk result (λ made. made ≡ holes.items) }
     {
-        let sizes = Maxima::new(alloc, holes.as_slice())?;
+        let sizes = Maxima::new(alloc, &sizes_of(alloc, &holes)?)?;
         Ok(Holes { holes, sizes })
     }
 
@@ -60,6 +60,16 @@ impl Holes {
             None => None,
         }
     }
+}
+
+fn sizes_of(alloc: Global, holes: &[Hole]) -> Result<Vec<usize>, AllocError>
+    ensures { IfOk result (λ sizes. sizes.items ≡ map (λ hole. hole.size) holes.now) }
+{
+    let mut sizes = Vec::with_capacity(alloc, holes.len())?;
+    for hole in holes {
+        sizes.push(hole.size)?;
+    }
+    Ok(sizes)
 }
 
 // Returns the hole at a place, and leaves it without bytes.

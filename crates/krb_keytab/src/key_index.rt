@@ -1,11 +1,10 @@
 //! Looking for keys.
 
-ghost use Rattle.std.specs.Prelude.{◌≡◌, ◌↔◌, ◌≤◌, IfOk, IsTrue, length, take};
-ghost use Rattle.krb_keytab.specs.Inner.Index.{IsKeyIndex};
+ghost use Rattle.std.specs.Prelude.{◌≡◌, ◌↔◌, IfOk, IsTrue, take};
 ghost use Rattle.krb_keytab.specs.SameKey.{HasKeyOf, IsSameKey};
 
 use crate::entry::Entry;
-use crate::index::{By, EntryIndex};
+use krb_index::HashIndex;
 use std::alloc::{AllocError, Global};
 use std::marker::Model;
 
@@ -20,29 +19,34 @@ use std::marker::Model;
 #[derive(Drop)]
 pub struct KeyIndex<'a> {
     entries: &'a [Entry],
-    index: EntryIndex,
+    // Of the hashes of their keys, in the same order.
+    index: HashIndex,
 }
 
 impl<'a> Model for KeyIndex<'a> {
-    ghost use Rattle.std.specs.Prelude.{List};
+    ghost use Rattle.std.specs.Prelude.{◌≡◌, List, map};
     ghost use Rattle.krb_keytab.specs.Entry.{KeytabEntry};
-    ghost use Rattle.krb_keytab.specs.Inner.Index.{IsKeyIndex};
+    ghost use Rattle.krb_keytab.specs.Inner.KeyHash.{key_hash};
 
     ghost Value = { List KeytabEntry };
 
     ghost view = { λ k. k.entries.now };
 
-    ghost invariant = { λ k. IsKeyIndex k.index k.entries.now };
+    ghost invariant = { λ k. k.index ≡ map key_hash k.entries.now };
 }
 
 impl<'a> KeyIndex<'a> {
     /// Makes the index of `entries`.
     ///
-    /// Allocates 16 bytes for each entry, and 8 more.
+    /// Allocates 20 bytes for each entry, and 8 more.
     pub fn new(alloc: Global, entries: &'a [Entry]) -> Result<KeyIndex<'a>, AllocError>
         ensures { IfOk result (λ index. index ≡ entries.now) }
     {
-        let index = EntryIndex::new(alloc, By::Key, entries)?;
+        let mut hashes = Vec::with_capacity(alloc, entries.len())?;
+        for entry in entries {
+            hashes.push(entry.key_hash())?;
+        }
+        let index = HashIndex::new(alloc, hashes)?;
         Ok(KeyIndex { entries, index })
     }
 
@@ -50,35 +54,27 @@ impl<'a> KeyIndex<'a> {
     pub fn has(&self, entry: &Entry) -> bool
         ensures { IsTrue result ↔ HasKeyOf self.now entry.now }
     {
-        is_indexed_before(self.entries, &self.index, self.entries.len(), entry)
+        self.has_before(self.entries.len(), entry)
     }
 
-    /// Returns whether one of the first `place` entries has the key of `entry`.
-    ///
-    /// Condition: there are at least `place` entries.
+    /// Returns whether one of the first `place` entries has the key of `entry`. If there are fewer,
+    /// it looks for it in all.
     pub fn has_before(&self, place: usize, entry: &Entry) -> bool
-        requires { place ≤ length self.now }
         ensures { IsTrue result ↔ HasKeyOf (take place self.now) entry.now }
     {
-        is_indexed_before(self.entries, &self.index, place, entry)
-    }
-}
-
-// Whether one of the first entries has the key of `entry`. Looks only at those to which the index
-// leads.
-fn is_indexed_before(entries: &[Entry], index: &EntryIndex, place: usize, entry: &Entry) -> bool
-    requires index { IsKeyIndex index.now entries.now }
-    requires place { place ≤ length entries.now }
-    ensures { IsTrue result ↔ HasKeyOf (take place entries.now) entry.now }
-{
-    let mut at = index.first(entry.key_hash());
-    while at < place {
-        if is_same_key(&entries[at], entry) {
-            return true;
+        let hash = entry.key_hash();
+        let mut from = 0;
+        while let Some(at) = self.index.find(hash, from) {
+            if at >= place {
+                return false;
+            }
+            if is_same_key(&self.entries[at], entry) {
+                return true;
+            }
+            from = at + 1;
         }
-        at = index.next(at);
+        false
     }
-    false
 }
 
 fn is_same_key(one: &Entry, other: &Entry) -> bool

@@ -15,11 +15,10 @@ use crate::entry::Entry;
 use crate::fault::KeytabFault;
 use crate::feed::{Feed, Slice};
 use crate::finding::find_entry;
-use crate::index::{By, EntryIndex, renew};
-use crate::pick::{Picked, pick_each, pick_indexed};
+use crate::pick::{Picked, pick_entry};
 use crate::step::{VERSION, read_entries};
 use crate::writing::put_record;
-use krb_name::{FILE_LIMIT, Principal, Source, Window};
+use krb_name::{FILE_LIMIT, NamedList, Principal, Source, Window};
 use std::alloc::{AllocError, Global};
 use std::fmt;
 use std::marker::Model;
@@ -27,21 +26,16 @@ use std::marker::Model;
 /// A keytab: the entries of a file, in their order. A contract sees it as their list.
 #[derive(Drop)]
 pub struct Keytab {
-    entries: Vec<Entry>,
-    // None if there are few entries.
-    index: Option<EntryIndex>,
+    entries: NamedList<Entry>,
 }
 
 impl Model for Keytab {
-    ghost use Rattle.std.specs.Prelude.{List, IfSome};
+    ghost use Rattle.std.specs.Prelude.{List};
     ghost use Rattle.krb_keytab.specs.Entry.{KeytabEntry};
-    ghost use Rattle.krb_keytab.specs.Inner.Index.{IsNameIndex};
 
     ghost Value = { List KeytabEntry };
 
-    ghost view = { λ k. k.entries.items };
-
-    ghost invariant = { λ k. IfSome k.index (λ index. IsNameIndex index k.entries.items) };
+    ghost view = { λ k. k.entries };
 }
 
 // As many entries have no index. They are looked at one by one.
@@ -51,7 +45,7 @@ impl Keytab {
     /// Parses the bytes of a file.
     ///
     /// Allocates memory as entries are read, and never because of a count or a length that the
-    /// bytes don't bear out. After the last entry it allocates an index by name, of 16 bytes for
+    /// bytes don't bear out. After the last entry it allocates an index by name, of 20 bytes for
     /// each entry and 8 more. A keytab of at most 8 entries has none.
     ///
     /// # Errors
@@ -131,12 +125,12 @@ impl Keytab {
     fn of_entries(alloc: Global, entries: Vec<Entry>) -> Result<Keytab, AllocError>
         ensures { IfOk result (λ keytab. keytab ≡ entries.items) }
     {
-        let index = if entries.len() > FEW {
-            Some(EntryIndex::new(alloc, By::Name, entries.as_slice())?)
+        let entries = if entries.len() > FEW {
+            NamedList::hashed(alloc, entries)?
         } else {
-            None
+            NamedList::plain(entries)
         };
-        Ok(Keytab { entries, index })
+        Ok(Keytab { entries })
     }
 
     /// Writes the entries as the bytes of a file: their records, without holes and without an end.
@@ -184,9 +178,7 @@ impl Keytab {
         ensures only { KeepsOnly name.now self result }
         ensures named { All (λ entry. SameName entry.principal name.now) result }
     {
-        self.entries
-            .retain(|entry| entry.principal().same_name(name));
-        renew(&mut self.index, self.entries.as_slice());
+        self.entries.retain_named(name);
         self
     }
 
@@ -198,17 +190,13 @@ impl Keytab {
     /// the highest number. Names are compared as by `Principal::same_name`. Decrypts nothing and
     /// allocates no memory.
     ///
-    /// If there are more than 8 entries, it looks only at those whose name has the same place in the
-    /// index. These are the entries of that name, and few others, unless the keytab's names were
-    /// chosen so that many share a place.
+    /// If there are more than 8 entries, it looks only at those whose name has the same hash, and
+    /// passes over those that share its place in the index. These are few, unless the keytab's names
+    /// were chosen so that many share a place.
     pub fn pick(&self, name: &Principal, etype: i32, kvno: Option<u32>) -> Picked<'_>
         ensures { IsPicked self.now name.now etype kvno result }
     {
-        let entries = self.entries.as_slice();
-        match &self.index {
-            Some(index) => pick_indexed(entries, index, name, etype, kvno),
-            None => pick_each(entries, name, etype, kvno),
-        }
+        pick_entry(&self.entries, name, etype, kvno)
     }
 }
 
@@ -229,7 +217,7 @@ impl fmt::Debug for Keytab {
     ghost debug_output = { λ keytab. Some (shown_keytab keytab) };
 
     fn fmt<W: fmt::Write>(&self, f: &mut fmt::Formatter<W>) -> fmt::Result {
-        let count = self.entries.len();
+        let count = self.entries().len();
         write!(f, "Keytab({count} entries)")
     }
 }

@@ -1,14 +1,14 @@
 //! The choice of an entry for a principal.
 
 ghost use Rattle.std.specs.Prelude.{◌≡◌, ◌∷◌, ◌++◌, [], List};
+ghost use Rattle.krb_name.specs.declared.principal.Principal.{Principal as PrincipalValue};
+ghost use Rattle.krb_name.specs.Name.{SameName};
 ghost use Rattle.krb_keytab.specs.Entry.{KeytabEntry};
-ghost use Rattle.krb_keytab.specs.Inner.Index.{IsNameIndex};
 ghost use Rattle.krb_keytab.specs.Pick.{IsPicked};
 
 use crate::entry::Entry;
-use crate::index::EntryIndex;
 use crate::usable::{has_version, is_key};
-use krb_name::Principal;
+use krb_name::{NamedList, Principal};
 
 /// What a keytab has for a principal, an encryption type and a version number.
 #[derive(Clone, Copy)]
@@ -27,20 +27,12 @@ impl<'a> Picked<'a> {
     ghost use Rattle.krb_keytab.specs.Pick.{IsPicked, choice_of};
     ghost use Rattle.krb_keytab.specs.Inner.Pick.{or_no_key, or_no_version};
 
-    // What is picked if there is one more entry.
-    pub(crate) fn or_entry(
-        self,
-        entry: &'a Entry,
-        name: &Principal,
-        etype: i32,
-        kvno: Option<u32>,
-    ) -> Picked<'a>
-        ensures { (entries : List KeytabEntry) → IsPicked entries name.now etype kvno self.entry
-            → IsPicked (entries ++ entry.now ∷ []) name.now etype kvno result }
+    // What is picked if there is one more entry of the name.
+    pub(crate) fn or_entry(self, entry: &'a Entry, etype: i32, kvno: Option<u32>) -> Picked<'a>
+        ensures { (entries : List KeytabEntry) (name : PrincipalValue)
+            → SameName entry.now.principal name → IsPicked entries name etype kvno self.entry
+            → IsPicked (entries ++ entry.now ∷ []) name etype kvno result }
     {
-        if !entry.principal().same_name(name) {
-            return self;
-        }
         if !is_key(entry, etype) {
             return self.or_no_key();
         }
@@ -72,9 +64,9 @@ impl<'a> Picked<'a> {
     }
 }
 
-/// Picks an entry, and looks at each.
-pub(crate) fn pick_each<'a>(
-    entries: &'a [Entry],
+/// Picks an entry, and looks at those of the name.
+pub(crate) fn pick_entry<'a>(
+    entries: &'a NamedList<Entry>,
     name: &Principal,
     etype: i32,
     kvno: Option<u32>,
@@ -82,28 +74,10 @@ pub(crate) fn pick_each<'a>(
     ensures { IsPicked entries.now name.now etype kvno result }
 {
     let mut picked = Picked::NoName;
-    for entry in entries {
-        picked = picked.or_entry(entry, name, etype, kvno);
-    }
-    picked
-}
-
-/// Picks an entry, and looks at those that the index leads to.
-pub(crate) fn pick_indexed<'a>(
-    entries: &'a [Entry],
-    index: &EntryIndex,
-    name: &Principal,
-    etype: i32,
-    kvno: Option<u32>,
-) -> Picked<'a>
-    requires { IsNameIndex index.now entries.now }
-    ensures { IsPicked entries.now name.now etype kvno result }
-{
-    let mut picked = Picked::NoName;
-    let mut at = index.first(name.name_hash());
-    while at < entries.len() {
-        picked = picked.or_entry(&entries[at], name, etype, kvno);
-        at = index.next(at);
+    let mut from = 0;
+    while let Some(at) = entries.find(name, from) {
+        picked = picked.or_entry(&entries.as_slice()[at], etype, kvno);
+        from = at + 1;
     }
     picked
 }

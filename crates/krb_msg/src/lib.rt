@@ -1,5 +1,5 @@
-//! The messages of the AP exchange (RFC 4120, sections 5.2 to 5.5 and 5.9), and moments. Messages
-//! are read in place, copied and written.
+//! The messages of the AP exchange (RFC 4120, sections 5.2 to 5.5 and 5.9). They are read in place,
+//! copied and written.
 //!
 //! `specs::Module` has each message as a kind of `krb_der`, and reads like the table of the RFC. A
 //! view, such as [`TicketRef`], holds the fields of one message: numbers and times as values, texts
@@ -48,7 +48,6 @@ mod key;
 mod krb_error;
 pub mod laws;
 pub mod message_type;
-mod moment;
 mod name;
 mod optional;
 pub mod tag;
@@ -67,7 +66,7 @@ pub use key::{KeyRef, RawKey};
 pub use krb_der::{EncodeFault, Fault, FaultKind, Flags, Microseconds, Seconds};
 pub use krb_error::{KrbError, KrbErrorRef};
 pub use krb_name::{Bytes, Components, Principal};
-pub use moment::Moment;
+pub use krb_time::Moment;
 pub use name::{Name, NameRef};
 pub use texts::{Texts, TextsIter};
 pub use ticket::{Encrypted, EncryptedRef, Ticket, TicketRef};

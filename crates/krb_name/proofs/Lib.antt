@@ -1,5 +1,6 @@
 pub mod Names
 pub mod NamedLaws
+pub mod KeptLaws
 pub mod TextLaws
 pub mod Moves
 pub mod CursorLaws

@@ -1,4 +1,5 @@
 pub mod Components
 pub mod Escapes
+pub mod Named
 pub mod Names
 pub mod Window

@@ -1,5 +1,5 @@
--- Finding a thing in a list by its name.
-use Rattle.std.specs.Prelude.{◌≡◌, ℕ, ◌≤◌, List, ◌∷◌, ◌++◌, length, drop, All}
+-- The things of a name in a list.
+use Rattle.std.specs.Prelude.{◌≡◌, ◌⊎◌, ℕ, ◌≤◌, List, [], ◌∷◌, ◌++◌, length, drop, All}
 use Rattle.krb_name.specs.Name.{SameName}
 use Rattle.krb_name.specs.declared.principal.Principal.{Principal}
 
@@ -17,3 +17,10 @@ pub record IsFirstNamed {X : Type 0} (name_of : X → Principal) (items : List X
   pub forward : from ≤ at
   pub same : SameName (name_of one) name
   pub others : All (HasOtherName name_of name) (drop from before)
+
+-- `kept` has exactly the things of this name, in their order
+abbrev pub KeepsNamed : {X : Type 0} → (X → Principal) → Principal → List X → List X → Type 0
+KeepsNamed name_of name [] kept = kept ≡ []
+KeepsNamed {X} name_of name (one ∷ items) kept =
+    (SameName (name_of one) name × ((rest : List X) × ((kept ≡ one ∷ rest) × KeepsNamed name_of name items rest)))
+    ⊎ ((¬ SameName (name_of one) name) × KeepsNamed name_of name items kept)

@@ -5,15 +5,18 @@ ghost use Rattle.std.specs.Cmp.Lexicographic.{pointwise};
 ghost use Rattle.std.proofs.Common.{rules};
 ghost use Rattle.std.specs.Cmp.Rules.{comparing};
 
+use smallvec::SmallVec;
 use std::alloc::{AllocError, Global};
 use std::convert::AsSlice;
 use std::marker::Model;
 
 /// A string of bytes: a realm, or one component of a name (`KerberosString`, RFC 4120, section
 /// 5.2.1). Any bytes are allowed. A contract sees it as their list.
+///
+/// Up to 24 bytes are held in place, without an allocation.
 #[derive(Debug, Drop)]
 pub struct Bytes {
-    bytes: Vec<u8>,
+    bytes: SmallVec<u8, 24>,
 }
 
 impl Model for Bytes {
@@ -28,7 +31,7 @@ impl Bytes {
         ensures { result ≡ [] }
     {
         Bytes {
-            bytes: Vec::new(alloc),
+            bytes: SmallVec::new(alloc),
         }
     }
 
@@ -37,7 +40,7 @@ impl Bytes {
         ensures { IfOk result (λ made. made ≡ bytes.now) }
     {
         Ok(Bytes {
-            bytes: Vec::from_slice(alloc, bytes)?,
+            bytes: SmallVec::from_slice(alloc, bytes)?,
         })
     }
 
@@ -83,7 +86,9 @@ impl From<Vec<u8>> for Bytes {
     ghost from_gives = { λ bytes made. made ≡ bytes.items };
 
     fn from(bytes: Vec<u8>) -> Bytes {
-        Bytes { bytes }
+        Bytes {
+            bytes: SmallVec::from_vec(bytes),
+        }
     }
 }
 

@@ -1,10 +1,12 @@
 //! A list of things that have names, in which one is found by its name.
 
-ghost use Rattle.std.specs.Prelude.{◌≡◌, ◌<◌, ℕ, IfOk, IfSome, IfNone, IsTrue, All, length, drop, slice_index_or};
-ghost use Rattle.krb_name.specs.Name.{name_hash};
-ghost use Rattle.krb_name.specs.Named.{IsFirstNamed, HasOtherName};
+ghost use Rattle.std.specs.Prelude.{◌≡◌, ◌<◌, ◌≤◌, IfOk, IfSome, IfNone, MatchOption, All, length, drop};
+ghost use Rattle.krb_name.specs.Name.{SameName};
+ghost use Rattle.krb_name.specs.Named.{IsFirstNamed, HasOtherName, KeepsNamed};
+ghost use Rattle.krb_name.specs.Inner.Named.{OthersBetween};
 
 use crate::principal::Principal;
+use krb_index::HashIndex;
 use std::alloc::{AllocError, Global};
 use std::marker::Model;
 
@@ -22,13 +24,14 @@ pub trait Named {
 
 /// A list of things that have names. A contract sees it as the list of these things.
 ///
-/// A list that was made by `hashed` has a hash of each name, 4 bytes each, and looks for a name
-/// among the hashes first.
+/// A list that was made by `hashed` has an index of its names, 20 bytes for each and 8 more. Finding
+/// a name in it takes as long with many names as with few, unless they were chosen so that many
+/// share a place in the index.
 #[derive(Drop)]
 pub struct NamedList<T: Named + Drop> {
     items: Vec<T>,
-    // The hashes of the names, in the same order. None if they weren't computed.
-    hashes: Option<Vec<u32>>,
+    // Of the hashes of the names, in the same order. None if the list was made without.
+    index: Option<HashIndex>,
 }
 
 impl<T: Named + Drop> Model for NamedList<T> {
@@ -39,20 +42,20 @@ impl<T: Named + Drop> Model for NamedList<T> {
 
     ghost view = { λ list. list.items.items };
 
-    ghost invariant = { λ list. IfSome list.hashes (λ hashes.
-        hashes.items ≡ map (λ one. name_hash (T.name_of one)) list.items.items) };
+    ghost invariant = { λ list. IfSome list.index (λ hashes.
+        hashes ≡ map (λ one. name_hash (T.name_of one)) list.items.items) };
 }
 
 impl<T: Named + Drop> NamedList<T> {
-    /// Makes a list without hashes. Allocates no memory.
+    /// Makes a list without an index. Allocates no memory.
     pub fn plain(items: Vec<T>) -> NamedList<T>
         ensures { result ≡ items.items }
     {
-        let hashes = None;
-        NamedList { items, hashes }
+        let index = None;
+        NamedList { items, index }
     }
 
-    /// Makes a list with hashes. Allocates 4 bytes for each item.
+    /// Makes a list with an index. Allocates 20 bytes for each item, and 8 more.
     ///
     /// # Errors
     /// There is no memory. The items are freed.
@@ -63,8 +66,8 @@ impl<T: Named + Drop> NamedList<T> {
         for item in items.as_slice() {
             hashes.push(item.name().name_hash())?;
         }
-        let hashes = Some(hashes);
-        Ok(NamedList { items, hashes })
+        let index = Some(HashIndex::new(alloc, hashes)?);
+        Ok(NamedList { items, index })
     }
 
     /// Returns the items.
@@ -76,32 +79,44 @@ impl<T: Named + Drop> NamedList<T> {
 
     /// Returns the index of the first item, from the index `from` on, that has this name. Returns
     /// `None` if there is none. Name types aren't compared.
-    #[tactic(auto, using(crate::proofs::NamedLaws::none_yet))]
     pub fn find(&self, name: &Principal, from: usize) -> Option<usize>
         ensures found { IfSome result (IsFirstNamed T.name_of self.now name.now from) }
         ensures within { IfSome result (λ at. at < length self.now) }
         ensures none { IfNone result (All (HasOtherName T.name_of name.now) (drop from self.now)) }
     {
-        let hash = name.name_hash();
-        let mut at = from;
-        while at < self.items.len() {
-            let one = &self.items[at];
-            if self.may_have(at, hash) && one.name().same_name(name) {
+        let mut next = from;
+        while let Some(at) = self.candidate(name, next) {
+            if self.items[at].name().same_name(name) {
                 return Some(at);
             }
-            at += 1;
+            next = at + 1;
         }
         None
     }
 
-    // Whether the name of an item may have this hash.
-    fn may_have(&self, at: usize, hash: u32) -> bool
-        requires { at < length self.now }
-        ensures { (one : T) → name_hash (T.name_of (slice_index_or self.now at one)) ≡ hash → IsTrue result }
+    /// Keeps only the items of this name, in their order. The others are freed. Allocates no memory.
+    /// Name types aren't compared.
+    pub fn retain_named(&mut self, name: &Principal)
+        ensures kept { KeepsNamed T.name_of name.now self.old self.new }
+        ensures named { All (λ one. SameName (T.name_of one) name.now) self.new }
     {
-        match &self.hashes {
-            Some(hashes) => hashes[at] == hash,
-            None => true,
+        self.items.retain(|item| item.name().same_name(name));
+        if let Some(index) = &mut self.index {
+            index.fill(name.name_hash(), self.items.len());
+        }
+    }
+
+    // The first item, from the index `from` on, that may have this name.
+    fn candidate(&self, name: &Principal, from: usize) -> Option<usize>
+        ensures { MatchOption result
+            (OthersBetween T.name_of self.now name.now from (length self.now))
+            (λ at. (from ≤ at) × (at < length self.now)
+            × OthersBetween T.name_of self.now name.now from at) }
+    {
+        match &self.index {
+            Some(index) => index.find(name.name_hash(), from),
+            None if from < self.items.len() => Some(from),
+            None => None,
         }
     }
 }

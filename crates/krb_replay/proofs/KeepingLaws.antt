@@ -2,7 +2,7 @@
 use Rattle.std.proofs.Common.{◌≡◌, ℕ, ℤ, pos, ◌<◌, Option, Some, None, sym, ◌∙◌, arith}
 use Rattle.std.specs.Prelude.{SomeIff, neg_ℤ, ◌≤ℤ◌}
 use Rattle.std.proofs.lemmas.Int.{ints}
-use Rattle.krb_msg.specs.Moments.{IsMoment, micros_of}
+use Rattle.krb_time.specs.Moments.{IsMoment, micros_of}
 
 -- where a second is good exactly from the year 0000 to the year 9999
 pub is_moment : (micros seconds : ℤ) (rest : ℕ) (IsSecond : Type 0) (made : Option ℤ) → micros ≡ micros_of seconds rest → rest < 1_000_000

@@ -5,7 +5,7 @@ ghost use Rattle.std.specs.Prelude.{◌≡◌, [], None, true, false};
 use crate::memory::{ReplayMemory, later};
 use crate::skew::Skew;
 use crate::tuple::Tuple;
-use krb_msg::Moment;
+use krb_time::Moment;
 use std::alloc::{AllocError, Global};
 use std::marker::Model;
 

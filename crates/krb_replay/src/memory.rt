@@ -6,7 +6,7 @@ ghost use Rattle.krb_replay.specs.Memory.{later_of, IsRecent, SameStamps, AddsSt
 
 use crate::skew::Skew;
 use crate::tuple::Tuple;
-use krb_msg::Moment;
+use krb_time::Moment;
 use std::alloc::AllocError;
 
 /// A memory of seen requests: a set of tuples, and the latest moment that it was given.

@@ -4,7 +4,7 @@ ghost use Rattle.std.specs.Prelude.{◌≡◌};
 ghost use Rattle.krb_replay.specs.Inner.Order.{name_cmp, components_cmp};
 ghost use Rattle.krb_replay.specs.Stamp.{name_of};
 
-use krb_msg::{Bytes, Principal};
+use krb_name::{Bytes, Principal};
 use std::cmp::Ordering;
 
 /// Compares the realms, and if they are equal, the components.

@@ -6,7 +6,8 @@ ghost use Rattle.std.specs.List.{flat_map};
 ghost use Rattle.krb_replay.specs.Bytes.{HasLengths, name_bytes, number_bytes, text_bytes};
 ghost use Rattle.krb_replay.specs.Stamp.{name_of};
 
-use krb_msg::{Bytes, Moment, Principal};
+use krb_name::{Bytes, Principal};
+use krb_time::Moment;
 use std::alloc::AllocError;
 
 fn write_number(out: &mut Vec<u8>, number: u64) -> Result<(), AllocError>

@@ -8,7 +8,7 @@ ghost use Rattle.krb_replay.specs.Stamp.{Stamp};
 use crate::memory::{ReplayMemory, later};
 use crate::skew::Skew;
 use crate::tuple::Tuple;
-use krb_msg::Moment;
+use krb_time::Moment;
 use std::alloc::{AllocError, Global};
 use std::collections::BTreeSet;
 use std::marker::Model;

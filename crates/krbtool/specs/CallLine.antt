@@ -3,8 +3,8 @@
 use Rattle.std.specs.Prelude.{◌≡◌, ◌⊎◌, ◌<◌, ◌≤◌, ℕ, ℤ, pos, neg_ℤ, List, [], ◌∷◌, ◌++◌, Option, Some, None, length, Ok}
 use Rattle.std.specs.Str.Parse.{IsNumeral, digits_value}
 use Rattle.hex.specs.Hex.{decode_of}
-use Rattle.krb_der.specs.Time.{IsSeconds}
-use Rattle.krb_msg.specs.Moments.{micros_of}
+use Rattle.krb_time.specs.Time.{IsSeconds}
+use Rattle.krb_time.specs.Moments.{micros_of}
 use Rattle.krb_ap.specs.Setup.{Arrival}
 
 -- how long a line may be, its end not counted

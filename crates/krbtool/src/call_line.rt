@@ -2,8 +2,8 @@
 
 ghost use Rattle.std.specs.Prelude.{◌≡◌, Option, ◌≤◌, ℕ, ℤ, List, None, Some, IfOk, IfSome, Ok, SomeIff};
 ghost use Rattle.std.specs.Str.Parse.{IsNumeral, digits_value};
-ghost use Rattle.krb_der.specs.Time.{IsSeconds};
-ghost use Rattle.krb_msg.specs.Moments.{micros_of};
+ghost use Rattle.krb_time.specs.Time.{IsSeconds};
+ghost use Rattle.krb_time.specs.Moments.{micros_of};
 ghost use Rattle.krb_ap.specs.Setup.{Arrival, arrival};
 ghost use Rattle.krbtool.specs.CallLine.{SpellsCall, SpellsConfounder, SpellsMessage, SpellsRest, SpellsNumber, SpellsSeconds, line_limit, IsBadLine};
 ghost use Rattle.krbtool.specs.Inner.Moments.{TellsMoment};

@@ -10,7 +10,7 @@ use Rattle.krb_der.specs.Place.{Place, begin_at, end_of, begins}
 use Rattle.krb_der.specs.Spells.{limit}
 use Rattle.krb_der.specs.Computed.Steps.{◌>>=◌, ◌>>?◌}
 use Rattle.krb_der.specs.Computed.Whole.{are_bytes, whole_of, natural_below, int32_within, seq_number_within, constant_at, flags_of}
-use Rattle.krb_der.specs.Computed.Clock.{time_of}
+use Rattle.krb_time.specs.Clock.{time_of}
 
 abbrev pub fault_at : {A : Type 0} → FaultKind → ℕ → Result A Fault
 fault_at kind at = Err (record { kind = kind; at = at })

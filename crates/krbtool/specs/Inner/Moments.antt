@@ -1,7 +1,7 @@
 -- The moment that a line of `accept` begins with, and what follows it.
 use Rattle.std.specs.Prelude.{◌≡◌, ◌<◌, ℕ, ℤ, List, ◌∷◌, ◌++◌}
-use Rattle.krb_der.specs.Time.{IsSeconds}
-use Rattle.krb_msg.specs.Moments.{micros_of}
+use Rattle.krb_time.specs.Time.{IsSeconds}
+use Rattle.krb_time.specs.Moments.{micros_of}
 use Rattle.krbtool.specs.CallLine.{SpellsNumber, SpellsSeconds}
 
 pub record TellsMoment (line : List ℕ) (moment : ℤ) (message : List ℕ) : Type 0 where

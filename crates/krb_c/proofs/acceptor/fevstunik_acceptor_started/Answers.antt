@@ -1,6 +1,6 @@
 use Rattle.std.proofs.Common.{ℤ, inl, inr, subst, sym}
 use Rattle.std.specs.Prelude.{◌*◌, IsSomeAnd, Option, Some}
-use Rattle.krb_msg.specs.Moments.{micros_of}
+use Rattle.krb_time.specs.Moments.{micros_of}
 use Rattle.krb_c.specs.Accepting.{IsFresh}
 use Rattle.krb_c.specs.declared.service_state.ServiceState.{ServiceState}
 use Rattle.krb_c.proofs.acceptor.fevstunik_acceptor_started.Goals as goal

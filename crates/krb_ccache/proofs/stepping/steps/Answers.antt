@@ -13,7 +13,7 @@ use Rattle.krb_ccache.proofs.stepping.steps.Goals as goal
 
 pub returns-in_err-credential-clause-fault : goal.returns-in_err-credential-clause-fault
 returns-in_err-credential-clause-fault g c =
-    let p = err_from_is_err_and c.from_residual.result c.from_residual.ensures.1 in
+    let p = err_from_is_err_and c.from_residual-in_err-credential.result c.from_residual-in_err-credential.ensures.1 in
     rw (p.1, p.2) (λ from header name start memory read.
     item_fault g.S.Source.remaining c.args.layout from c.loop-credentials.window c.step.new.window (cache_of header name c.loop-credentials.credentials.items) c.in_err-credential.field-0.0 (c.loop-credentials.invariant.taken from header name start)
     c.in_err-credential.ensures.step.0 c.in_err-credential.ensures.step.1 memory read)

@@ -1,5 +1,5 @@
 use Rattle.std.proofs.Common.{rules, subst, sym, ◌<◌, arith}
-use Rattle.krb_der.specs.Time.{IsSeconds}
+use Rattle.krb_time.specs.Time.{IsSeconds}
 use Rattle.krbtool.specs.CallLine.{SpellsSeconds}
 use Rattle.krbtool.proofs.CallLaws.{none_told, first_told, half_told, second_told, one_second, no_micros}
 use Rattle.krbtool.proofs.call_line.moment_of.Goals as goal

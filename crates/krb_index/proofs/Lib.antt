@@ -1,0 +1,2 @@
+pub mod MaximaLaws
+pub mod IndexLaws

@@ -1,0 +1,4 @@
+pub mod Time
+pub mod Moments
+pub mod Clock
+pub mod Inner
