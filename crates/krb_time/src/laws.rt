@@ -4,7 +4,6 @@ ghost use Rattle.std.specs.Prelude.{◌≡◌, ℕ, ℤ, List};
 ghost use Rattle.krb_time.specs.Time.{IsSeconds, IsTime};
 
 /// Each second of the years 0000 to 9999 has a text, and no other. Only these seconds have one.
-#[tactic(auto, using(crate::proofs::Calendar::time_made, crate::proofs::Calendar::time_unique, crate::proofs::Calendar::time_range))]
 pub fn a_second_has_one_text()
     ensures exists { (s : ℤ) → IsSeconds s → (text : List ℕ) × IsTime s text }
     ensures one { (s : ℤ) (a b : List ℕ) → IsTime s a → IsTime s b → a ≡ b }
