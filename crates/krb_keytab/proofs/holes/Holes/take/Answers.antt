@@ -16,8 +16,8 @@ invariant_of-self c =
 pub returns-in-Some : goal.returns-in-Some
 returns-in-Some c =
     rw (← c.self.view_is, c.taken_at.ensures.left)
-    (is_taken c.self.inside.holes.items c.self.inside.sizes c.args.size c.in-Some.at c.taken_at.result c.requires c.self.invariant c.in-Some.ensures c.taken_at.ensures.hole)
+    (is_taken c.self.inside.holes.items c.self.inside.sizes c.args.size c.in-Some.at c.taken_at.result c.requires c.self.invariant c.in-Some.ensures.first c.taken_at.ensures.hole)
 
 pub returns-in-None : goal.returns-in-None
 returns-in-None c =
-    rw (← c.self.view_is) (none_long c.self.inside.holes.items c.self.inside.sizes c.args.size c.self.invariant c.in-None.ensures, refl)
+    rw (← c.self.view_is) (none_long c.self.inside.holes.items c.self.inside.sizes c.args.size c.self.invariant c.in-None.ensures.first, refl)
