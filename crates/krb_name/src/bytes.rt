@@ -8,6 +8,7 @@ ghost use Rattle.std.specs.Cmp.Rules.{comparing};
 use smallvec::SmallVec;
 use std::alloc::{AllocError, Global};
 use std::convert::AsSlice;
+use std::default::MadeWith;
 use std::marker::Model;
 
 /// A string of bytes: a realm, or one component of a name (`KerberosString`, RFC 4120, section
@@ -15,7 +16,7 @@ use std::marker::Model;
 ///
 /// Up to 24 bytes are held in place, without an allocation. Bytes that are made from a `Vec` with
 /// room for more keep its allocation.
-#[derive(Debug, Drop)]
+#[derive(Debug)]
 pub struct Bytes {
     bytes: SmallVec<u8, 24>,
 }
@@ -72,6 +73,22 @@ impl Bytes {
         ensures err { OnErr result (self.new ≡ self.old) }
     {
         Ok(self.bytes.push(byte)?)
+    }
+}
+
+// Written by hand, so that callers see a call and not the cases of a `SmallVec`.
+impl Drop for Bytes {
+    fn drop(self) {
+        let Bytes { bytes } = self;
+        drop(bytes);
+    }
+}
+
+impl MadeWith<Global> for Bytes {
+    ghost is_made_with = { λ made. made ≡ [] };
+
+    fn made_with(alloc: Global) -> Bytes {
+        Bytes::new(alloc)
     }
 }
 

@@ -6,14 +6,17 @@ ghost use Rattle.std.proofs.Common.{rules};
 ghost use Rattle.std.specs.Cmp.Rules.{comparing};
 
 use crate::bytes::Bytes;
+use smallvec::SmallVec;
 use std::alloc::{AllocError, Global};
 use std::marker::Model;
 
 /// The components of a name, in their order (`name-string` of a `PrincipalName`, RFC 4120, section
 /// 5.2.2). A contract sees them as a list of lists of bytes.
-#[derive(Debug, Drop)]
+///
+/// Up to two components are held in place, without an allocation for their list.
+#[derive(Debug)]
 pub struct Components {
-    items: Vec<Bytes>,
+    items: SmallVec<Bytes, 2>,
 }
 
 impl Model for Components {
@@ -28,16 +31,16 @@ impl Components {
         ensures { result ≡ [] }
     {
         Components {
-            items: Vec::new(alloc),
+            items: SmallVec::new(alloc),
         }
     }
 
-    /// Makes an empty list with room for `count` components.
+    /// Makes an empty list with room for `count` components. Allocates no memory for up to two.
     pub fn with_room(alloc: Global, count: usize) -> Result<Self, AllocError>
         ensures { IfOk result (λ components. components ≡ []) }
     {
         Ok(Components {
-            items: Vec::with_capacity(alloc, count)?,
+            items: SmallVec::with_capacity(alloc, count)?,
         })
     }
 
@@ -68,6 +71,14 @@ impl Components {
         ensures err { OnErr result (self.new ≡ self.old) }
     {
         Ok(self.items.push(component)?)
+    }
+}
+
+// Written by hand, so that callers see a call and not the cases of a `SmallVec`.
+impl Drop for Components {
+    fn drop(self) {
+        let Components { items } = self;
+        drop(items);
     }
 }
 
