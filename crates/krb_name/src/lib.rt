@@ -43,7 +43,7 @@ pub use bytes::Bytes;
 pub use components::Components;
 pub use cursor::{FileCursor, Short};
 pub use file::FILE_LIMIT;
-pub use named_list::{Named, NamedList};
+pub use named_list::{Named, NamedList, NamedListBuilder};
 pub use pieces::{PieceSink, PieceSource};
 pub use principal::Principal;
 pub use reading::ReadFault;

@@ -1,6 +1,6 @@
 //! A list of things that have names, in which one is found by its name.
 
-ghost use Rattle.std.specs.Prelude.{◌≡◌, ◌<◌, ◌≤◌, IfOk, IfSome, IfNone, MatchOption, All, length, drop};
+ghost use Rattle.std.specs.Prelude.{◌≡◌, ◌<◌, ◌≤◌, [], ◌∷◌, ◌++◌, IfOk, IfSome, IfNone, OnErr, OnOk, MatchOption, All, length, drop};
 ghost use Rattle.krb_name.specs.Name.{SameName};
 ghost use Rattle.krb_name.specs.Named.{IsFirstNamed, HasOtherName, KeepsNamed};
 ghost use Rattle.krb_name.specs.Inner.Named.{OthersBetween};
@@ -24,9 +24,9 @@ pub trait Named {
 
 /// A list of things that have names. A contract sees it as the list of these things.
 ///
-/// A list that was made by `hashed` has an index of its names, 20 bytes for each and 8 more. Finding
-/// a name in it takes as long with many names as with few, unless they were chosen so that many
-/// share a place in the index.
+/// A list that [`NamedListBuilder::finish`] made has an index of its names. Finding a name in it takes
+/// as long with many names as with few, unless they were chosen so that many share a place in the
+/// index.
 #[derive(Drop)]
 pub struct NamedList<T: Named + Drop> {
     items: Vec<T>,
@@ -53,21 +53,6 @@ impl<T: Named + Drop> NamedList<T> {
     {
         let index = None;
         NamedList { items, index }
-    }
-
-    /// Makes a list with an index. Allocates 20 bytes for each item, and 8 more.
-    ///
-    /// # Errors
-    /// There is no memory. The items are freed.
-    pub fn hashed(alloc: Global, items: Vec<T>) -> Result<NamedList<T>, AllocError>
-        ensures { IfOk result (λ list. list ≡ items.items) }
-    {
-        let mut hashes = Vec::with_capacity(alloc, items.len())?;
-        for item in items.as_slice() {
-            hashes.push(item.name().name_hash())?;
-        }
-        let index = Some(HashIndex::new(alloc, hashes)?);
-        Ok(NamedList { items, index })
     }
 
     /// Returns the items.
@@ -118,5 +103,105 @@ impl<T: Named + Drop> NamedList<T> {
             None if from < self.items.len() => Some(from),
             None => None,
         }
+    }
+}
+
+/// Makes a [`NamedList`] of items that come one by one. A contract sees it as the list of these
+/// items.
+///
+/// The name of an item is hashed when the item comes, so that the index can be made without reading
+/// the items again. A hash takes 4 bytes. The list of hashes grows by doubling, as that of the items
+/// does: it takes up to 8 bytes more for each item while it grows, and up to 4 after that.
+#[derive(Drop)]
+pub struct NamedListBuilder<T: Named + Drop> {
+    items: Vec<T>,
+    // Of the names, in the same order.
+    hashes: Vec<u32>,
+}
+
+impl<T: Named + Drop> Model for NamedListBuilder<T> {
+    ghost use Rattle.std.specs.Prelude.{◌≡◌, List, map};
+    ghost use Rattle.krb_name.specs.Name.{name_hash};
+
+    ghost Value = { List T };
+
+    ghost view = { λ builder. builder.items.items };
+
+    ghost invariant = { λ builder.
+        builder.hashes.items ≡ map (λ one. name_hash (T.name_of one)) builder.items.items };
+}
+
+impl<T: Named + Drop> NamedListBuilder<T> {
+    /// Makes a builder without items. Allocates no memory yet.
+    pub fn new(alloc: Global) -> NamedListBuilder<T>
+        ensures { result ≡ [] }
+    {
+        NamedListBuilder {
+            items: Vec::new(alloc),
+            hashes: Vec::new(alloc),
+        }
+    }
+
+    /// Makes a builder without items, with room for `count` of them.
+    ///
+    /// # Errors
+    /// There is no memory.
+    pub fn with_room(alloc: Global, count: usize) -> Result<NamedListBuilder<T>, AllocError>
+        ensures { IfOk result (λ builder. builder ≡ []) }
+    {
+        Ok(NamedListBuilder {
+            items: Vec::with_capacity(alloc, count)?,
+            hashes: Vec::with_capacity(alloc, count)?,
+        })
+    }
+
+    /// Appends `item`, and hashes its name.
+    ///
+    /// # Errors
+    /// There is no memory. The items are unchanged, and `item` is freed.
+    pub fn push(&mut self, item: T) -> Result<(), AllocError>
+        ensures ok { OnOk result (self.new ≡ self.old ++ item ∷ []) }
+        ensures err { OnErr result (self.new ≡ self.old) }
+    {
+        self.items.reserve(1)?;
+        self.hashes.reserve(1)?;
+        self.hashes.push_reserved(item.name().name_hash());
+        self.items.push_reserved(item);
+        Ok(())
+    }
+
+    /// Returns the items, in the order in which they came.
+    pub fn as_slice(&self) -> &[T]
+        ensures { result.now ≡ self.now }
+    {
+        &self.items
+    }
+
+    /// Returns the number of items.
+    pub fn len(&self) -> usize
+        ensures { result ≡ length self.now }
+    {
+        self.items.len()
+    }
+
+    /// Makes the list of the items, with an index. The index takes 20 bytes for each item and 8 more,
+    /// and keeps the room of the hashes that isn't used.
+    ///
+    /// # Errors
+    /// There is no memory. The items are freed.
+    pub fn finish(self, alloc: Global) -> Result<NamedList<T>, AllocError>
+        ensures { IfOk result (λ list. list ≡ self) }
+    {
+        let NamedListBuilder { items, hashes } = self;
+        let index = Some(HashIndex::new(alloc, hashes)?);
+        Ok(NamedList { items, index })
+    }
+
+    /// Makes the list of the items, without an index. This is for few items. Allocates no memory.
+    pub fn finish_plain(self) -> NamedList<T>
+        ensures { result ≡ self }
+    {
+        let NamedListBuilder { items, .. } = self;
+        NamedList::plain(items)
     }
 }
