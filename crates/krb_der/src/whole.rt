@@ -45,6 +45,17 @@ pub fn number(bytes: &[u8]) -> u64
 pub fn whole(content: &[u8]) -> Option<i64>
     ensures { result ≡ whole_of content.now }
 {
+    match content {
+        // Most numbers of a message are such, so this is for speed.
+        [byte @ 0..=0x7f] => Some(i64::from(*byte)),
+        _ => any_whole(content),
+    }
+}
+
+#[tactic(auto, unfolding(crate::specs::Computed::Whole::whole_of))]
+fn any_whole(content: &[u8]) -> Option<i64>
+    ensures { result ≡ whole_of content.now }
+{
     if content.len() > 5 || is_redundant(content) {
         return None;
     }

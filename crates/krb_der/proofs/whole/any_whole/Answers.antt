@@ -4,7 +4,7 @@ use Rattle.std.proofs.Math.Nat.{pow-le-pow_right}
 use Rattle.krb_der.specs.Whole.{AreBytes}
 use Rattle.krb_der.proofs.Numbers.{AreBytes-from}
 use Rattle.krb_der.proofs.IntegerLaws.{whole_of-some}
-use Rattle.krb_der.proofs.whole.whole.Goals as goal
+use Rattle.krb_der.proofs.whole.any_whole.Goals as goal
 
 -- how many contents of so many bytes there are
 contents_of : (k : ℕ) → k ≤ 5 → (1 * 2 ^ (8 * k) % 2 ^ 64 ≡ 256 ^ k) × (256 ^ k ≤ 2 ^ 40)
