@@ -183,7 +183,7 @@ impl CCache {
         Ok(CCache {
             header,
             default_principal,
-            credentials: NamedList::hashed(alloc, credentials)?,
+            credentials: credentials.finish(alloc)?,
         })
     }
 

@@ -20,7 +20,7 @@ use crate::item_fault::ItemFault;
 use crate::layout::Layout;
 use crate::leading::Leading;
 use crate::walking::TakeFault;
-use krb_name::{FILE_LIMIT, FileCursor, Principal, Source, Window};
+use krb_name::{FILE_LIMIT, FileCursor, NamedListBuilder, Principal, Source, Window};
 use std::alloc::{AllocError, Global};
 
 /// What comes before the credentials of a file.
@@ -225,14 +225,14 @@ pub(crate) fn steps<S: Source>(
     layout: Layout,
     window: &mut Window<S>,
     expected: usize,
-) -> Result<Vec<Credential>, CacheFault>
+) -> Result<NamedListBuilder<Credential>, CacheFault>
     requires within { window.old.given ≤ file_limit }
     requires reads { S.failure_count window.old.source < 2 ^ 64 - 1 }
     ensures end { IfOk result (λ credentials.
         (from : Option (List ℕ)) (header : List HeaderFieldValue) (name : PrincipalValue)
         → HasTaken layout from (S.remaining window.old.source) window.old.given (cache_of header name [])
-        → GaveCache from (S.remaining window.new.source) (cache_of header name credentials.items)) }
-    ensures fits { IfOk result (λ credentials. All FitsCredential credentials.items) }
+        → GaveCache from (S.remaining window.new.source) (cache_of header name credentials)) }
+    ensures fits { IfOk result (λ credentials. All FitsCredential credentials) }
     ensures fault { IfErr result (λ fault.
         (from : Option (List ℕ)) (header : List HeaderFieldValue) (name : PrincipalValue)
         → HasTaken layout from (S.remaining window.old.source) window.old.given (cache_of header name [])
@@ -243,7 +243,7 @@ pub(crate) fn steps<S: Source>(
         ≡ S.failure_count window.old.source + failed_reads result }
     ensures lent { S.lender window.new.source ≡ S.lender window.old.source }
 {
-    let mut credentials = Vec::with_capacity(alloc, expected)?;
+    let mut credentials = NamedListBuilder::with_room(alloc, expected)?;
     while let Some(credential) = step(alloc, layout, window)? {
         credentials.push(credential)?;
     }

@@ -18,7 +18,7 @@ use crate::finding::find_entry;
 use crate::pick::{Picked, pick_entry};
 use crate::step::{VERSION, read_entries};
 use crate::writing::put_record;
-use krb_name::{FILE_LIMIT, NamedList, Principal, Source, Window};
+use krb_name::{FILE_LIMIT, NamedList, NamedListBuilder, Principal, Source, Window};
 use std::alloc::{AllocError, Global};
 use std::fmt;
 use std::marker::Model;
@@ -122,13 +122,13 @@ impl Keytab {
         }
     }
 
-    fn of_entries(alloc: Global, entries: Vec<Entry>) -> Result<Keytab, AllocError>
-        ensures { IfOk result (λ keytab. keytab ≡ entries.items) }
+    fn of_entries(alloc: Global, entries: NamedListBuilder<Entry>) -> Result<Keytab, AllocError>
+        ensures { IfOk result (λ keytab. keytab ≡ entries) }
     {
         let entries = if entries.len() > FEW {
-            NamedList::hashed(alloc, entries)?
+            entries.finish(alloc)?
         } else {
-            NamedList::plain(entries)
+            entries.finish_plain()
         };
         Ok(Keytab { entries })
     }

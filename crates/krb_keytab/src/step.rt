@@ -16,7 +16,7 @@ use crate::fault::KeytabFault;
 use crate::feed::Feed;
 use crate::found::{Found, Keep, Nothing};
 use crate::view::EntryView;
-use krb_name::{FILE_LIMIT, FileCursor, Short, SourceFailed};
+use krb_name::{FILE_LIMIT, FileCursor, NamedListBuilder, Short, SourceFailed};
 use std::alloc::{AllocError, Global};
 
 /// The version of the format that is read and written. A keytab begins with it.
@@ -46,18 +46,18 @@ pub(crate) fn read_version<F: Feed>(feed: &mut F) -> Result<(), KeytabFault>
 }
 
 /// Reads a keytab to its end, and returns its entries.
-pub(crate) fn read_entries<F: Feed>(alloc: Global, feed: &mut F) -> Result<Vec<Entry>, KeytabFault>
+pub(crate) fn read_entries<F: Feed>(alloc: Global, feed: &mut F) -> Result<NamedListBuilder<Entry>, KeytabFault>
     requires reads { F.failure_count feed.old < 2 ^ 64 - 1 }
     requires start { (F.at_hand feed.old).given ≡ 0 }
     ensures found { IfOk result (λ entries. IsFound
-        (F.remaining feed.old) (F.remaining feed.new) entries.items) }
+        (F.remaining feed.old) (F.remaining feed.new) entries) }
     ensures fault { IfErr result (IsFaulty (F.remaining feed.old) (F.remaining feed.new)) }
     ensures taken { TakesFile (F.remaining feed.old) (F.remaining feed.new) }
     ensures failed { F.failure_count feed.new ≡ F.failure_count feed.old + failed_reads result }
     ensures lent { F.lender feed.new ≡ F.lender feed.old }
 {
     read_version(feed)?;
-    let mut entries = Vec::new(alloc);
+    let mut entries = NamedListBuilder::new(alloc);
     while let Some(entry) = read_entry(alloc, feed)? {
         let Ok(()) = entries.push(entry) else {
             return Err(KeytabFault::OutOfMemory);

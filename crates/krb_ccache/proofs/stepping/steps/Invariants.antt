@@ -10,11 +10,11 @@ abbrev pub invariant-loop-credentials : goal.invariant-loop-credentials
 invariant-loop-credentials g l = record {
   within : l.window.given ≤ file_limit;
   failures : g.S.Source.failure_count l.window.source ≡ g.S.Source.failure_count l.fn.window.source;
-  fits : All FitsCredential l.credentials.items;
+  fits : All FitsCredential l.credentials;
   lent : g.S.Source.lender l.window.source ≡ g.S.Source.lender l.fn.window.source;
   gave : GivesWithin (g.S.Source.remaining l.fn.window.source) (g.S.Source.remaining l.window.source) l.fn.window.given l.window.given;
   taken : (from : Option (List ℕ)) (header : List HeaderField) (name : Principal) → HasTaken l.layout from (g.S.Source.remaining l.fn.window.source) l.fn.window.given (cache_of header name [])
-      → HasTaken l.layout from (g.S.Source.remaining l.window.source) l.window.given (cache_of header name l.credentials.items);
+      → HasTaken l.layout from (g.S.Source.remaining l.window.source) l.window.given (cache_of header name l.credentials);
 }
 
 abbrev pub decreases-loop-credentials : goal.decreases-loop-credentials

@@ -8,7 +8,7 @@ use Rattle.krb_keytab.proofs.step.read_entries.Goals as goal
 pub returns-in_err-entry-clause-fault : goal.returns-in_err-entry-clause-fault
 returns-in_err-entry-clause-fault g c =
     let p = err_from_is_err_and c.from_residual-in_err-entry.result c.from_residual-in_err-entry.ensures.1 in
-    rw (p.1, p.2) (next_faulty _ _ _ _ _ c.loop-entries.entries.items c.in_err-entry.field-0.0 c.loop-entries.invariant.taken c.in_err-entry.ensures.meets)
+    rw (p.1, p.2) (next_faulty _ _ _ _ _ c.loop-entries.entries c.in_err-entry.field-0.0 c.loop-entries.invariant.taken c.in_err-entry.ensures.meets)
 
 pub loop-entries-preserved : goal.loop-entries-preserved
 loop-entries-preserved g c =
@@ -17,7 +17,7 @@ loop-entries-preserved g c =
     let to = g.F.Feed.remaining c.read_entry.new.feed in
     let meets = subst (λ (next : Option KeytabEntry). MeetsNext mid to (g.F.Feed.at_hand c.loop-entries.feed) (g.F.Feed.at_hand c.read_entry.new.feed) (Ok next)) c.in-Some.is c.in_ok-entry.ensures.meets in
     record {
-      taken = entry_taken from mid to (g.F.Feed.at_hand c.loop-entries.feed) (g.F.Feed.at_hand c.read_entry.new.feed) c.loop-entries.entries.items c.push.new.self.items c.in-Some.entry c.loop-entries.invariant.taken meets c.in-Ok.ensures.items;
+      taken = entry_taken from mid to (g.F.Feed.at_hand c.loop-entries.feed) (g.F.Feed.at_hand c.read_entry.new.feed) c.loop-entries.entries c.push.new.self c.in-Some.entry c.loop-entries.invariant.taken meets c.in-Ok.ensures.ok;
       limit = meets.within;
       failures = rw add-zero at c.in_ok-entry.ensures.failed ∙ c.loop-entries.invariant.failures;
       lent = c.in_ok-entry.ensures.lent ∙ c.loop-entries.invariant.lent;
@@ -29,13 +29,13 @@ returns-clause-found g c =
     let mid = g.F.Feed.remaining c.loop-entries.feed in
     let to = g.F.Feed.remaining c.read_entry.new.feed in
     let meets = subst (λ (next : Option KeytabEntry). MeetsNext mid to (g.F.Feed.at_hand c.loop-entries.feed) (g.F.Feed.at_hand c.read_entry.new.feed) (Ok next)) c.in_default.is c.in_ok-entry.ensures.meets in
-    end_taken from mid to (g.F.Feed.at_hand c.loop-entries.feed) (g.F.Feed.at_hand c.read_entry.new.feed) c.loop-entries.entries.items c.loop-entries.invariant.taken meets
+    end_taken from mid to (g.F.Feed.at_hand c.loop-entries.feed) (g.F.Feed.at_hand c.read_entry.new.feed) c.loop-entries.entries c.loop-entries.invariant.taken meets
 
 pub returns-clause-taken : goal.returns-clause-taken
-returns-clause-taken g c = next_takes _ _ _ _ _ c.loop-entries.entries.items _ c.loop-entries.invariant.taken c.in_ok-entry.ensures.meets
+returns-clause-taken g c = next_takes _ _ _ _ _ c.loop-entries.entries _ c.loop-entries.invariant.taken c.in_ok-entry.ensures.meets
 
 pub returns-in_err-entry-clause-taken : goal.returns-in_err-entry-clause-taken
-returns-in_err-entry-clause-taken g c = next_takes _ _ _ _ _ c.loop-entries.entries.items _ c.loop-entries.invariant.taken c.in_err-entry.ensures.meets
+returns-in_err-entry-clause-taken g c = next_takes _ _ _ _ _ c.loop-entries.entries _ c.loop-entries.invariant.taken c.in_err-entry.ensures.meets
 
 pub returns-in_default-push-clause-taken : goal.returns-in_default-push-clause-taken
-returns-in_default-push-clause-taken g c = next_takes _ _ _ _ _ c.loop-entries.entries.items _ c.loop-entries.invariant.taken c.in_ok-entry.ensures.meets
+returns-in_default-push-clause-taken g c = next_takes _ _ _ _ _ c.loop-entries.entries _ c.loop-entries.invariant.taken c.in_ok-entry.ensures.meets

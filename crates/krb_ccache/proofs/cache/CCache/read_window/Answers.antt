@@ -25,4 +25,4 @@ returns-clause-reads g c =
     let start = c.in_ok-layout.field-0 in
     let gave = gives_then (left c.args.window.now.source) (left c.begin.new.window.source) (left c.steps.new.window.source) _ _ _ c.in_ok-layout.ensures.gave c.in_ok-credentials.ensures.gave in
     let found = c.in_ok-credentials.ensures.end (left c.args.window.now.source) start.header.items start.default_principal c.in_ok-layout.ensures.taken in
-    rw c.in_ok-hashed.ensures (reads_whole _ _ (Ok _) found tt (takes_file _ _ _ _ c.requires.start gave))
+    rw c.in_ok-finish.ensures (reads_whole _ _ (Ok _) found tt (takes_file _ _ _ _ c.requires.start gave))
