@@ -177,9 +177,9 @@ class Field:
     kind: str = ""
     optional: bool = False
     doc: str = ""
-    accessor: str = ""
     constant: int | None = None
     named: str = ""
+    group: str = ""
 
     @property
     def of(self):
@@ -256,6 +256,11 @@ def filled(text, width):
     return textwrap.fill(text, width, subsequent_indent="    ", break_long_words=False, break_on_hyphens=False).replace("\xa0", " ")
 
 
+def record_text(name, kept):
+    """A record of these fields."""
+    return f"pub record {name} : Type 0 where\n" + "".join(f"  pub {key} : {values}\n" for key, values, _ in kept)
+
+
 class Message:
     """A message, with the text that each of its files has of it."""
 
@@ -266,7 +271,9 @@ class Message:
         self.rows = [Field(**it) for it in fields]
         self.fields = [it for it in self.rows if it.constant is None]
         self.principals = [Principal(**it) for it in more.get("principals", [])]
-        self.application, self.record, self.accessor = more.get("application"), more.get("record"), more.get("accessor", "")
+        self.application, self.record, self.accessor = more.get("application"), more.get("record"), more.get("accessor")
+        self.is_made, self.is_read = more.get("is_made", True), more.get("is_read", True)
+        self.groups = more.get("groups", {})
         self.parses = more.get("parses", "a message of this type")
         self.view_derive = more.get("view_derive", self.derive)
         self.doc = more.get("doc", f"{'An' if name[0] in 'AEIOU' else 'A'} `{name}` (RFC 4120, section {section}).")
@@ -306,34 +313,71 @@ class Message:
         whole = f"application {self.application} ({body})" if self.application else body
         return f"{comment('-- ', said)}\nabbrev pub {self.kind} : Kind\n{self.kind} = {whole}\n"
 
-    def accessor_of(self, field):
-        """What the definition is called that gives this field of a value, if there is one."""
-        return field.accessor or self.accessor.format(field.key)
+    @property
+    def fields_word(self):
+        """What the definition is called that gives the record of a value's fields."""
+        return re.sub(r"(?<!^)(?=[A-Z])", "_", self.record).lower()
 
     def fields_text(self):
-        """The record of its fields, its value, and fields of a value, for Fields."""
-        value = f"ValueOf {self.kind}"
-        parts = [f"-- ---- {self.name} (section {self.section})"]
-        if self.record:
-            parts.append(f"pub record {self.record} : Type 0 where\n" + "".join(f"  pub {it.key} : {it.values}\n" for it in self.fields))
-        argument, at, of = ("f", "f.{}", self.record) if self.record else (self.fields[0].key, "{}", self.fields[0].values)
-        if self.record or len(self.fields) == 1:
-            row = self.row(lambda it: at.format(it.key))
-            parts.append(f"abbrev pub {self.short}_value : {of} → {value}\n{filled(f'{self.short}_value {argument} = {row}', 140)}\n")
-        for place, it in enumerate(self.rows):
-            name = self.accessor_of(it)
-            if it.constant is None and name:
-                parts.append(f"abbrev pub {name} : {value} → {it.values}\n{name} v = v{'.1' * place}.0\n")
-        parts += [self.principal_text(it) for it in self.principals if it.definition]
-        return "\n".join(parts)
+        """The record of its fields, the value that they make and the fields of a value, for Fields."""
+        return "\n".join([f"-- ---- {self.name} (section {self.section})", *(self.of_record() if self.record else self.of_one())])
+
+    def of_record(self):
+        """The record has the fields of the owned value: a principal in place of its realm and name. Groups are records of their own, at its end."""
+        yield from (text for name in self.groups for text in self.group_texts(name))
+        kept = [self.joined_row(it) or self.given(it) for it in self.fields if not it.group and not self.is_in_principal(it)]
+        kept += [(name, it["record"], f"{it['definition']} v") for name, it in self.groups.items()]
+        yield record_text(self.record, kept)
+        if self.is_made:
+            yield self.made_text(self.record, "f", lambda it: self.of_made(it, "f"))
+        if self.is_read:
+            yield self.given_text(self.fields_word, self.record, kept)
+        yield from (self.principal_text(it) for it in self.principals if it.definition)
+
+    def is_in_principal(self, field):
+        """Whether a field is the name of a principal, whose realm comes before."""
+        return any(field.key == it.name for it in self.principals)
+
+    def joined_row(self, field):
+        """The row of the principal whose realm a field is, if it is one."""
+        of = self.joined(field)
+        return of and (of.field, "Principal", f"principal_in {self.place_of(of.realm)} {self.place_of(of.name)}")
+
+    def group_texts(self, name):
+        group, kept = self.groups[name], [self.given(it) for it in self.fields if it.group == name]
+        return record_text(group["record"], kept), self.given_text(group["definition"], group["record"], kept)
+
+    def given(self, field):
+        """A field of a record: its name, its type, and where a value has it."""
+        return field.key, field.values, self.place_of(field.name)
+
+    def place_of(self, name):
+        return f"v{'.1' * [it.name for it in self.rows].index(name)}.0"
+
+    def given_text(self, name, record, kept):
+        """The definition that gives a record of a value."""
+        given = "; ".join(unbroken(f"{key} = {at}") for key, _, at in kept)
+        return f"abbrev pub {name} : ValueOf {self.kind} → {record}\n{filled(f'{name} v = record {{ {given} }}', 140)}\n"
+
+    def of_made(self, field, record):
+        """A field of the value that a record makes."""
+        of = self.joined(field)
+        if not of:
+            return f"{record}.{field.key}"
+        return f"{record}.{of.field}.realm" if field.key == of.realm else f"principal_name_of {record}.{of.field}"
+
+    def of_one(self):
+        (place, it), = ((place, it) for place, it in enumerate(self.rows) if it.constant is None)
+        yield self.made_text(it.values, it.key, lambda it: it.key)
+        yield f"abbrev pub {self.accessor} : ValueOf {self.kind} → {it.values}\n{self.accessor} v = v{'.1' * place}.0\n"
+
+    def made_text(self, of, argument, field):
+        row = self.row(field)
+        return f"abbrev pub {self.short}_value : {of} → ValueOf {self.kind}\n{filled(f'{self.short}_value {argument} = {row}', 140)}\n"
 
     def principal_text(self, principal):
-        names = {it.key: self.accessor_of(it) for it in self.fields}
-        of = f"principal_in ({names[principal.realm]} v) ({names[principal.name]} v)"
-        return (
-            f"-- the {principal.field}: {principal.realm} and {principal.name}\n"
-            f"abbrev pub {principal.definition} : ValueOf {self.kind} → Principal\n{principal.definition} v = {of}\n"
-        )
+        of = f"({self.fields_word} v).{principal.field}"
+        return f"abbrev pub {principal.definition} : ValueOf {self.kind} → Principal\n{principal.definition} v = {of}\n"
 
     def row(self, value_of):
         """The row of its values, in definitions."""
@@ -528,7 +572,7 @@ GHOSTS = {
 }
 PARTS = {
     "Borrowed": ["name_of", "typed_of", "key_of"],
-    "Fields": "◌▸◌ name_value name_type_of components_of principal_in typed_value type_of bytes_of".split(),
+    "Fields": "◌▸◌ name_value name_type_of components_of principal_in principal_name_of typed_value type_of bytes_of".split(),
     "Module": "sequence_of typed principal_name encryption_key checksum host_address authorization_data transited_encoding".split(),
     "Owned": ["principal_name_of", "owned_name_of", "owned_typed_of", "owned_list_of", "owned_key_of"],
 }
@@ -540,9 +584,9 @@ SAID = {
         "-- each field with its number, and whether it may be absent.",
     ],
     "Fields": [
-        "-- The values of messages by the names of their fields (RFC 4120, sections 5.2 to 5.9): fields of a",
-        "-- value; and where values are made, a record of the fields that vary, and the value that they make,",
-        "-- which nests them in pairs, in the order of their numbers, with a tt for each constant.",
+        "-- The values of messages by the names of their fields (RFC 4120, sections 5.2 to 5.9): a record of the",
+        "-- fields that vary, with a principal for a realm and a name; what it is for a value; and the value that it",
+        "-- makes, which nests the fields in pairs, in the order of their numbers, with a tt for each constant.",
     ],
     "Borrowed": [
         "-- The values of messages that are read in place: their fields in the order of their numbers, with",

@@ -5,7 +5,7 @@ use Rattle.krb_der.specs.Spells.{IsMessage}
 use Rattle.krb_enc.specs.Key.{KeyValue, IsKnown, IsUsable}
 use Rattle.krb_msg.specs.Bits.{use_session_key}
 use Rattle.krb_msg.specs.Module.{ap_req, enc_ticket_part, authenticator, IsMessageKind, is_ap_req, is_enc_ticket_part, is_authenticator}
-use Rattle.krb_msg.specs.Fields.{options_of, etype_of, kvno_of, cipher_of, authenticator_of_request, part_client, authenticator_client}
+use Rattle.krb_msg.specs.Fields.{request_fields, encrypted_fields, part_client, authenticator_client}
 use Rattle.krb_keytab.specs.Entry.{KeytabEntry}
 use Rattle.krb_keytab.specs.Pick.{Choice, chosen, no_name, no_key, no_version}
 use Rattle.krb_replay.specs.Stamp.{Stamp}
@@ -60,8 +60,8 @@ module _ (facts : Facts) (d : Decisions) (setup : Setup) (bytes : List ℕ) wher
 
   by_authenticator : (request : ValueOf ap_req) (part : ValueOf enc_ticket_part) → Ticketed setup bytes request part → IsUsable (session_key part)
       → Outcome setup bytes
-  by_authenticator request part t u = elim (integers (etype_of (authenticator_of_request request)) (session_key part).etype) [
-    | inl same ↦ elim (opens_as facts d (session_key part) authenticator_usage (cipher_of (authenticator_of_request request)) authenticator is_authenticator) [
+  by_authenticator request part t u = elim (integers (encrypted_fields (request_fields request).authenticator).etype (session_key part).etype) [
+    | inl same ↦ elim (opens_as facts d (session_key part) authenticator_usage (encrypted_fields (request_fields request).authenticator).cipher authenticator is_authenticator) [
       | inl opening ↦ by_client request part opening.0 (record { ticketed = t; usable = u; opens = record { same_type = same; opens = opening.1 } })
       | inr shut ↦ refused AuthenticatorIntegrity (lit< tt)
           (λ history moment. (authenticator_shut facts setup history bytes moment (λ s. ⊥) request part t u (λ auth o. shut auth o.opens)).cause)
@@ -77,7 +77,7 @@ module _ (facts : Facts) (d : Decisions) (setup : Setup) (bytes : List ℕ) wher
   ]
 
   by_ticket : (request : ValueOf ap_req) (entry : KeytabEntry) → Keyed setup bytes request entry → Outcome setup bytes
-  by_ticket request entry k = elim (opens_as facts d (entry_key entry) ticket_usage (cipher_of (sealed_ticket request)) enc_ticket_part is_enc_ticket_part) [
+  by_ticket request entry k = elim (opens_as facts d (entry_key entry) ticket_usage (encrypted_fields (sealed_ticket request)).cipher enc_ticket_part is_enc_ticket_part) [
     | inl opening ↦ by_session request opening.0 (record { entry = entry; keyed = k; opens = opening.1 })
     | inr shut ↦ refused TicketIntegrity (lit< tt) (λ history moment. (ticket_shut facts setup history bytes moment (λ s. ⊥) request entry k shut).cause)
   ]
@@ -89,14 +89,14 @@ module _ (facts : Facts) (d : Decisions) (setup : Setup) (bytes : List ℕ) wher
   by_choice request asks no_version h = refused BadKeyVersion (lit< tt) (λ history moment. (wanted facts setup history bytes moment (λ s. ⊥) request asks BadKeyVersion (inr (inr (refl, h)))).cause)
 
   by_request : (request : ValueOf ap_req) → IsMessage ap_req request bytes → Outcome setup bytes
-  by_request request message = elim (d.bit (options_of request) use_session_key) [
+  by_request request message = elim (d.bit (request_fields request).options use_session_key) [
     | inl set ↦ refused UserToUser (lit< tt) (λ history moment. record {
       holds = record { request = request; message = message; holds = set };
       first = read facts setup history (arrival bytes moment) request message;
     })
-    | inr clear ↦ elim (known (etype_of (sealed_ticket request))) [
+    | inr clear ↦ elim (known (encrypted_fields (sealed_ticket request)).etype) [
       | inl is ↦ (let choice : (choice : Choice) × IsChoiceFor setup request choice =
-          d.choice setup.entries (service_of request) (etype_of (sealed_ticket request)) (kvno_of (sealed_ticket request)) in
+          d.choice setup.entries (service_of request) (encrypted_fields (sealed_ticket request)).etype (encrypted_fields (sealed_ticket request)).kvno in
           by_choice request (record { message = message; ordinary = clear; known = is }) choice.0 choice.1)
       | inr other ↦ refused TicketEtype (lit< tt) (λ history moment. record {
         holds = record { request = request; message = message; holds = other };

@@ -11,7 +11,6 @@ use Rattle.krb_enc.specs.Sealed.{sealed}
 use Rattle.krb_msg.specs.Module.{ap_req, authenticator, checksum, encrypted_data, encryption_key, ticket as ticket_kind, is_ticket}
 use Rattle.krb_msg.specs.Fields.{authenticator_value, ap_req_value, encrypted_value}
 use Rattle.krb_time.specs.Moments.{micros_of}
-use Rattle.krb_msg.specs.Owned.{principal_name_of}
 use Rattle.krb_ccache.specs.declared.credential.Credential.{Credential}
 use Rattle.krb_ap.specs.Written.{IsWritten, IsSealed, key_value}
 use Rattle.krb_ap.specs.Opened.{authenticator_usage}
@@ -32,8 +31,7 @@ pub copied : (client : Principal) (credential : Credential) (ctime : ℤ) (cusec
     (subkey : Option (ValueOf encryption_key)) (options : RequestOptions)
     → client ≡ credential.client → sum ≡ option_map (context_checksum options.mutual) options.context → subkey ≡ option_map key_value options.subkey
     → authenticator_value (record {
-      crealm = client.realm;
-      cname = principal_name_of client;
+      client = client;
       checksum = sum;
       cusec = cusec;
       ctime = ctime;

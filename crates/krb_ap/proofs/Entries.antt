@@ -2,7 +2,7 @@
 use Rattle.std.proofs.Common.{◌≡◌, ℕ, List, subst}
 use Rattle.krb_der.specs.Kind.{ValueOf}
 use Rattle.krb_msg.specs.Module.{ap_req, enc_ticket_part, authenticator, ticket as ticket_kind}
-use Rattle.krb_msg.specs.Fields.{enc_part_of, etype_of, kvno_of, ticket_service}
+use Rattle.krb_msg.specs.Fields.{ticket_fields, encrypted_fields, ticket_service}
 use Rattle.krb_keytab.specs.Entry.{KeytabEntry}
 use Rattle.krb_keytab.specs.Pick.{chosen, IsChoice}
 use Rattle.krb_ccache.specs.declared.credential.Credential.{Credential}
@@ -21,7 +21,7 @@ module _ (setup other : Setup) (same : setup.entries ≡ other.entries) where
         entry = o.authenticated.ticketed.entry;
         keyed = record {
           asks = o.authenticated.ticketed.keyed.asks;
-          chosen_is = subst (λ (l : List KeytabEntry). IsChoice l (service_of request) (etype_of (sealed_ticket request)) (kvno_of (sealed_ticket request))
+          chosen_is = subst (λ (l : List KeytabEntry). IsChoice l (service_of request) (encrypted_fields (sealed_ticket request)).etype (encrypted_fields (sealed_ticket request)).kvno
               (chosen o.authenticated.ticketed.entry)) same o.authenticated.ticketed.keyed.chosen_is;
         };
         opens = o.authenticated.ticketed.opens;
@@ -46,7 +46,7 @@ module _ (setup other : Setup) (same : setup.entries ≡ other.entries) where
   has_ticket_by credential ticket part h = record {
     ticket_is = h.ticket_is;
     entry = h.entry;
-    chosen_is = subst (λ (l : List KeytabEntry). IsChoice l (ticket_service ticket) (etype_of (enc_part_of ticket)) (kvno_of (enc_part_of ticket)) (chosen h.entry))
+    chosen_is = subst (λ (l : List KeytabEntry). IsChoice l (ticket_service ticket) (encrypted_fields (ticket_fields ticket).enc_part).etype (encrypted_fields (ticket_fields ticket).enc_part).kvno (chosen h.entry))
         same h.chosen_is;
     opens = h.opens;
     client = h.client;

@@ -7,7 +7,7 @@ use Rattle.krb_der.specs.Spells.{IsMessage}
 use Rattle.krb_enc.specs.Key.{KeyValue, profile_of}
 use Rattle.krb_enc.specs.Opens.{Opens}
 use Rattle.krb_msg.specs.Module.{ap_rep, enc_ap_rep_part, is_ap_rep, is_enc_ap_rep_part, typed}
-use Rattle.krb_msg.specs.Fields.{cipher_of, etype_of, reply_enc_part, reply_subkey, reply_seq_number}
+use Rattle.krb_msg.specs.Fields.{encrypted_fields, reply_enc_part, reply_fields}
 use Rattle.krb_ap.specs.Causes.{BeginsOtherwise}
 use Rattle.krb_ap.specs.Request.{Awaited}
 use Rattle.krb_ap.specs.Reply.{reply_usage}
@@ -69,7 +69,7 @@ module _ (facts : Facts) (awaited : Awaited) (bytes : List ℕ) where
       let same : b.reply ≡ a.reply = facts.one_value ap_rep is_ap_rep b.reply a.reply bytes b.message a.message in
       let moved : OpensReply awaited.key a.reply q = subst (λ (r : ValueOf ap_rep). OpensReply awaited.key r q) same b.opens in
       let plain : moved.opens.plain ≡ a.opens.opens.plain =
-      facts.one_plain awaited.key reply_usage (cipher_of (reply_enc_part a.reply)) moved.opens.plain a.opens.opens.plain moved.opens.opens a.opens.opens.opens in
+      facts.one_plain awaited.key reply_usage (encrypted_fields (reply_enc_part a.reply)).cipher moved.opens.plain a.opens.opens.plain moved.opens.opens a.opens.opens.opens in
       facts.one_value enc_ap_rep_part is_enc_ap_rep_part p q a.opens.opens.plain a.opens.opens.message
       (subst (λ (b : List ℕ). IsMessage enc_ap_rep_part q b) plain moved.opens.message)
 
@@ -93,8 +93,8 @@ agreement_by client key subkey seq service_subkey service_seq =
 -- ---- what opens, by the key that is held
 
 pub opens_reply : (key : KeyValue) (reply : ValueOf ap_rep) (lent plain : List ℕ) (part : ValueOf enc_ap_rep_part)
-    → etype_of (reply_enc_part reply) ≡ key.etype → lent ≡ plain
-    → Opens (profile_of key) key.bytes reply_usage (cipher_of (reply_enc_part reply)) plain → IsMessage enc_ap_rep_part part lent
+    → (encrypted_fields (reply_enc_part reply)).etype ≡ key.etype → lent ≡ plain
+    → Opens (profile_of key) key.bytes reply_usage (encrypted_fields (reply_enc_part reply)).cipher plain → IsMessage enc_ap_rep_part part lent
     → OpensReply key reply part
 opens_reply key reply lent plain part same e opens message = record {
   same_type = same;
@@ -102,22 +102,22 @@ opens_reply key reply lent plain part same e opens message = record {
 }
 
 pub opens_to_other : Facts → (key : KeyValue) (reply : ValueOf ap_rep) (lent plain : List ℕ) → lent ≡ plain
-    → Opens (profile_of key) key.bytes reply_usage (cipher_of (reply_enc_part reply)) plain
+    → Opens (profile_of key) key.bytes reply_usage (encrypted_fields (reply_enc_part reply)).cipher plain
     → ((part : ValueOf enc_ap_rep_part) → ¬ IsMessage enc_ap_rep_part part lent) → (part : ValueOf enc_ap_rep_part) → ¬ OpensReply key reply part
 opens_to_other facts key reply lent plain e opens none part o = none part (subst (λ (b : List ℕ). IsMessage enc_ap_rep_part part b)
-    (facts.one_plain key reply_usage (cipher_of (reply_enc_part reply)) o.opens.plain plain o.opens.opens opens ∙ sym e) o.opens.message)
+    (facts.one_plain key reply_usage (encrypted_fields (reply_enc_part reply)).cipher o.opens.plain plain o.opens.opens opens ∙ sym e) o.opens.message)
 
 -- what is agreed, as copies
 pub copied_agreement : (awaited : Awaited) (part : ValueOf enc_ap_rep_part) (client : Principal) (key : KeyValue) (subkey : Option KeyValue) (seq : Option ℕ)
     (service_subkey : Option (ValueOf (typed (leaf octets)))) → client ≡ awaited.client → key ≡ awaited.key → subkey ≡ awaited.subkey → seq ≡ awaited.seq
-    → service_subkey ≡ reply_subkey part
-    → agreement_by client key subkey seq service_subkey (reply_seq_number part) ≡ agreement_for awaited part
+    → service_subkey ≡ (reply_fields part).subkey
+    → agreement_by client key subkey seq service_subkey (reply_fields part).seq_number ≡ agreement_for awaited part
 copied_agreement awaited part client key subkey seq service_subkey e f g h i =
-    ap (λ (x : Principal). agreement_by x key subkey seq service_subkey (reply_seq_number part)) e
-    ∙ (ap (λ (x : KeyValue). agreement_by awaited.client x subkey seq service_subkey (reply_seq_number part)) f
-    ∙ (ap (λ (x : Option KeyValue). agreement_by awaited.client awaited.key x seq service_subkey (reply_seq_number part)) g
-    ∙ (ap (λ (x : Option ℕ). agreement_by awaited.client awaited.key awaited.subkey x service_subkey (reply_seq_number part)) h
-    ∙ ap (λ (x : Option (ValueOf (typed (leaf octets)))). agreement_by awaited.client awaited.key awaited.subkey awaited.seq x (reply_seq_number part)) i)))
+    ap (λ (x : Principal). agreement_by x key subkey seq service_subkey (reply_fields part).seq_number) e
+    ∙ (ap (λ (x : KeyValue). agreement_by awaited.client x subkey seq service_subkey (reply_fields part).seq_number) f
+    ∙ (ap (λ (x : Option KeyValue). agreement_by awaited.client awaited.key x seq service_subkey (reply_fields part).seq_number) g
+    ∙ (ap (λ (x : Option ℕ). agreement_by awaited.client awaited.key awaited.subkey x service_subkey (reply_fields part).seq_number) h
+    ∙ ap (λ (x : Option (ValueOf (typed (leaf octets)))). agreement_by awaited.client awaited.key awaited.subkey awaited.seq x (reply_fields part).seq_number) i)))
 
 -- a fault that is answered
 pub fault_of : {T : Type 0} (one other : FinishFault) → IsErrOf {T = T} (Err one) other → one ≡ other

@@ -4,7 +4,7 @@ use Rattle.std.specs.Prelude.{◌≤ℤ◌}
 use Rattle.krb_name.specs.declared.principal.Principal.{Principal}
 use Rattle.krb_der.specs.Kind.{ValueOf}
 use Rattle.krb_msg.specs.Module.{ap_req, enc_ticket_part, authenticator}
-use Rattle.krb_msg.specs.Fields.{endtime_of}
+use Rattle.krb_msg.specs.Fields.{part_times}
 use Rattle.krb_replay.specs.Stamp.{Stamp}
 use Rattle.krb_ap.specs.Opened.{stamp_at}
 use Rattle.krb_ap.specs.Times.{Alive, IsEarly, IsLate, second_at, start_of}
@@ -21,7 +21,7 @@ pub alive : (part : ValueOf enc_ticket_part) (now : ℤ) (skew : ℕ) → ¬ IsE
 alive part now skew early late = record {
   valid = λ bit. early (inr bit);
   begun = stable (second_at (start_of part)) (now +ℤ pos skew) (λ h. early (inl h));
-  lasting = stable now (second_at (endtime_of part) +ℤ pos skew) late;
+  lasting = stable now (second_at (part_times part).endtime +ℤ pos skew) late;
 }
 
 -- the stamp of a tuple that was made of these names

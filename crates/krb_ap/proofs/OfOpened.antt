@@ -4,7 +4,7 @@ use Rattle.std.specs.Prelude.{◌<ℤ◌, IfSome}
 use Rattle.krb_der.specs.Kind.{ValueOf}
 use Rattle.krb_msg.specs.Bits.{invalid, transited_policy_checked}
 use Rattle.krb_msg.specs.Module.{ap_req, enc_ticket_part, authenticator, authorization_data}
-use Rattle.krb_msg.specs.Fields.{flags_of, endtime_of, crealm_of, realm_of, ticket_of_request, authorization_of, authenticator_authorization, type_of}
+use Rattle.krb_msg.specs.Fields.{part_fields, request_fields, authenticator_fields, type_of, part_client, ticket_service, part_times}
 use Rattle.krb_replay.specs.Stamp.{Stamp}
 use Rattle.krb_ap.specs.Setup.{Setup, Arrival, arrival}
 use Rattle.krb_ap.specs.Opened.{OpenedAs, sent_at, stamp_of}
@@ -152,20 +152,20 @@ module _ (facts : Facts) (setup : Setup) (history : List Arrival) (bytes : List 
 
   module _ (d : Decisions) where
     early : Decided (IsEarly part (effective history moment) setup.skew)
-    early = one_of _ _ (none_of _ (order (second_at (start_of part)) (effective history moment +ℤ pos setup.skew))) (d.bit (flags_of part) invalid)
+    early = one_of _ _ (none_of _ (order (second_at (start_of part)) (effective history moment +ℤ pos setup.skew))) (d.bit (part_fields part).flags invalid)
 
     late : Decided (IsLate part (effective history moment) setup.skew)
-    late = none_of _ (order (effective history moment) (second_at (endtime_of part) +ℤ pos setup.skew))
+    late = none_of _ (order (effective history moment) (second_at (part_times part).endtime +ℤ pos setup.skew))
 
     trusted : Decided (IsPathTrusted request part)
-    trusted = one_of _ _ (texts (crealm_of part) (realm_of (ticket_of_request request))) (d.bit (flags_of part) transited_policy_checked)
+    trusted = one_of _ _ (texts (part_client part).realm (ticket_service (request_fields request).ticket).realm) (d.bit (part_fields part).flags transited_policy_checked)
 
     data_of : (data_ : Option (ValueOf authorization_data)) → Decided (MayBeIgnored data_)
     data_of None = inl tt
     data_of (Some elements) = each (λ element. type_of element ≡ pos 1) (λ element. integers (type_of element) (pos 1)) elements
 
     ignorable : Decided (IsDataIgnorable part auth)
-    ignorable = elim (both _ _ (data_of (authorization_of part)) (data_of (authenticator_authorization auth))) [
+    ignorable = elim (both _ _ (data_of (part_fields part).authorization) (data_of (authenticator_fields auth).authorization)) [
       | inl h ↦ inl (record { of_ticket = h.0; of_authenticator = h.1 })
       | inr none ↦ inr (λ h. none (h.of_ticket, h.of_authenticator))
     ]

@@ -4,7 +4,7 @@ use Rattle.krb_der.specs.Kind.{Kind, ValueOf}
 use Rattle.krb_der.specs.Spells.{IsMessage}
 use Rattle.krb_enc.specs.Key.{KeyValue}
 use Rattle.krb_msg.specs.Module.{ap_req, enc_ticket_part, authenticator, IsMessageKind, is_ap_req, is_enc_ticket_part, is_authenticator}
-use Rattle.krb_msg.specs.Fields.{cipher_of, authenticator_of_request}
+use Rattle.krb_msg.specs.Fields.{encrypted_fields, request_fields}
 use Rattle.krb_keytab.specs.Entry.{KeytabEntry}
 use Rattle.krb_keytab.specs.Pick.{chosen}
 use Rattle.krb_ap.specs.Setup.{Setup}
@@ -43,9 +43,9 @@ pub one_part : Facts → (setup : Setup) (bytes : List ℕ) (r : ValueOf ap_req)
     → Ticketed setup bytes r p → Ticketed setup bytes r q → q ≡ p
 one_part facts setup bytes r p q one other =
     let e : other.entry ≡ one.entry = one_entry facts setup bytes r one.entry other.entry one.keyed other.keyed in
-    let moved : OpensAs (entry_key one.entry) ticket_usage (cipher_of (sealed_ticket r)) enc_ticket_part q =
-    subst (λ (x : KeytabEntry). OpensAs (entry_key x) ticket_usage (cipher_of (sealed_ticket r)) enc_ticket_part q) e other.opens in
-    one_message facts (entry_key one.entry) ticket_usage (cipher_of (sealed_ticket r)) enc_ticket_part is_enc_ticket_part q p moved one.opens
+    let moved : OpensAs (entry_key one.entry) ticket_usage (encrypted_fields (sealed_ticket r)).cipher enc_ticket_part q =
+    subst (λ (x : KeytabEntry). OpensAs (entry_key x) ticket_usage (encrypted_fields (sealed_ticket r)).cipher enc_ticket_part q) e other.opens in
+    one_message facts (entry_key one.entry) ticket_usage (encrypted_fields (sealed_ticket r)).cipher enc_ticket_part is_enc_ticket_part q p moved one.opens
 
 pub ticket_of_one : Facts → (setup : Setup) (bytes : List ℕ) (r s : ValueOf ap_req) (p q : ValueOf enc_ticket_part)
     → Ticketed setup bytes r p → Ticketed setup bytes s q → (s ≡ r) × (q ≡ p)
@@ -66,14 +66,14 @@ not_shut facts setup bytes r p ticketed o =
     let e : o.request ≡ r = one_request facts bytes r o.request ticketed.keyed.asks.message o.keyed.asks.message in
     let keyed : Keyed setup bytes o.request ticketed.entry = subst (λ (x : ValueOf ap_req). Keyed setup bytes x ticketed.entry) (sym e) ticketed.keyed in
     let f : ticketed.entry ≡ o.entry = one_entry facts setup bytes o.request o.entry ticketed.entry o.keyed keyed in
-    let first : OpensAs (entry_key ticketed.entry) ticket_usage (cipher_of (sealed_ticket o.request)) enc_ticket_part p =
-    subst (λ (x : ValueOf ap_req). OpensAs (entry_key ticketed.entry) ticket_usage (cipher_of (sealed_ticket x)) enc_ticket_part p) (sym e) ticketed.opens in
-    o.shut p (subst (λ (x : KeytabEntry). OpensAs (entry_key x) ticket_usage (cipher_of (sealed_ticket o.request)) enc_ticket_part p) f first)
+    let first : OpensAs (entry_key ticketed.entry) ticket_usage (encrypted_fields (sealed_ticket o.request)).cipher enc_ticket_part p =
+    subst (λ (x : ValueOf ap_req). OpensAs (entry_key ticketed.entry) ticket_usage (encrypted_fields (sealed_ticket x)).cipher enc_ticket_part p) (sym e) ticketed.opens in
+    o.shut p (subst (λ (x : KeytabEntry). OpensAs (entry_key x) ticket_usage (encrypted_fields (sealed_ticket o.request)).cipher enc_ticket_part p) f first)
 
 pub one_auth : Facts → (r : ValueOf ap_req) (p : ValueOf enc_ticket_part) (a b : ValueOf authenticator)
     → OpensAuthenticator r p a → OpensAuthenticator r p b → b ≡ a
 one_auth facts r p a b one other =
-    one_message facts (session_key p) authenticator_usage (cipher_of (authenticator_of_request r)) authenticator is_authenticator b a other.opens one.opens
+    one_message facts (session_key p) authenticator_usage (encrypted_fields (request_fields r).authenticator).cipher authenticator is_authenticator b a other.opens one.opens
 
 pub record SameOpening (r s : ValueOf ap_req) (p q : ValueOf enc_ticket_part) (a b : ValueOf authenticator) : Type 0 where
   pub request : s ≡ r

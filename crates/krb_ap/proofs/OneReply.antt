@@ -5,7 +5,7 @@ use Rattle.krb_der.specs.Fault.{IsFault}
 use Rattle.krb_der.specs.Spells.{IsMessage}
 use Rattle.krb_der.specs.declared.fault.Fault.{Fault}
 use Rattle.krb_msg.specs.Module.{ap_rep, enc_ap_rep_part, is_ap_rep, is_enc_ap_rep_part}
-use Rattle.krb_msg.specs.Fields.{cipher_of, etype_of, reply_enc_part}
+use Rattle.krb_msg.specs.Fields.{encrypted_fields, reply_enc_part}
 use Rattle.krb_ap.specs.Causes.{BeginsOtherwise}
 use Rattle.krb_ap.specs.Request.{Awaited}
 use Rattle.krb_ap.specs.Reply.{reply_usage}
@@ -29,8 +29,8 @@ module _ (facts : Facts) (d : Decisions) (awaited : Awaited) (bytes : List ℕ) 
   ]
 
   by_opening : (reply : ValueOf ap_rep) → IsMessage ap_rep reply bytes → HasAnswer
-  by_opening reply message = elim (integers (etype_of (reply_enc_part reply)) awaited.key.etype) [
-    | inl same ↦ elim (opens_as facts d awaited.key reply_usage (cipher_of (reply_enc_part reply)) enc_ap_rep_part is_enc_ap_rep_part) [
+  by_opening reply message = elim (integers (encrypted_fields (reply_enc_part reply)).etype awaited.key.etype) [
+    | inl same ↦ elim (opens_as facts d awaited.key reply_usage (encrypted_fields (reply_enc_part reply)).cipher enc_ap_rep_part is_enc_ap_rep_part) [
       | inl opening ↦ by_moment opening.0 (record { reply = reply; message = message; opens = record { same_type = same; opens = opening.1 } })
       | inr shut ↦ inr (Integrity, reply_shut facts awaited bytes reply message (λ part o. shut part o.opens))
     ]

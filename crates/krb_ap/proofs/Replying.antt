@@ -9,7 +9,7 @@ use Rattle.krb_der.specs.Size.{size_of}
 use Rattle.krb_enc.specs.Key.{KeyValue, IsUsable, profile_of}
 use Rattle.krb_enc.specs.Sealed.{Profile, IsProfile, sealed}
 use Rattle.krb_msg.specs.Module.{enc_ap_rep_part, encrypted_data, encryption_key, krb_error}
-use Rattle.krb_msg.specs.Fields.{ap_rep_value, enc_ap_rep_part_value, bytes_of, reply_enc_part, reply_subkey}
+use Rattle.krb_msg.specs.Fields.{ap_rep_value, enc_ap_rep_part_value, bytes_of, reply_enc_part, reply_fields}
 use Rattle.krb_time.specs.Moments.{micros_of}
 use Rattle.krb_ap.specs.Written.{IsSealed, key_value}
 use Rattle.krb_ap.specs.Taken.{Taken}
@@ -27,10 +27,10 @@ key_size key (inr h) = (let e : length key.bytes ≡ 32 = h.1 in omega arith)
 
 -- how long the part is at most, by the law on replies
 abbrev pub WithoutKey : Type 0
-WithoutKey = (v : ValueOf enc_ap_rep_part) → reply_subkey v ≡ None → size_of enc_ap_rep_part v ≤ 41
+WithoutKey = (v : ValueOf enc_ap_rep_part) → (reply_fields v).subkey ≡ None → size_of enc_ap_rep_part v ≤ 41
 
 abbrev pub WithKey : Type 0
-WithKey = (v : ValueOf enc_ap_rep_part) (key : ValueOf encryption_key) → reply_subkey v ≡ Some key → size_of enc_ap_rep_part v ≤ 82 + length (bytes_of key)
+WithKey = (v : ValueOf enc_ap_rep_part) (key : ValueOf encryption_key) → (reply_fields v).subkey ≡ Some key → size_of enc_ap_rep_part v ≤ 82 + length (bytes_of key)
 
 small_without : (n : ℕ) → n ≤ 41 → n ≤ 114
 small_without n h = omega arith
@@ -38,7 +38,7 @@ small_without n h = omega arith
 small_with : (n m : ℕ) → n ≤ 82 + m → m ≤ 32 → n ≤ 114
 small_with n m h g = omega arith
 
-pub part_size : WithoutKey → WithKey → (v : ValueOf enc_ap_rep_part) (subkey : Option KeyValue) → reply_subkey v ≡ option_map key_value subkey
+pub part_size : WithoutKey → WithKey → (v : ValueOf enc_ap_rep_part) (subkey : Option KeyValue) → (reply_fields v).subkey ≡ option_map key_value subkey
     → IfSome subkey IsUsable → size_of enc_ap_rep_part v ≤ 114
 part_size without with v None e usable = small_without (size_of enc_ap_rep_part v) (without v e)
 part_size without with v (Some key) e usable = small_with (size_of enc_ap_rep_part v) (length key.bytes) (with v (key_value key) e) (key_size key usable)

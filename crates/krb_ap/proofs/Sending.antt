@@ -4,7 +4,7 @@ use Rattle.krb_der.specs.Kind.{ValueOf}
 use Rattle.krb_der.specs.Spells.{IsMessage}
 use Rattle.krb_enc.specs.Key.{KeyValue}
 use Rattle.krb_msg.specs.Module.{ap_req, ap_rep, ticket as ticket_kind, enc_ticket_part, enc_ap_rep_part, authenticator, is_ap_rep, is_ticket, is_authenticator, is_enc_ap_rep_part}
-use Rattle.krb_msg.specs.Fields.{ticket_service, part_client, cipher_of, authenticator_of_request, authenticator_ctime, authenticator_cusec}
+use Rattle.krb_msg.specs.Fields.{ticket_service, part_client, encrypted_fields, request_fields, authenticator_fields}
 use Rattle.krb_time.specs.Moments.{micros_of}
 use Rattle.krb_ccache.specs.declared.credential.Credential.{Credential}
 use Rattle.krb_ap.specs.Setup.{Setup, Arrival}
@@ -26,7 +26,7 @@ use Rattle.krb_ap.proofs.OneOpening.{of_same, one_message, one_request, one_part
 same_text : Facts → (credential : Credential) (at to : ℤ) (c d : List ℕ) (o p : RequestOptions) (bytes : List ℕ)
     → (a : IsBuilt credential at c o bytes) → (b : IsBuilt credential to d p bytes) → b.text ≡ a.text
 same_text facts credential at to c d o p bytes a b =
-    ap (λ (r : ValueOf ap_req). cipher_of (authenticator_of_request r))
+    ap (λ (r : ValueOf ap_req). (encrypted_fields (request_fields r).authenticator).cipher)
     (one_request facts bytes (told_request credential at c o bytes a) (told_request credential to d p bytes b) a.bytes_are.message b.bytes_are.message)
 
 pub same_moment : Facts → (credential : Credential) (at to : ℤ) (c d : List ℕ) (o p : RequestOptions) (bytes : List ℕ)
@@ -38,7 +38,7 @@ same_moment facts credential at to c d o p bytes a b =
     let same : told_auth credential at c o bytes a ≡ told_auth credential to d p bytes b =
     one_message facts (credential_key credential) authenticator_usage a.text authenticator is_authenticator
     (told_auth credential at c o bytes a) (told_auth credential to d p bytes b) (opens_told credential at c o bytes a) moved in
-    a.text_is.told.at_is ∙ (ap (λ (x : ValueOf authenticator). micros_of (authenticator_ctime x) (authenticator_cusec x)) same ∙ sym b.text_is.told.at_is)
+    a.text_is.told.at_is ∙ (ap (λ (x : ValueOf authenticator). micros_of (authenticator_fields x).ctime (authenticator_fields x).cusec) same ∙ sym b.text_is.told.at_is)
 
 -- ---- what is accepted of a built request
 

@@ -6,7 +6,7 @@ use Rattle.krb_der.specs.Flags.{HasBit}
 use Rattle.krb_enc.specs.Key.{IsKnown, IsUsable}
 use Rattle.krb_msg.specs.Bits.{use_session_key}
 use Rattle.krb_msg.specs.Module.{ap_req, enc_ticket_part, authenticator}
-use Rattle.krb_msg.specs.Fields.{options_of, etype_of}
+use Rattle.krb_msg.specs.Fields.{request_fields, encrypted_fields}
 use Rattle.krb_keytab.specs.Entry.{KeytabEntry}
 use Rattle.krb_keytab.specs.Pick.{Choice, chosen, no_name, no_key, no_version}
 use Rattle.krb_ap.specs.Setup.{Setup, Arrival}
@@ -25,14 +25,14 @@ module _ (facts : Facts) (setup : Setup) (history : List Arrival) (call : Arriva
   pub read : (request : ValueOf ap_req) → IsMessage ap_req request call.bytes → Clear setup history call (place UserToUser)
   read request message = pass_malformed setup history call request message (begun (begins_so ap_req request call.bytes message))
 
-  pub ordinary : (request : ValueOf ap_req) → IsMessage ap_req request call.bytes → ¬ HasBit (options_of request) use_session_key
+  pub ordinary : (request : ValueOf ap_req) → IsMessage ap_req request call.bytes → ¬ HasBit (request_fields request).options use_session_key
       → Clear setup history call (place TicketEtype)
   ordinary request message refuted = pass setup history call UserToUser (read request message)
-      (λ o. refuted (of_request facts call.bytes request (λ r. HasBit (options_of r) use_session_key) message o))
+      (λ o. refuted (of_request facts call.bytes request (λ r. HasBit (request_fields r).options use_session_key) message o))
 
   pub asked : (request : ValueOf ap_req) → Asks call.bytes request → Clear setup history call (place NotUs)
   asked request asks = pass setup history call TicketEtype (ordinary request asks.message asks.ordinary)
-      (λ o. of_request facts call.bytes request (λ r. ¬ IsKnown (etype_of (sealed_ticket r))) asks.message o asks.known)
+      (λ o. of_request facts call.bytes request (λ r. ¬ IsKnown (encrypted_fields (sealed_ticket r)).etype) asks.message o asks.known)
 
   other_choice : (request : ValueOf ap_req) (one other : Choice) → (one ≡ other → ⊥) → IsChoiceFor setup request one → IsChoiceFor setup request other → ⊥
   other_choice request one other refuted h g = refuted (facts.one_choice setup request one other h g)

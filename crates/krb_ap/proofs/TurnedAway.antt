@@ -8,7 +8,7 @@ use Rattle.krb_der.specs.Spells.{IsMessage}
 use Rattle.krb_enc.specs.Key.{KeyValue, IsUsable, profile_of}
 use Rattle.krb_enc.specs.Opens.{Opens}
 use Rattle.krb_msg.specs.Module.{ap_req, enc_ticket_part, authenticator}
-use Rattle.krb_msg.specs.Fields.{cipher_of}
+use Rattle.krb_msg.specs.Fields.{encrypted_fields}
 use Rattle.krb_keytab.specs.Entry.{KeytabEntry}
 use Rattle.krb_keytab.specs.Pick.{no_key, no_version}
 use Rattle.krb_replay.specs.Stamp.{Stamp}
@@ -79,7 +79,7 @@ module _ (facts : Facts) (setup : Setup) (history : List Arrival) (bytes : List 
   -- ---- the ticket
 
   pub ticket_shut : (request : ValueOf ap_req) (entry : KeytabEntry) → Keyed setup bytes request entry
-      → ((part : ValueOf enc_ticket_part) → ¬ OpensAs (entry_key entry) ticket_usage (cipher_of (sealed_ticket request)) enc_ticket_part part)
+      → ((part : ValueOf enc_ticket_part) → ¬ OpensAs (entry_key entry) ticket_usage (encrypted_fields (sealed_ticket request)).cipher enc_ticket_part part)
       → IsTurnedAway setup history (arrival bytes moment) Has TicketIntegrity
   ticket_shut request entry k shut = turned_away TicketIntegrity (lit< tt) (record {
     holds = record { request = request; entry = entry; keyed = k; shut = shut };

@@ -8,7 +8,7 @@ use Rattle.krb_der.specs.Flags.{HasBit}
 use Rattle.krb_enc.specs.Key.{IsKnown, IsUsable}
 use Rattle.krb_msg.specs.Bits.{use_session_key}
 use Rattle.krb_msg.specs.Module.{ap_req, enc_ticket_part, authenticator}
-use Rattle.krb_msg.specs.Fields.{options_of, etype_of, cipher_of}
+use Rattle.krb_msg.specs.Fields.{request_fields, encrypted_fields}
 use Rattle.krb_keytab.specs.Entry.{KeytabEntry}
 use Rattle.krb_keytab.specs.Pick.{no_name, no_key, no_version}
 use Rattle.krb_ap.specs.Setup.{Setup, Arrival, decided_now}
@@ -45,7 +45,7 @@ pub record IsTicketShut (setup : Setup) (bytes : List ℕ) : Type 0 where
   pub request : ValueOf ap_req
   pub entry : KeytabEntry
   pub keyed : Keyed setup bytes request entry
-  pub shut : (part : ValueOf enc_ticket_part) → ¬ OpensAs (entry_key entry) ticket_usage (cipher_of (sealed_ticket request)) enc_ticket_part part
+  pub shut : (part : ValueOf enc_ticket_part) → ¬ OpensAs (entry_key entry) ticket_usage (encrypted_fields (sealed_ticket request)).cipher enc_ticket_part part
 
 -- the ticket is opened, and this holds of it
 pub record OfTicket (setup : Setup) (bytes : List ℕ) (P : ValueOf ap_req → ValueOf enc_ticket_part → Type 0) : Type 0 where
@@ -101,10 +101,10 @@ row (Malformed fault) = row_of 200 (codes "Malformed") (kerberos 60) false
     (λ setup history call. ((request : ValueOf ap_req) → ¬ IsMessage ap_req request call.bytes) × IsFault ap_req call.bytes fault)
 -- KRB_AP_ERR_NOKEY
 row UserToUser = row_of 300 (codes "UserToUser") (kerberos 45) false
-    (λ setup history call. OfRequest call.bytes (λ request. HasBit (options_of request) use_session_key))
+    (λ setup history call. OfRequest call.bytes (λ request. HasBit (request_fields request).options use_session_key))
 -- KDC_ERR_ETYPE_NOSUPP
 row TicketEtype = row_of 400 (codes "TicketEtype") (kerberos 14) false
-    (λ setup history call. OfRequest call.bytes (λ request. ¬ IsKnown (etype_of (sealed_ticket request))))
+    (λ setup history call. OfRequest call.bytes (λ request. ¬ IsKnown (encrypted_fields (sealed_ticket request)).etype))
 -- KRB_AP_ERR_NOT_US
 row NotUs = row_of 500 (codes "NotUs") (kerberos 35) false
     (λ setup history call. OfAsked call.bytes (λ request. IsChoiceFor setup request no_name))

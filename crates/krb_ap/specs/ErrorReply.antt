@@ -6,7 +6,6 @@ use Rattle.krb_der.specs.Kind.{ValueOf}
 use Rattle.krb_msg.specs.Module.{krb_error}
 use Rattle.krb_msg.specs.Fields.{krb_error_value}
 use Rattle.krb_time.specs.Moments.{micros_of}
-use Rattle.krb_msg.specs.Owned.{principal_name_of}
 use Rattle.krb_ap.specs.Causes.{code_of}
 use Rattle.krb_ap.specs.Written.{IsWritten}
 use Rattle.krb_ap.specs.declared.refusal.Refusal.{Refusal}
@@ -21,8 +20,7 @@ error_for stime susec code service = krb_error_value (record {
   error_code = code;
   crealm = None;
   cname = None;
-  realm = service.realm;
-  sname = principal_name_of service;
+  service = service;
   e_text = None;
   e_data = None;
 })

@@ -8,7 +8,7 @@ use Rattle.krb_der.specs.Fault.{IsFault}
 use Rattle.krb_der.specs.Spells.{IsMessage}
 use Rattle.krb_enc.specs.Key.{KeyValue}
 use Rattle.krb_msg.specs.Module.{ap_rep, enc_ap_rep_part, typed}
-use Rattle.krb_msg.specs.Fields.{cipher_of, etype_of, reply_enc_part, reply_ctime, reply_cusec, reply_subkey, reply_seq_number}
+use Rattle.krb_msg.specs.Fields.{encrypted_fields, reply_enc_part, reply_fields}
 use Rattle.krb_time.specs.Moments.{micros_of}
 use Rattle.krb_msg.specs.Owned.{owned_key_of}
 use Rattle.krb_ap.specs.Opened.{OpensAs}
@@ -21,8 +21,8 @@ use Rattle.krb_ap.specs.declared.finish_fault.FinishFault.TheVariants.{MessageTy
 
 -- the session key is for the type that the reply is sealed with, and opens the reply to this part
 pub record OpensReply (key : KeyValue) (reply : ValueOf ap_rep) (part : ValueOf enc_ap_rep_part) : Type 0 where
-  pub same_type : etype_of (reply_enc_part reply) ≡ key.etype
-  pub opens : OpensAs key reply_usage (cipher_of (reply_enc_part reply)) enc_ap_rep_part part
+  pub same_type : (encrypted_fields (reply_enc_part reply)).etype ≡ key.etype
+  pub opens : OpensAs key reply_usage (encrypted_fields (reply_enc_part reply)).cipher enc_ap_rep_part part
 
 -- the bytes are a reply that opens to this part
 pub record IsOpenedReply (awaited : Awaited) (bytes : List ℕ) (part : ValueOf enc_ap_rep_part) : Type 0 where
@@ -34,11 +34,11 @@ pub record IsOpenedReply (awaited : Awaited) (bytes : List ℕ) (part : ValueOf 
 pub record IsReplyOfType (awaited : Awaited) (bytes : List ℕ) : Type 0 where
   pub reply : ValueOf ap_rep
   pub message : IsMessage ap_rep reply bytes
-  pub same_type : etype_of (reply_enc_part reply) ≡ awaited.key.etype
+  pub same_type : (encrypted_fields (reply_enc_part reply)).etype ≡ awaited.key.etype
 
 -- the client's moment, as the service repeats it
 abbrev pub repeated_at : ValueOf enc_ap_rep_part → ℤ
-repeated_at part = micros_of (reply_ctime part) (reply_cusec part)
+repeated_at part = micros_of (reply_fields part).ctime (reply_fields part).cusec
 
 -- ---- what both sides agree on
 
@@ -57,8 +57,8 @@ agreement_for awaited part = record {
   key = awaited.key;
   subkey = awaited.subkey;
   seq = awaited.seq;
-  service_subkey = reply_subkey part;
-  service_seq = reply_seq_number part;
+  service_subkey = (reply_fields part).subkey;
+  service_seq = (reply_fields part).seq_number;
 }
 
 abbrev pub agreement_of : Agreed → Agreement

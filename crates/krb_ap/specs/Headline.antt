@@ -8,7 +8,7 @@ use Rattle.krb_der.specs.Spells.{IsMessage}
 use Rattle.krb_der.specs.Flags.{HasBit}
 use Rattle.krb_msg.specs.Bits.{transited_policy_checked}
 use Rattle.krb_msg.specs.Module.{ticket as ticket_kind, enc_ticket_part}
-use Rattle.krb_msg.specs.Fields.{ticket_service, realm_of, enc_part_of, etype_of, kvno_of, cipher_of, part_client, crealm_of, flags_of, authorization_of}
+use Rattle.krb_msg.specs.Fields.{ticket_service, ticket_fields, encrypted_fields, part_client, part_fields}
 use Rattle.krb_time.specs.Moments.{micros_of}
 use Rattle.krb_keytab.specs.Entry.{KeytabEntry}
 use Rattle.krb_keytab.specs.Pick.{chosen, IsChoice}
@@ -28,8 +28,8 @@ use Rattle.krb_ap.specs.Request.{Awaited}
 pub record HasTicket (setup : Setup) (credential : Credential) (ticket : ValueOf ticket_kind) (part : ValueOf enc_ticket_part) : Type 0 where
   pub ticket_is : IsMessage ticket_kind ticket credential.ticket
   pub entry : KeytabEntry
-  pub chosen_is : IsChoice setup.entries (ticket_service ticket) (etype_of (enc_part_of ticket)) (kvno_of (enc_part_of ticket)) (chosen entry)
-  pub opens : OpensAs (entry_key entry) ticket_usage (cipher_of (enc_part_of ticket)) enc_ticket_part part
+  pub chosen_is : IsChoice setup.entries (ticket_service ticket) (encrypted_fields (ticket_fields ticket).enc_part).etype (encrypted_fields (ticket_fields ticket).enc_part).kvno (chosen entry)
+  pub opens : OpensAs (entry_key entry) ticket_usage (encrypted_fields (ticket_fields ticket).enc_part).cipher enc_ticket_part part
   pub client : SameName (part_client part) credential.client
   pub key : session_key part ≡ credential_key credential
 
@@ -38,8 +38,8 @@ pub record HasTicket (setup : Setup) (credential : Credential) (ticket : ValueOf
 pub record MayBeTaken (setup : Setup) (history : List Arrival) (moment at : ℤ) (ticket : ValueOf ticket_kind) (part : ValueOf enc_ticket_part) : Type 0 where
   pub near : Near at (effective history moment) setup.skew
   pub alive : Alive part (effective history moment) setup.skew
-  pub trusted : (crealm_of part ≡ realm_of ticket) ⊎ HasBit (flags_of part) transited_policy_checked
-  pub ignorable : MayBeIgnored (authorization_of part)
+  pub trusted : ((part_client part).realm ≡ (ticket_service ticket).realm) ⊎ HasBit (part_fields part).flags transited_policy_checked
+  pub ignorable : MayBeIgnored (part_fields part).authorization
   pub settled : Settled setup (effective history moment) at
   pub unshown : ¬ IsShown setup history (stamp_at (ticket_service ticket) (part_client part) at)
 

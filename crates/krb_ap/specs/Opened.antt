@@ -10,7 +10,7 @@ use Rattle.krb_der.specs.Spells.{IsMessage}
 use Rattle.krb_enc.specs.Key.{KeyValue, IsKnown, IsUsable, profile_of}
 use Rattle.krb_enc.specs.Opens.{Opens}
 use Rattle.krb_msg.specs.Module.{ap_req, encrypted_data, enc_ticket_part, authenticator}
-use Rattle.krb_msg.specs.Fields.{ticket_of_request, authenticator_of_request, options_of, enc_part_of, etype_of, kvno_of, cipher_of, session_key_of, type_of, bytes_of, ticket_service, part_client, authenticator_client, authenticator_ctime, authenticator_cusec}
+use Rattle.krb_msg.specs.Fields.{request_fields, ticket_fields, encrypted_fields, part_fields, type_of, bytes_of, ticket_service, part_client, authenticator_client, authenticator_fields}
 use Rattle.krb_time.specs.Moments.{micros_of}
 use Rattle.krb_der.specs.Flags.{HasBit}
 use Rattle.krb_msg.specs.Bits.{use_session_key}
@@ -34,28 +34,28 @@ pub record OpensAs (key : KeyValue) (usage : ℕ) (cipher : List ℕ) (k : Kind)
 
 -- the sealed part of the request's ticket, and the key of an entry and of a ticket's sealed part
 abbrev pub sealed_ticket : ValueOf ap_req → ValueOf encrypted_data
-sealed_ticket request = enc_part_of (ticket_of_request request)
+sealed_ticket request = (ticket_fields (request_fields request).ticket).enc_part
 
 abbrev pub service_of : ValueOf ap_req → Principal
-service_of request = ticket_service (ticket_of_request request)
+service_of request = ticket_service (request_fields request).ticket
 
 abbrev pub entry_key : KeytabEntry → KeyValue
 entry_key entry = record { etype = entry.etype; bytes = entry.key }
 
 abbrev pub session_key : ValueOf enc_ticket_part → KeyValue
-session_key part = record { etype = type_of (session_key_of part); bytes = bytes_of (session_key_of part) }
+session_key part = record { etype = type_of (part_fields part).key; bytes = bytes_of (part_fields part).key }
 
 -- the choice of a key for the request's ticket
 abbrev pub IsChoiceFor : Setup → ValueOf ap_req → Choice → Type 0
 IsChoiceFor setup request choice =
-    IsChoice setup.entries (service_of request) (etype_of (sealed_ticket request)) (kvno_of (sealed_ticket request)) choice
+    IsChoice setup.entries (service_of request) (encrypted_fields (sealed_ticket request)).etype (encrypted_fields (sealed_ticket request)).kvno choice
 
 -- the bytes are a request of the ordinary kind (not user-to-user), with a ticket of a known
 -- encryption type
 pub record Asks (bytes : List ℕ) (request : ValueOf ap_req) : Type 0 where
   pub message : IsMessage ap_req request bytes
-  pub ordinary : ¬ HasBit (options_of request) use_session_key
-  pub known : IsKnown (etype_of (sealed_ticket request))
+  pub ordinary : ¬ HasBit (request_fields request).options use_session_key
+  pub known : IsKnown (encrypted_fields (sealed_ticket request)).etype
 
 -- they are such a request, whatever it says
 abbrev pub IsOrdinary : List ℕ → Type 0
@@ -74,12 +74,12 @@ pub record Keyed (setup : Setup) (bytes : List ℕ) (request : ValueOf ap_req) (
 pub record Ticketed (setup : Setup) (bytes : List ℕ) (request : ValueOf ap_req) (part : ValueOf enc_ticket_part) : Type 0 where
   pub entry : KeytabEntry
   pub keyed : Keyed setup bytes request entry
-  pub opens : OpensAs (entry_key entry) ticket_usage (cipher_of (sealed_ticket request)) enc_ticket_part part
+  pub opens : OpensAs (entry_key entry) ticket_usage (encrypted_fields (sealed_ticket request)).cipher enc_ticket_part part
 
 -- the session key is for the type that the authenticator is sealed with, and opens it
 pub record OpensAuthenticator (request : ValueOf ap_req) (part : ValueOf enc_ticket_part) (auth : ValueOf authenticator) : Type 0 where
-  pub same_type : etype_of (authenticator_of_request request) ≡ (session_key part).etype
-  pub opens : OpensAs (session_key part) authenticator_usage (cipher_of (authenticator_of_request request)) authenticator auth
+  pub same_type : (encrypted_fields (request_fields request).authenticator).etype ≡ (session_key part).etype
+  pub opens : OpensAs (session_key part) authenticator_usage (encrypted_fields (request_fields request).authenticator).cipher authenticator auth
 
 -- and the session key is usable, and opens the authenticator
 pub record Authenticated (setup : Setup) (bytes : List ℕ) (request : ValueOf ap_req) (part : ValueOf enc_ticket_part)
@@ -100,7 +100,7 @@ pub record OpenedAs (setup : Setup) (bytes : List ℕ) (request : ValueOf ap_req
 -- the client's moment; and what a request is remembered by: the names of server and client, and the
 -- client's moment
 abbrev pub sent_at : ValueOf authenticator → ℤ
-sent_at auth = micros_of (authenticator_ctime auth) (authenticator_cusec auth)
+sent_at auth = micros_of (authenticator_fields auth).ctime (authenticator_fields auth).cusec
 
 abbrev pub stamp_at : Principal → Principal → ℤ → Stamp
 stamp_at server client time = record { server = name_of server; client = name_of client; time = time }

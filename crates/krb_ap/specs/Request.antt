@@ -12,7 +12,6 @@ use Rattle.krb_msg.specs.Bits.{mutual_required}
 use Rattle.krb_msg.specs.Module.{ap_req, authenticator, checksum as checksum_kind, ticket as ticket_kind}
 use Rattle.krb_msg.specs.Fields.{authenticator_value, ap_req_value, encrypted_value, typed_value}
 use Rattle.krb_time.specs.Moments.{micros_of}
-use Rattle.krb_msg.specs.Owned.{principal_name_of}
 use Rattle.krb_ccache.specs.Value.{Cache}
 use Rattle.krb_ccache.specs.declared.credential.Credential.{Credential}
 use Rattle.krb_ap.specs.Opened.{authenticator_usage}
@@ -44,8 +43,7 @@ context_checksum is_mutual c =
 -- context that the client chose; and no more
 abbrev pub authenticator_for : Credential → ℤ → ℕ → RequestOptions → ValueOf authenticator
 authenticator_for credential ctime cusec options = authenticator_value (record {
-  crealm = credential.client.realm;
-  cname = principal_name_of credential.client;
+  client = credential.client;
   checksum = option_map (context_checksum options.mutual) options.context;
   cusec = cusec;
   ctime = ctime;

@@ -6,7 +6,7 @@ use Rattle.krb_ap.specs.Bit.{has_bit}
 use Rattle.krb_enc.specs.Key.{KeyValue}
 use Rattle.krb_msg.specs.Bits.{mutual_required}
 use Rattle.krb_msg.specs.Module.{typed, ap_req, enc_ticket_part, authenticator}
-use Rattle.krb_msg.specs.Fields.{options_of, part_client, flags_of, authtime_of, starttime_of, endtime_of, caddr_of, authorization_of, authenticator_subkey, authenticator_seq_number, authenticator_checksum, authenticator_authorization, authenticator_ctime, authenticator_cusec}
+use Rattle.krb_msg.specs.Fields.{request_fields, part_client, part_fields, authenticator_fields, part_times}
 use Rattle.krb_ap.specs.Setup.{Setup, Arrival}
 use Rattle.krb_time.specs.Moments.{micros_of}
 use Rattle.krb_replay.specs.Stamp.{Stamp}
@@ -43,25 +43,25 @@ abbrev pub taken_stamp : Taken → Stamp
 taken_stamp taken = stamp_at taken.service taken.client (micros_of taken.ctime taken.cusec)
 
 abbrev pub is_mutual : ValueOf ap_req → Bool
-is_mutual request = has_bit (options_of request) mutual_required
+is_mutual request = has_bit (request_fields request).options mutual_required
 
 abbrev pub taken_from : ValueOf ap_req → ValueOf enc_ticket_part → ValueOf authenticator → Taken
 taken_from request part auth = record {
   client = part_client part;
   service = service_of request;
   session_key = session_key part;
-  flags = flags_of part;
-  authtime = authtime_of part;
-  starttime = starttime_of part;
-  endtime = endtime_of part;
-  addresses = caddr_of part;
-  ticket_authorization = authorization_of part;
-  subkey = authenticator_subkey auth;
-  seq = authenticator_seq_number auth;
-  checksum = authenticator_checksum auth;
-  authenticator_authorization = authenticator_authorization auth;
-  ctime = authenticator_ctime auth;
-  cusec = authenticator_cusec auth;
+  flags = (part_fields part).flags;
+  authtime = (part_times part).authtime;
+  starttime = (part_times part).starttime;
+  endtime = (part_times part).endtime;
+  addresses = (part_fields part).caddr;
+  ticket_authorization = (part_fields part).authorization;
+  subkey = (authenticator_fields auth).subkey;
+  seq = (authenticator_fields auth).seq_number;
+  checksum = (authenticator_fields auth).checksum;
+  authenticator_authorization = (authenticator_fields auth).authorization;
+  ctime = (authenticator_fields auth).ctime;
+  cusec = (authenticator_fields auth).cusec;
   wants_reply = is_mutual request;
 }
 

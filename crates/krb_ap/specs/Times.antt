@@ -4,7 +4,7 @@
 use Rattle.std.specs.Prelude.{◌≡◌, ◌⊎◌, ℕ, ℤ, pos, ◌+ℤ◌, ◌≤ℤ◌, All, Option, Some, None}
 use Rattle.krb_der.specs.Kind.{ValueOf}
 use Rattle.krb_msg.specs.Module.{ap_req, enc_ticket_part, authenticator, authorization_data}
-use Rattle.krb_msg.specs.Fields.{ticket_of_request, realm_of, flags_of, crealm_of, authtime_of, starttime_of, endtime_of, authorization_of, authenticator_authorization, type_of}
+use Rattle.krb_msg.specs.Fields.{request_fields, part_fields, authenticator_fields, type_of, part_client, ticket_service, part_times}
 use Rattle.krb_time.specs.Moments.{micros_of}
 use Rattle.krb_der.specs.Flags.{HasBit}
 use Rattle.krb_msg.specs.Bits.{invalid, transited_policy_checked}
@@ -24,26 +24,26 @@ or_else (Some time) _ = time
 or_else None other = other
 
 abbrev pub start_of : ValueOf enc_ticket_part → ℤ
-start_of part = or_else (starttime_of part) (authtime_of part)
+start_of part = or_else (part_times part).starttime (part_times part).authtime
 
 -- the ticket isn't valid yet: it begins later than the moment plus the skew, or is marked as
 -- invalid
 abbrev pub IsEarly : ValueOf enc_ticket_part → ℤ → ℕ → Type 0
-IsEarly part now skew = ¬ (second_at (start_of part) ≤ℤ (now +ℤ pos skew)) ⊎ HasBit (flags_of part) invalid
+IsEarly part now skew = ¬ (second_at (start_of part) ≤ℤ (now +ℤ pos skew)) ⊎ HasBit (part_fields part).flags invalid
 
 -- the ticket has expired: the moment is later than its end plus the skew
 abbrev pub IsLate : ValueOf enc_ticket_part → ℤ → ℕ → Type 0
-IsLate part now skew = ¬ (now ≤ℤ (second_at (endtime_of part) +ℤ pos skew))
+IsLate part now skew = ¬ (now ≤ℤ (second_at (part_times part).endtime +ℤ pos skew))
 
 pub record Alive (part : ValueOf enc_ticket_part) (now : ℤ) (skew : ℕ) : Type 0 where
-  pub valid : ¬ HasBit (flags_of part) invalid
+  pub valid : ¬ HasBit (part_fields part).flags invalid
   pub begun : second_at (start_of part) ≤ℤ (now +ℤ pos skew)
-  pub lasting : now ≤ℤ (second_at (endtime_of part) +ℤ pos skew)
+  pub lasting : now ≤ℤ (second_at (part_times part).endtime +ℤ pos skew)
 
 -- the realms between client and service need no check of ours: there are none, or the KDC has
 -- checked them (section 2.7)
 abbrev pub IsPathTrusted : ValueOf ap_req → ValueOf enc_ticket_part → Type 0
-IsPathTrusted request part = (crealm_of part ≡ realm_of (ticket_of_request request)) ⊎ HasBit (flags_of part) transited_policy_checked
+IsPathTrusted request part = ((part_client part).realm ≡ (ticket_service (request_fields request).ticket).realm) ⊎ HasBit (part_fields part).flags transited_policy_checked
 
 -- each outer element of authorization data may be ignored: it is of the type AD-IF-RELEVANT
 -- (section 5.2.6.1)
@@ -52,5 +52,5 @@ MayBeIgnored None = Unit {0}
 MayBeIgnored (Some elements) = All (λ element. type_of element ≡ pos 1) elements
 
 pub record IsDataIgnorable (part : ValueOf enc_ticket_part) (auth : ValueOf authenticator) : Type 0 where
-  pub of_ticket : MayBeIgnored (authorization_of part)
-  pub of_authenticator : MayBeIgnored (authenticator_authorization auth)
+  pub of_ticket : MayBeIgnored (part_fields part).authorization
+  pub of_authenticator : MayBeIgnored (authenticator_fields auth).authorization

@@ -6,7 +6,7 @@ ghost use Rattle.krb_der.specs.Spells.{IsMessage};
 ghost use Rattle.krb_enc.specs.Key.{profile_of};
 ghost use Rattle.krb_enc.specs.Opens.{Opens};
 ghost use Rattle.krb_msg.specs.Borrowed.{ap_rep_of, enc_ap_rep_part_of};
-ghost use Rattle.krb_msg.specs.Fields.{cipher_of, etype_of, reply_enc_part};
+ghost use Rattle.krb_msg.specs.Fields.{encrypted_fields, reply_enc_part};
 ghost use Rattle.krb_msg.specs.Module.{ap_rep, enc_ap_rep_part};
 ghost use Rattle.krb_ap.specs.Finish.{FinishCause, IsAgreed, IsReplyOfType, OpensReply, agreement_of, finish_offset_of, repeated_at};
 ghost use Rattle.krb_ap.specs.Reply.{reply_usage};
@@ -103,12 +103,12 @@ fn read_reply<'a>(bytes: &'a [u8]) -> Result<ApRepRef<'a>, FinishFault>
 
 // What a reply opens to.
 fn open_reply(alloc: Global, key: &Key, reply: &ApRepRef) -> Result<Vec<u8>, FinishFault>
-    ensures same_type { OnOk result (etype_of (reply_enc_part (ap_rep_of reply.now)) ≡ key.now.etype) }
+    ensures same_type { OnOk result ((encrypted_fields (reply_enc_part (ap_rep_of reply.now))).etype ≡ key.now.etype) }
     ensures opened { IfOk result (λ plain.
-        Opens (profile_of key.now) key.now.bytes reply_usage (cipher_of (reply_enc_part (ap_rep_of reply.now))) plain.items) }
+        Opens (profile_of key.now) key.now.bytes reply_usage (encrypted_fields (reply_enc_part (ap_rep_of reply.now))).cipher plain.items) }
     ensures shut { IfErr result (λ fault. fault ≢ OutOfMemory → (fault ≡ Integrity)
         × ((part : ValueOf enc_ap_rep_part) → ¬ OpensReply key.now (ap_rep_of reply.now) part)) }
-    ensures memory { IsErrOf result OutOfMemory → etype_of (reply_enc_part (ap_rep_of reply.now)) ≡ key.now.etype }
+    ensures memory { IsErrOf result OutOfMemory → (encrypted_fields (reply_enc_part (ap_rep_of reply.now))).etype ≡ key.now.etype }
 {
     if reply.enc_part.etype != key.etype() {
         return Err(FinishFault::Integrity);

@@ -5,7 +5,7 @@ ghost use Rattle.std.specs.Prelude.{◌≡◌, ◌≢◌, ◌<◌, ◌↔◌, �
 ghost use Rattle.krb_enc.specs.Key.{IsKnown, profile_of};
 ghost use Rattle.krb_enc.specs.Opens.{Opens};
 ghost use Rattle.krb_msg.specs.Borrowed.{ap_req_of, authenticator_of, enc_ticket_part_of, name_of};
-ghost use Rattle.krb_msg.specs.Fields.{ticket_service, principal_in};
+ghost use Rattle.krb_msg.specs.Fields.{ticket_service};
 ghost use Rattle.krb_msg.specs.Borrowed.{ticket_of};
 ghost use Rattle.krb_msg.specs.Module.{ap_req};
 ghost use Rattle.krb_ap.specs.Causes.{BeginsOtherwise, place};

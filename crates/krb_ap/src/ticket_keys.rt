@@ -5,7 +5,7 @@ ghost use Rattle.std.specs.Prelude.{◌≡◌, ◌↔◌, IfErr, IfOk, IsTrue};
 ghost use Rattle.krb_enc.specs.Key.{IsUsable};
 ghost use Rattle.krb_keytab.specs.Pick.{chosen, IsChoice};
 ghost use Rattle.krb_msg.specs.Borrowed.{encrypted_of};
-ghost use Rattle.krb_msg.specs.Fields.{etype_of, kvno_of};
+ghost use Rattle.krb_msg.specs.Fields.{encrypted_fields};
 ghost use Rattle.krb_ap.specs.Opened.{entry_key};
 ghost use Rattle.krb_ap.specs.Inner.Stages.{Wants, ready_key};
 
@@ -25,7 +25,7 @@ impl<M> Judge<M> {
         sealed: &EncryptedRef,
     ) -> Result<&Entry, Refusal>
         ensures chosen { IfOk result (λ entry. IsChoice self.now.setup.entries service.now
-            (etype_of (encrypted_of sealed.now)) (kvno_of (encrypted_of sealed.now)) (chosen entry.now)) }
+            (encrypted_fields (encrypted_of sealed.now)).etype (encrypted_fields (encrypted_of sealed.now)).kvno (chosen entry.now)) }
         ensures usable { IfOk result (λ entry. IsUsable (entry_key entry.now)) }
         ensures wanting { IfErr result (Wants self.now.setup.entries service.now (encrypted_of sealed.now)) }
     {

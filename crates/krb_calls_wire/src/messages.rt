@@ -1,7 +1,7 @@
 //! Messages, and moments.
 
 ghost use Rattle.std.specs.Prelude.{◌≡◌, ◌↔◌, ◌/◌, ◌%◌, ◌^◌, IsTrue, None, IsErrOf};
-ghost use Rattle.krb_msg.specs.Fields.{reply_subkey};
+ghost use Rattle.krb_msg.specs.Fields.{reply_fields};
 ghost use Rattle.krb_msg.specs.Owned.{owned_enc_ap_rep_part_of};
 
 use crate::writers::show;
@@ -218,7 +218,7 @@ fn short_reply(
 }
 
 fn encode_short(alloc: Global, part: &EncApRepPart) -> Result<Vec<u8>, EncodeFault>
-    requires { reply_subkey (owned_enc_ap_rep_part_of part.now) ≡ None }
+    requires { (reply_fields (owned_enc_ap_rep_part_of part.now)).subkey ≡ None }
     ensures { IsErrOf result EncodeFault.TooLong → ⊥ }
 {
     laws::reply_size();

@@ -4,7 +4,7 @@ use Rattle.std.specs.Prelude.{IsSomeAnd}
 use Rattle.krb_der.specs.Kind.{Kind, Fields, ends, must, may, each, ValueOf, FieldsOf}
 use Rattle.krb_der.specs.Numbers.{numbers_in, HasHigh, HaveHigh}
 use Rattle.krb_msg.specs.Module.{IsMessageKind, is_ticket, is_authenticator, is_enc_ticket_part, is_ap_req, is_ap_rep, is_enc_ap_rep_part, is_krb_error, ticket, authenticator, enc_ticket_part, ap_req, ap_rep, enc_ap_rep_part, krb_error}
-use Rattle.krb_msg.specs.Fields.{authenticator_seq_number, reply_seq_number}
+use Rattle.krb_msg.specs.Fields.{authenticator_fields, reply_fields}
 use Rattle.krb_msg.proofs.Sizes.{fields_of}
 use Rattle.krb_msg.specs.Numbers.{HasHighNumber, of_authenticator, of_reply}
 
@@ -48,12 +48,12 @@ module _ (none : (k : Kind) → numbers_in k ≡ 0 → (v : ValueOf k) → HasHi
   pub high : (k : Kind) → IsMessageKind k → (v : ValueOf k) → HasHigh k v → HasHighNumber k v
   high k is_ticket v h = absurd (none ticket refl v h)
   high k is_authenticator v h =
-      let is = number_is (authenticator_seq_number v) (only (one_is (fields_of authenticator) v h)) in
+      let is = number_is (authenticator_fields v).seq_number (only (one_is (fields_of authenticator) v h)) in
       of_authenticator is.0 is.1 is.2
   high k is_enc_ticket_part v h = absurd (none enc_ticket_part refl v h)
   high k is_ap_req v h = absurd (none ap_req refl v h)
   high k is_ap_rep v h = absurd (none ap_rep refl v h)
   high k is_enc_ap_rep_part v h =
-      let is = number_is (reply_seq_number v) (only (one_is (fields_of enc_ap_rep_part) v h)) in
+      let is = number_is (reply_fields v).seq_number (only (one_is (fields_of enc_ap_rep_part) v h)) in
       of_reply is.0 is.1 is.2
   high k is_krb_error v h = absurd (none krb_error refl v h)

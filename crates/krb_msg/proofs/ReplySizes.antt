@@ -6,7 +6,7 @@ use Rattle.krb_der.specs.Whole.{natural_size, integer_size}
 use Rattle.krb_der.specs.Size.{length_size, element_size, size_if, size_of, content_size}
 use Rattle.krb_msg.specs.Module.{encrypted_data, encryption_key, enc_ap_rep_part, ap_rep}
 use Rattle.krb_msg.proofs.Sizes.{fields_of, size_after, with_lengths, part_more, reply_more}
-use Rattle.krb_msg.specs.Fields.{bytes_of, cipher_of, reply_enc_part, reply_subkey}
+use Rattle.krb_msg.specs.Fields.{bytes_of, encrypted_fields, reply_enc_part, reply_fields}
 
 length_few : (n : ℕ) → length_size n ≤ 5
 length_few n = grind arith
@@ -63,12 +63,12 @@ fields v =
 fields_few : (v : ValueOf enc_ap_rep_part) → fields v ≤ 37 + key_size v.1.1.0 + part_more v
 fields_few v = omega (arith, field_few (natural_size v.1.0) (natural_few v.1.0), maybe_few v.1.1.1.0)
 
-pub without_key : (v : ValueOf enc_ap_rep_part) → reply_subkey v ≡ None → size_of enc_ap_rep_part v ≤ 41 + with_lengths (part_more v)
+pub without_key : (v : ValueOf enc_ap_rep_part) → (reply_fields v).subkey ≡ None → size_of enc_ap_rep_part v ≤ 41 + with_lengths (part_more v)
 without_key v none =
     let key : key_size v.1.1.0 ≡ 0 = ap key_size none in
     few_add (fields v) (part_more v) (omega (arith, fields_few v, key))
 
-pub with_key : (v : ValueOf enc_ap_rep_part) (key : ValueOf encryption_key) → reply_subkey v ≡ Some key
+pub with_key : (v : ValueOf enc_ap_rep_part) (key : ValueOf encryption_key) → (reply_fields v).subkey ≡ Some key
     → size_of enc_ap_rep_part v ≤ 82 + part_more v + length (bytes_of key)
 with_key v key some =
     let has : key_size v.1.1.0 ≡ size_of (field 0 encryption_key) key = ap key_size some in
@@ -76,10 +76,10 @@ with_key v key some =
     let outer = field_adds (fields v) (length (bytes_of key) + 70 + part_more v) few in
     omega (arith, outer)
 
-pub reply : (v : ValueOf ap_rep) → size_of ap_rep v ≤ 64 + reply_more v + length (cipher_of (reply_enc_part v))
+pub reply : (v : ValueOf ap_rep) → size_of ap_rep v ≤ 64 + reply_more v + length (encrypted_fields (reply_enc_part v)).cipher
 reply v =
     let part = reply_enc_part v in
-    let n = length (cipher_of part) in
+    let n = length (encrypted_fields part).cipher in
     let inner = size_after 3 (fields_of encrypted_data) part in
     let outer = size_after 3 (fields_of ap_rep) v in
     let etype = field_few (integer_size part.0) (integer_few part.0) in

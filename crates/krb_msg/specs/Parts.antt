@@ -34,6 +34,10 @@ components_of v = v.1.0
 abbrev pub principal_in : List ℕ → ValueOf principal_name → Principal
 principal_in realm v = record { realm = realm; name_type = name_type_of v; components = components_of v }
 
+-- a principal's name without its realm
+abbrev pub principal_name_of : Principal → ValueOf principal_name
+principal_name_of p = name_value p.name_type p.components
+
 -- ---- a type and bytes
 -- keytype and keyvalue (section 5.2.9)
 abbrev pub encryption_key : Kind

@@ -1,18 +1,14 @@
 -- The values of names, keys and other parts of owned messages.
 use Rattle.std.specs.Prelude.{List, map}
-use Rattle.krb_name.specs.declared.principal.Principal.{Principal}
 use Rattle.krb_der.specs.Kind.{leaf, octets, ValueOf}
 use Rattle.krb_msg.specs.Parts.{name_value, typed_value, principal_name, typed}
+pub use Rattle.krb_msg.specs.Parts.{principal_name_of}
 use Rattle.krb_msg.specs.declared.name.Name.{Name}
 use Rattle.krb_msg.specs.declared.typed.Typed.{Typed}
 use Rattle.krb_msg.specs.declared.key.RawKey.{RawKey}
 
 abbrev pub owned_name_of : Name → ValueOf principal_name
 owned_name_of n = name_value n.name_type n.components
-
--- a principal's name without its realm
-abbrev pub principal_name_of : Principal → ValueOf principal_name
-principal_name_of p = name_value p.name_type p.components
 
 abbrev pub owned_typed_of : Typed → ValueOf (typed (leaf octets))
 owned_typed_of t = typed_value t.kind t.bytes.items

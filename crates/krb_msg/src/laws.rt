@@ -8,7 +8,7 @@ ghost use Rattle.krb_der.specs.Spells.{Spells, IsMessage};
 ghost use Rattle.krb_der.specs.Size.{size_of};
 ghost use Rattle.krb_der.specs.Writing.{Writes};
 ghost use Rattle.krb_der.specs.Numbers.{SpellsNegative};
-ghost use Rattle.krb_msg.specs.Fields.{bytes_of, cipher_of, reply_enc_part, reply_subkey};
+ghost use Rattle.krb_msg.specs.Fields.{bytes_of, encrypted_fields, reply_enc_part, reply_fields};
 ghost use Rattle.krb_msg.specs.Numbers.{HasHighNumber};
 ghost use Rattle.krb_msg.specs.Module.{IsMessageKind, ap_req, ap_rep, enc_ap_rep_part, encryption_key};
 
@@ -75,8 +75,8 @@ pub fn faulty()
 /// The greatest length of replies: without a key the sealed part of a reply has at most 41 bytes,
 /// and such a part is never too long.
 pub fn reply_size()
-    ensures without_key { (v : ValueOf enc_ap_rep_part) → reply_subkey v ≡ None → size_of enc_ap_rep_part v ≤ 41 }
-    ensures with_key { (v : ValueOf enc_ap_rep_part) (key : ValueOf encryption_key) → reply_subkey v ≡ Some key
+    ensures without_key { (v : ValueOf enc_ap_rep_part) → (reply_fields v).subkey ≡ None → size_of enc_ap_rep_part v ≤ 41 }
+    ensures with_key { (v : ValueOf enc_ap_rep_part) (key : ValueOf encryption_key) → (reply_fields v).subkey ≡ Some key
         → size_of enc_ap_rep_part v ≤ 82 + length (bytes_of key) }
-    ensures reply { (v : ValueOf ap_rep) → size_of ap_rep v ≤ 64 + length (cipher_of (reply_enc_part v)) }
+    ensures reply { (v : ValueOf ap_rep) → size_of ap_rep v ≤ 64 + length (encrypted_fields (reply_enc_part v)).cipher }
 {}

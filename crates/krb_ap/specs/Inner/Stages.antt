@@ -7,7 +7,7 @@ use Rattle.krb_enc.specs.Key.{KeyValue, UsageKeyValue, profile_of}
 use Rattle.krb_enc.specs.Opens.{Opens}
 use Rattle.krb_msg.specs.Module.{ap_req, encrypted_data, enc_ticket_part, authenticator}
 use Rattle.krb_msg.specs.Borrowed.{key_of}
-use Rattle.krb_msg.specs.Fields.{etype_of, kvno_of, type_of, bytes_of}
+use Rattle.krb_msg.specs.Fields.{encrypted_fields, type_of, bytes_of}
 use Rattle.krb_msg.specs.declared.key.KeyRef.{KeyRef}
 use Rattle.krb_keytab.specs.Entry.{KeytabEntry}
 use Rattle.krb_keytab.specs.Pick.{no_name, no_key, no_version, IsChoice}
@@ -37,9 +37,9 @@ key_in key = record { etype = type_of (key_of key); bytes = bytes_of (key_of key
 -- what is wanting, as a refusal
 abbrev pub Wants : List KeytabEntry → Principal → ValueOf encrypted_data → Refusal → Type 0
 Wants entries name text refusal =
-    ((refusal ≡ NotUs) × IsChoice entries name (etype_of text) (kvno_of text) no_name)
-    ⊎ (((refusal ≡ NoKey) × IsChoice entries name (etype_of text) (kvno_of text) no_key)
-    ⊎ ((refusal ≡ BadKeyVersion) × IsChoice entries name (etype_of text) (kvno_of text) no_version))
+    ((refusal ≡ NotUs) × IsChoice entries name (encrypted_fields text).etype (encrypted_fields text).kvno no_name)
+    ⊎ (((refusal ≡ NoKey) × IsChoice entries name (encrypted_fields text).etype (encrypted_fields text).kvno no_key)
+    ⊎ ((refusal ≡ BadKeyVersion) × IsChoice entries name (encrypted_fields text).etype (encrypted_fields text).kvno no_version))
 
 -- nothing opens
 abbrev pub IsShut : KeyValue → ℕ → List ℕ → Type 0

@@ -1,6 +1,6 @@
 use Rattle.std.proofs.Common.{ap, refl, subst, length}
 use Rattle.krb_der.specs.Kind.{ValueOf}
-use Rattle.krb_msg.specs.Fields.{ap_rep_value, cipher_of}
+use Rattle.krb_msg.specs.Fields.{ap_rep_value, encrypted_fields}
 use Rattle.krb_msg.specs.Owned.{owned_encrypted_of}
 use Rattle.krb_msg.specs.Module.{ap_rep, encrypted_data}
 use Rattle.krb_ap.specs.Reply.{reply_usage}
@@ -22,5 +22,5 @@ returns-in-Ok c = record {
 
 pub unreachable-requires : goal.unreachable-requires
 unreachable-requires c = reply_small _ _ _ _ _ ((rw c.in-Err-TooLong.field-0-is at c.in-Err-TooLong.ensures.too_long) refl)
-    (c.reply_size.ensures.reply (ap_rep_value (owned_encrypted_of c.encrypted.result))) (ap (λ (e : ValueOf encrypted_data). length (cipher_of e)) c.encrypted.ensures)
+    (c.reply_size.ensures.reply (ap_rep_value (owned_encrypted_of c.encrypted.result))) (ap (λ (e : ValueOf encrypted_data). length (encrypted_fields e).cipher) c.encrypted.ensures)
     c.in_ok-cipher.ensures.length (ap length c.as_slice.ensures.value) c.in_ok-plain.ensures.length

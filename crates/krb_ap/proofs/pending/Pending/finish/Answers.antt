@@ -4,7 +4,7 @@ use Rattle.std.proofs.lemmas.Result.{err_from_is_err_and}
 use Rattle.krb_der.specs.Kind.{ValueOf}
 use Rattle.krb_msg.specs.Borrowed.{ap_rep_of, enc_ap_rep_part_of}
 use Rattle.krb_msg.specs.Module.{enc_ap_rep_part}
-use Rattle.krb_msg.specs.Fields.{etype_of, reply_enc_part}
+use Rattle.krb_msg.specs.Fields.{encrypted_fields, reply_enc_part}
 use Rattle.krb_msg.specs.Owned.{owned_key_of}
 use Rattle.krb_ap.specs.Request.{Awaited}
 use Rattle.krb_ap.specs.Finish.{FinishCause, IsOpenedReply, IsReplyOfType, OpensReply}
@@ -20,7 +20,7 @@ of_type : (c : In_ok-plain) → IsReplyOfType c.args.self.now c.args.reply.now
 of_type c = record {
   reply = ap_rep_of c.in_ok-message.message;
   message = c.in_ok-message.ensures.read;
-  same_type = subst (λ (a : Awaited). etype_of (reply_enc_part (ap_rep_of c.in_ok-message.message)) ≡ a.key.etype) c.self.view_is c.in_ok-plain.ensures.same_type;
+  same_type = subst (λ (a : Awaited). (encrypted_fields (reply_enc_part (ap_rep_of c.in_ok-message.message))).etype ≡ a.key.etype) c.self.view_is c.in_ok-plain.ensures.same_type;
 }
 
 opened : (c : In-Ok) → IsOpenedReply c.args.self.now c.args.reply.now (enc_ap_rep_part_of c.in-Ok.part)
@@ -98,7 +98,7 @@ returns-in_err-plain-clause-memory c =
     rw (p.1, p.2) (λ memory. record {
       reply = ap_rep_of c.in_ok-message.message;
       message = c.in_ok-message.ensures.read;
-      same_type = subst (λ (a : Awaited). etype_of (reply_enc_part (ap_rep_of c.in_ok-message.message)) ≡ a.key.etype) c.self.view_is
+      same_type = subst (λ (a : Awaited). (encrypted_fields (reply_enc_part (ap_rep_of c.in_ok-message.message))).etype ≡ a.key.etype) c.self.view_is
           (c.in_err-plain.ensures.memory (ap Err (fault_of c.in_err-plain.field-0.0 OutOfMemory memory)));
     })
 
