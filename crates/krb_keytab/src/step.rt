@@ -46,7 +46,10 @@ pub(crate) fn read_version<F: Feed>(feed: &mut F) -> Result<(), KeytabFault>
 }
 
 /// Reads a keytab to its end, and returns its entries.
-pub(crate) fn read_entries<F: Feed>(alloc: Global, feed: &mut F) -> Result<NamedListBuilder<Entry>, KeytabFault>
+pub(crate) fn read_entries<F: Feed>(
+    alloc: Global,
+    feed: &mut F,
+) -> Result<NamedListBuilder<Entry>, KeytabFault>
     requires reads { F.failure_count feed.old < 2 ^ 64 - 1 }
     requires start { (F.at_hand feed.old).given ≡ 0 }
     ensures found { IfOk result (λ entries. IsFound
