@@ -50,6 +50,11 @@ pub record Hands (bytes old new : List ℕ) (answer : Answer) : Type 0 where
   pub fits : length bytes ≤ length old → (answer ≡ sized ok (length bytes)) × (new ≡ bytes ++ drop (length bytes) old)
   pub short : length old < length bytes → (answer ≡ sized short_buffer (length bytes)) × (new ≡ old)
 
+-- bytes and what belongs to them are returned, or memory is lacking
+abbrev pub Tells : {Told : Type 0} → List ℕ → Told → Told → Told → List ℕ → List ℕ → Answer → Type 0
+Tells bytes told was is old new answer =
+    (Hands bytes old new answer × (is ≡ told)) ⊎ ((answer ≡ plain out_of_memory) × ((is ≡ was) × (new ≡ old)))
+
 -- either bytes of which this holds are returned, or an answer of which that holds is given and the
 -- buffer is unchanged
 abbrev pub Delivers : (List ℕ → Type 0) → (Answer → Type 0) → List ℕ → List ℕ → Answer → Type 0

@@ -3,10 +3,9 @@ use Rattle.std.specs.Prelude.{◌≡◌, ◌⊎◌, List, [], ◌++◌, ℕ, Opt
 use Rattle.krb_gss.specs.Checksum.{Content, IsChecksum, IsChecksumFault}
 use Rattle.krb_gss.specs.declared.checksum.ChecksumFault.{ChecksumFault}
 use Rattle.krb_gss.specs.declared.checksum.ChecksumFault.TheVariants.{Truncated, BindingsLength, DelegationOption}
-use Rattle.krb_c.specs.Answer.{plain}
+use Rattle.krb_c.specs.Answer.{Tells, plain}
 use Rattle.krb_c.specs.Codes.{context_bindings, context_delegation, context_truncated}
 use Rattle.krb_c.specs.Known.{is_there, span}
-use Rattle.krb_c.specs.Listing.{Tells}
 use Rattle.krb_c.specs.declared.answer.Answer.{Answer}
 use Rattle.krb_c.specs.declared.contexts.Context.{Context}
 

@@ -7,7 +7,7 @@ use Rattle.krb_ap.specs.World.{IsHeldInEachWorld}
 use Rattle.krb_ap.specs.declared.finish.Agreed.{Agreed}
 use Rattle.krb_ap.specs.declared.finish_fault.FinishFault.{FinishFault}
 use Rattle.krb_ap.specs.declared.finish_fault.FinishFault.TheVariants as reply
-use Rattle.krb_c.specs.Answer.{Hands, placed, plain}
+use Rattle.krb_c.specs.Answer.{Tells, placed, plain}
 use Rattle.krb_c.specs.Codes.{out_of_memory, reply_integrity, reply_malformed, reply_mismatch, reply_type}
 use Rattle.krb_c.specs.Known.{is_there, key_bytes, key_type, number_or_zero, span}
 use Rattle.krb_c.specs.declared.answer.Answer.{Answer}
@@ -52,8 +52,7 @@ agreement_told x = record {
 
 -- what is agreed on is returned, or memory is lacking
 abbrev pub TellsAgreed : Agreed → Agreement → Agreement → List ℕ → List ℕ → Answer → Type 0
-TellsAgreed x was is old new answer =
-    (Hands (agreed_bytes x) old new answer × (is ≡ agreement_told x)) ⊎ ((answer ≡ plain out_of_memory) × ((is ≡ was) × (new ≡ old)))
+TellsAgreed x = Tells (agreed_bytes x) (agreement_told x)
 
 -- something is agreed on and returned; or the reason is reported
 abbrev pub Ends : Awaited → List ℕ → Agreement → Agreement → List ℕ → List ℕ → Answer → Type 0

@@ -4,8 +4,8 @@ use Rattle.std.specs.Prelude.{◌≡◌, ◌⊎◌, ℕ, ℤ, pos, Bool, true, f
 use Rattle.krb_name.specs.Text.{text_of}
 use Rattle.krb_msg.specs.declared.key.RawKey.{RawKey}
 use Rattle.krb_ap.specs.declared.accepted.Accepted.{Accepted}
-use Rattle.krb_c.specs.Answer.{Hands, plain}
-use Rattle.krb_c.specs.Codes.{nothing_there, out_of_memory}
+use Rattle.krb_c.specs.Answer.{Tells, plain}
+use Rattle.krb_c.specs.Codes.{nothing_there}
 use Rattle.krb_c.specs.declared.answer.Answer.{Answer}
 use Rattle.krb_c.specs.declared.known.Known.{Known}
 use Rattle.krb_c.specs.declared.known.Span.{Span}
@@ -62,5 +62,4 @@ known_of x = record {
 -- reported. The places are returned even if the buffer is too short.
 abbrev pub TellsKnown : Option Accepted → Known → Known → List ℕ → List ℕ → Answer → Type 0
 TellsKnown None was is old new answer = (answer ≡ plain nothing_there) × ((is ≡ was) × (new ≡ old))
-TellsKnown (Some x) was is old new answer =
-    (Hands (told_bytes x) old new answer × (is ≡ known_of x)) ⊎ ((answer ≡ plain out_of_memory) × ((is ≡ was) × (new ≡ old)))
+TellsKnown (Some x) was is old new answer = Tells (told_bytes x) (known_of x) was is old new answer

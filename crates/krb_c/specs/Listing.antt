@@ -7,18 +7,13 @@ use Rattle.krb_keytab.specs.Entry.{KeytabEntry}
 use Rattle.krb_ccache.specs.Offset.{clock_offset}
 use Rattle.krb_ccache.specs.Value.{Cache}
 use Rattle.krb_ccache.specs.declared.credential.Credential.{Credential}
-use Rattle.krb_c.specs.Answer.{Hands, plain}
-use Rattle.krb_c.specs.Codes.{empty_handle, no_such_entry, out_of_memory}
+use Rattle.krb_c.specs.Answer.{Tells, plain}
+use Rattle.krb_c.specs.Codes.{empty_handle, no_such_entry}
 use Rattle.krb_c.specs.Known.{is_there, span}
 use Rattle.krb_c.specs.declared.answer.Answer.{Answer}
 use Rattle.krb_c.specs.declared.listing.CacheEntry.{CacheEntry}
 use Rattle.krb_c.specs.declared.listing.KeyEntry.{KeyEntry}
 use Rattle.krb_c.specs.declared.listing.Owner.{Owner}
-
--- bytes and what belongs to them are returned, or memory is lacking
-abbrev pub Tells : {Told : Type 0} → List ℕ → Told → Told → Told → List ℕ → List ℕ → Answer → Type 0
-Tells bytes told was is old new answer =
-    (Hands bytes old new answer × (is ≡ told)) ⊎ ((answer ≡ plain out_of_memory) × ((is ≡ was) × (new ≡ old)))
 
 -- the handle is empty, so nothing is written
 abbrev pub IsEmpty : {Told : Type 0} → Told → Told → List ℕ → List ℕ → Answer → Type 0

@@ -4,9 +4,9 @@ ghost use Rattle.std.specs.Prelude.{◌≡◌, IfOk};
 ghost use Rattle.std.specs.Option.{MatchOption};
 ghost use Rattle.krb_c.specs.Answer.{plain};
 ghost use Rattle.krb_c.specs.Codes.{empty_handle};
-ghost use Rattle.krb_c.specs.Finishing.{Ends, TellsAgreed, agreed_bytes, agreement_told, finish_answer};
+ghost use Rattle.krb_c.specs.Finishing.{Ends, agreed_bytes, agreement_told, finish_answer};
 
-use crate::answer::{Answer, hand_over};
+use crate::answer::{Answer, hand_over_with};
 use crate::code;
 use crate::known::{Span, append, bytes_of, has_key, has_number, number, type_of};
 use crate::pending_handle::PendingHandle;
@@ -73,7 +73,7 @@ fn finish(
     ensures { Ends pending.now reply.now agreement.old agreement.new buffer.old buffer.new result }
 {
     match pending.finish(alloc, reply) {
-        Ok(agreed) => tell_agreed(alloc, &agreed, agreement, buffer),
+        Ok(agreed) => hand_over_with(told(alloc, &agreed), agreement, buffer),
         Err(fault) => finish_told(fault),
     }
 }
@@ -95,34 +95,13 @@ fn finish_told(fault: FinishFault) -> Answer
     }
 }
 
-fn tell_agreed(
-    alloc: Global,
-    agreed: &Agreed,
-    agreement: &mut Agreement,
-    buffer: &mut [u8],
-) -> Answer
-    ensures { TellsAgreed agreed.now agreement.old agreement.new buffer.old buffer.new result }
-{
-    match told(alloc, agreed) {
-        Ok((bytes, told)) => {
-            *agreement = told;
-            hand_over(bytes.as_slice(), buffer)
-        }
-        Err(_) => Answer::plain(code::OUT_OF_MEMORY),
-    }
-}
-
 // The bytes that are returned, and the place of each part.
 fn told(alloc: Global, agreed: &Agreed) -> Result<(Vec<u8>, Agreement), AllocError>
-    ensures bytes { IfOk result (λ made. made.0.items ≡ agreed_bytes agreed.now) }
-    ensures told { IfOk result (λ made. made.1 ≡ agreement_told agreed.now) }
+    ensures { IfOk result (λ made. (made.0.items ≡ agreed_bytes agreed.now) × (made.1 ≡ agreement_told agreed.now)) }
 {
+    let mut bytes = Vec::new(alloc);
     let text = agreed.client.to_text(alloc)?;
-    let mut bytes = Vec::from_slice(alloc, text.as_bytes())?;
-    let client = Span {
-        at: 0,
-        size: bytes.len(),
-    };
+    let client = append(&mut bytes, text.as_bytes())?;
     let session_key = append(&mut bytes, agreed.session_key.bytes())?;
     let service_subkey = append(&mut bytes, bytes_of(&agreed.service_subkey))?;
     let told = Agreement {

@@ -1,15 +1,16 @@
 //! What each call answers.
 
-ghost use Rattle.std.specs.Prelude.{◌≡◌, SomeIff};
+ghost use Rattle.std.specs.Prelude.{◌≡◌, ℕ, List, IfOk, SomeIff};
 ghost use Rattle.krb_time.specs.Moments.{micros_of};
 ghost use Rattle.krb_c.specs.Accepting.{IsMomentOf};
 ghost use Rattle.krb_c.specs.Codes.{cause_code};
-ghost use Rattle.krb_c.specs.Answer.{Hands, keytab_answer, plain, placed, refused, sized};
+ghost use Rattle.krb_c.specs.Answer.{Hands, Tells, keytab_answer, plain, placed, refused, sized};
 
 use crate::code;
 use krb_ap::Refusal;
 use krb_keytab::KeytabFault;
 use krb_msg::Moment;
+use std::alloc::AllocError;
 
 /// The answer of a call. The numbers that don't belong to its code are 0.
 #[repr(C)]
@@ -139,4 +140,24 @@ pub(crate) fn hand_over(bytes: &[u8], buffer: &mut [u8]) -> Answer
     }
     buffer[..bytes.len()].copy_from_slice(bytes);
     Answer::sized(code::OK, bytes.len())
+}
+
+/// Sets a record, and copies the bytes that belong to it. If there was no memory for them, nothing
+/// changes.
+pub(crate) fn hand_over_with<R: Copy>(
+    made: Result<(Vec<u8>, R), AllocError>,
+    record: &mut R,
+    buffer: &mut [u8],
+) -> Answer
+    ensures { (bytes : List ℕ) (is : R)
+        → IfOk made (λ both. (both.0.items ≡ bytes) × (both.1 ≡ is))
+        → Tells bytes is record.old record.new buffer.old buffer.new result }
+{
+    match made {
+        Ok((bytes, made)) => {
+            *record = made;
+            hand_over(bytes.as_slice(), buffer)
+        }
+        Err(_) => Answer::plain(code::OUT_OF_MEMORY),
+    }
 }

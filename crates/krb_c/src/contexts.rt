@@ -4,9 +4,8 @@ ghost use Rattle.std.specs.Prelude.{◌≡◌, IfOk};
 ghost use Rattle.krb_gss.specs.Checksum.{bytes_if, content_of};
 ghost use Rattle.krb_c.specs.Contexts.{ReadsContext, bytes_or_none, context_answer, context_bytes, context_of};
 ghost use Rattle.krb_c.specs.Known.{is_there};
-ghost use Rattle.krb_c.specs.Listing.{Tells};
 
-use crate::answer::{Answer, hand_over};
+use crate::answer::{Answer, hand_over_with};
 use crate::code;
 use crate::known::{Span, append};
 use krb_gss::{Checksum, ChecksumFault};
@@ -41,7 +40,7 @@ pub extern "C" fn fevstunik_context_read(
     ensures { ReadsContext checksum.now context.old context.new buffer.old buffer.new result }
 {
     match Checksum::parse(checksum) {
-        Ok(found) => tell_context(alloc, &found, context, buffer),
+        Ok(found) => hand_over_with(told(alloc, &found), context, buffer),
         Err(fault) => context_told(fault),
     }
 }
@@ -56,28 +55,12 @@ fn context_told(fault: ChecksumFault) -> Answer
     }
 }
 
-fn tell_context(alloc: Global, found: &Checksum, context: &mut Context, buffer: &mut [u8]) -> Answer
-    ensures { Tells (context_bytes (content_of found.now)) (context_of (content_of found.now)) context.old context.new buffer.old buffer.new result }
-{
-    match told(alloc, found) {
-        Ok((bytes, told)) => {
-            *context = told;
-            hand_over(bytes.as_slice(), buffer)
-        }
-        Err(_) => Answer::plain(code::OUT_OF_MEMORY),
-    }
-}
-
 // The bytes that are returned, and the place of each part.
 fn told(alloc: Global, found: &Checksum) -> Result<(Vec<u8>, Context), AllocError>
-    ensures bytes { IfOk result (λ made. made.0.items ≡ context_bytes (content_of found.now)) }
-    ensures told { IfOk result (λ made. made.1 ≡ context_of (content_of found.now)) }
+    ensures { IfOk result (λ made. (made.0.items ≡ context_bytes (content_of found.now)) × (made.1 ≡ context_of (content_of found.now))) }
 {
-    let mut bytes = Vec::from_slice(alloc, &found.bindings)?;
-    let bindings = Span {
-        at: 0,
-        size: bytes.len(),
-    };
+    let mut bytes = Vec::new(alloc);
+    let bindings = append(&mut bytes, &found.bindings)?;
     let delegation = append(&mut bytes, delegated(found))?;
     let extensions = append(&mut bytes, found.extensions)?;
     let told = Context {

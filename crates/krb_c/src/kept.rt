@@ -4,7 +4,7 @@ ghost use Rattle.std.specs.Prelude.{◌≡◌, IfErr, IfOk, None};
 ghost use Rattle.krb_c.specs.Choice.{IsReplyFault, Replied, TellsReply};
 ghost use Rattle.krb_c.specs.Known.{TellsKnown};
 
-use crate::answer::{Answer, hand_over};
+use crate::answer::{Answer, hand_over, hand_over_with};
 use crate::choice::{Choice, block_of};
 use crate::code;
 use crate::known::{Known, tell};
@@ -30,13 +30,7 @@ impl Kept {
         ensures { TellsKnown self.now.accepted known.old known.new buffer.old buffer.new result }
     {
         match &self.accepted {
-            Some(accepted) => match tell(alloc, accepted) {
-                Ok((bytes, told)) => {
-                    *known = told;
-                    hand_over(bytes.as_slice(), buffer)
-                }
-                Err(_) => Answer::plain(code::OUT_OF_MEMORY),
-            },
+            Some(accepted) => hand_over_with(tell(alloc, accepted), known, buffer),
             None => Answer::plain(code::NOTHING_THERE),
         }
     }

@@ -59,15 +59,11 @@ pub struct Known {
 
 /// The bytes that are returned, and the place of each part.
 pub(crate) fn tell(alloc: Global, accepted: &Accepted) -> Result<(Vec<u8>, Known), AllocError>
-    ensures bytes { IfOk result (λ made. made.0.items ≡ told_bytes accepted.now) }
-    ensures known { IfOk result (λ made. made.1 ≡ known_of accepted.now) }
+    ensures { IfOk result (λ made. (made.0.items ≡ told_bytes accepted.now) × (made.1 ≡ known_of accepted.now)) }
 {
+    let mut bytes = Vec::new(alloc);
     let text = accepted.client.to_text(alloc)?;
-    let mut bytes = Vec::from_slice(alloc, text.as_bytes())?;
-    let client = Span {
-        at: 0,
-        size: bytes.len(),
-    };
+    let client = append(&mut bytes, text.as_bytes())?;
     let session_key = append(&mut bytes, accepted.session_key.bytes())?;
     let subkey = append(&mut bytes, bytes_of(&accepted.subkey))?;
     let text = accepted.service.to_text(alloc)?;

@@ -2,10 +2,10 @@
 
 ghost use Rattle.std.specs.Prelude.{◌≡◌, IfOk};
 ghost use Rattle.std.specs.List.{slice_get};
-ghost use Rattle.krb_c.specs.Listing.{ListsCredential, ListsEntry, ListsOwner, TellsCredential, TellsCredentialIf, TellsEntry, TellsEntryIf, TellsOwner, credential_bytes, credential_of, entry_bytes, entry_of, micros_or_zero, owner_of, seconds_or_zero};
+ghost use Rattle.krb_c.specs.Listing.{ListsCredential, ListsEntry, ListsOwner, TellsCredentialIf, TellsEntryIf, TellsOwner, credential_bytes, credential_of, entry_bytes, entry_of, micros_or_zero, owner_of, seconds_or_zero};
 ghost use Rattle.krb_c.specs.Known.{is_there};
 
-use crate::answer::{Answer, hand_over};
+use crate::answer::{Answer, hand_over, hand_over_with};
 use crate::cache_handle::CacheHandle;
 use crate::code;
 use crate::keytab_handle::KeytabHandle;
@@ -113,33 +113,17 @@ fn tell_entry_at(
     ensures { TellsEntryIf (slice_get keytab.now index) entry.old entry.new buffer.old buffer.new result }
 {
     match keytab.entries().get(index) {
-        Some(found) => tell_entry(alloc, found, entry, buffer),
+        Some(found) => hand_over_with(entry_told(alloc, found), entry, buffer),
         None => Answer::plain(code::NO_SUCH_ENTRY),
     }
 }
 
-fn tell_entry(alloc: Global, found: &Entry, entry: &mut KeyEntry, buffer: &mut [u8]) -> Answer
-    ensures { TellsEntry found.now entry.old entry.new buffer.old buffer.new result }
-{
-    match entry_told(alloc, found) {
-        Ok((bytes, told)) => {
-            *entry = told;
-            hand_over(bytes.as_slice(), buffer)
-        }
-        Err(_) => Answer::plain(code::OUT_OF_MEMORY),
-    }
-}
-
 fn entry_told(alloc: Global, found: &Entry) -> Result<(Vec<u8>, KeyEntry), AllocError>
-    ensures bytes { IfOk result (λ made. made.0.items ≡ entry_bytes found.now) }
-    ensures told { IfOk result (λ made. made.1 ≡ entry_of found.now) }
+    ensures { IfOk result (λ made. (made.0.items ≡ entry_bytes found.now) × (made.1 ≡ entry_of found.now)) }
 {
+    let mut bytes = Vec::new(alloc);
     let text = found.principal().to_text(alloc)?;
-    let mut bytes = Vec::from_slice(alloc, text.as_bytes())?;
-    let name = Span {
-        at: 0,
-        size: bytes.len(),
-    };
+    let name = append(&mut bytes, text.as_bytes())?;
     let key = append(&mut bytes, found.key())?;
     let told = KeyEntry {
         name,
@@ -186,38 +170,17 @@ fn tell_credential_at(
     ensures { TellsCredentialIf (slice_get cache.now.credentials index) credential.old credential.new buffer.old buffer.new result }
 {
     match cache.credentials().get(index) {
-        Some(found) => tell_credential(alloc, found, credential, buffer),
+        Some(found) => hand_over_with(credential_told(alloc, found), credential, buffer),
         None => Answer::plain(code::NO_SUCH_ENTRY),
     }
 }
 
-fn tell_credential(
-    alloc: Global,
-    found: &Credential,
-    credential: &mut CacheEntry,
-    buffer: &mut [u8],
-) -> Answer
-    ensures { TellsCredential found.now credential.old credential.new buffer.old buffer.new result }
-{
-    match credential_told(alloc, found) {
-        Ok((bytes, told)) => {
-            *credential = told;
-            hand_over(bytes.as_slice(), buffer)
-        }
-        Err(_) => Answer::plain(code::OUT_OF_MEMORY),
-    }
-}
-
 fn credential_told(alloc: Global, found: &Credential) -> Result<(Vec<u8>, CacheEntry), AllocError>
-    ensures bytes { IfOk result (λ made. made.0.items ≡ credential_bytes found.now) }
-    ensures told { IfOk result (λ made. made.1 ≡ credential_of found.now) }
+    ensures { IfOk result (λ made. (made.0.items ≡ credential_bytes found.now) × (made.1 ≡ credential_of found.now)) }
 {
+    let mut bytes = Vec::new(alloc);
     let text = found.client.to_text(alloc)?;
-    let mut bytes = Vec::from_slice(alloc, text.as_bytes())?;
-    let client = Span {
-        at: 0,
-        size: bytes.len(),
-    };
+    let client = append(&mut bytes, text.as_bytes())?;
     let text = found.server.to_text(alloc)?;
     let server = append(&mut bytes, text.as_bytes())?;
     let key = append(&mut bytes, found.key.as_slice())?;
