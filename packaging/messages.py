@@ -272,7 +272,7 @@ class Message:
         self.fields = [it for it in self.rows if it.constant is None]
         self.principals = [Principal(**it) for it in more.get("principals", [])]
         self.application, self.record, self.accessor = more.get("application"), more.get("record"), more.get("accessor")
-        self.is_made, self.is_read = more.get("is_made", True), more.get("is_read", True)
+        self.is_read = more.get("is_read", True)
         self.groups = more.get("groups", {})
         self.parses = more.get("parses", "a message of this type")
         self.view_derive = more.get("view_derive", self.derive)
@@ -328,8 +328,7 @@ class Message:
         kept = [self.joined_row(it) or self.given(it) for it in self.fields if not it.group and not self.is_in_principal(it)]
         kept += [(name, it["record"], f"{it['definition']} v") for name, it in self.groups.items()]
         yield record_text(self.record, kept)
-        if self.is_made:
-            yield self.made_text(self.record, "f", lambda it: self.of_made(it, "f"))
+        yield self.made_text(self.record, "f", lambda it: self.of_made(it, "f"))
         if self.is_read:
             yield self.given_text(self.fields_word, self.record, kept)
         yield from (self.principal_text(it) for it in self.principals if it.definition)
@@ -363,7 +362,7 @@ class Message:
         """A field of the value that a record makes."""
         of = self.joined(field)
         if not of:
-            return f"{record}.{field.key}"
+            return f"{record}.{field.group}.{field.key}" if field.group else f"{record}.{field.key}"
         return f"{record}.{of.field}.realm" if field.key == of.realm else f"principal_name_of {record}.{of.field}"
 
     def of_one(self):
@@ -391,15 +390,24 @@ class Message:
         return self.value_text(self.view_value, self.view, lambda it: it.value(it.of.view_value, "m"))
 
     def owned_text(self):
-        return self.value_text(self.owned_value, self.owned, lambda it: self.owned_field(it, "m"))
+        """An owned value has the fields of the record; a message of a single field has no record."""
+        given = f"record {{ {'; '.join(unbroken(it) for it in self.owned_rows())} }}" if self.record else self.owned_field(self.fields[0])
+        head = f"abbrev pub {self.owned_value} : {self.owned} → ValueOf {self.kind}"
+        return f"{head}\n{filled(f'{self.owned_value} m = {self.short}_value ({given})', 140)}\n"
 
-    def owned_field(self, field, at):
+    def owned_rows(self):
+        """The fields of the record, for Owned."""
+        for it in self.fields:
+            of = self.joined(it)
+            if not it.group and not self.is_in_principal(it):
+                yield f"{of.field} = m.{of.field}" if of else f"{it.key} = {self.owned_field(it)}"
+        for name, group in self.groups.items():
+            given = "; ".join(f"{it.key} = {self.owned_field(it)}" for it in self.fields if it.group == name)
+            yield f"{name} = record {{ {given} }}"
+
+    def owned_field(self, field):
         """The value of a field of the owned struct, in definitions."""
-        principal = self.joined(field)
-        if principal is None:
-            return field.value(field.of.owned_value, at)
-        place = f"{at}.{principal.field}"
-        return f"{place}.realm" if field.key == principal.realm else f"principal_name_of {place}"
+        return field.value(field.of.owned_value, "m")
 
     # ---- the view
 
@@ -592,7 +600,7 @@ SAID = {
         "-- The values of messages that are read in place: their fields in the order of their numbers, with",
         "-- a tt for each constant.",
     ],
-    "Owned": ["-- The values of owned messages: their fields in that order, too."],
+    "Owned": ["-- The values of owned messages, by their fields."],
 }
 RUST = {
     "crate::header": ["Header"],
@@ -709,6 +717,7 @@ def definitions(messages):
         "Rattle.krb_msg.specs.Parts": ["◌▸◌"],
         "Rattle.krb_msg.specs.Module": kinds,
     }
+    made = {"Rattle.krb_msg.specs.Fields": [f"{it.short}_value" for it in messages]}
     views, owned = structs((it.view_file, it.view) for it in messages), structs((it.owned_file, it.owned) for it in messages)
     return {
         "Module": definition_file(
@@ -718,7 +727,7 @@ def definitions(messages):
         "Borrowed": definition_file(
             SAID["Borrowed"], of_values | views, {"PartsBorrowed": PARTS["Borrowed"]}, "\n".join(it.borrowed_text() for it in messages)
         ),
-        "Owned": definition_file(SAID["Owned"], of_values | owned, {"PartsOwned": PARTS["Owned"]}, "\n".join(it.owned_text() for it in messages)),
+        "Owned": definition_file(SAID["Owned"], of_values | made | owned, {"PartsOwned": PARTS["Owned"]}, "\n".join(it.owned_text() for it in messages)),
     }
 
 

@@ -26,6 +26,9 @@ pub record TicketFields : Type 0 where
   pub service : Principal
   pub enc_part : ValueOf encrypted_data
 
+abbrev pub ticket_value : TicketFields → ValueOf ticket
+ticket_value f = tt ▸ f.service.realm ▸ principal_name_of f.service ▸ f.enc_part ▸ tt
+
 abbrev pub ticket_fields : ValueOf ticket → TicketFields
 ticket_fields v = record { service = principal_in v.1.0 v.1.1.0; enc_part = v.1.1.1.0 }
 
@@ -83,6 +86,10 @@ pub record PartFields : Type 0 where
   pub caddr : Option (List (ValueOf (typed (leaf octets))))
   pub authorization : Option (List (ValueOf (typed (leaf octets))))
   pub times : TicketTimes
+
+abbrev pub enc_ticket_part_value : PartFields → ValueOf enc_ticket_part
+enc_ticket_part_value f = f.flags ▸ f.key ▸ f.client.realm ▸ principal_name_of f.client ▸ f.transited ▸ f.times.authtime ▸
+    f.times.starttime ▸ f.times.endtime ▸ f.times.renew_till ▸ f.caddr ▸ f.authorization ▸ tt
 
 abbrev pub part_fields : ValueOf enc_ticket_part → PartFields
 part_fields v = record {

@@ -8,7 +8,6 @@ ghost use Rattle.std.specs.Cmp.Rules.{comparing};
 use smallvec::SmallVec;
 use std::alloc::{AllocError, Global};
 use std::convert::AsSlice;
-use std::default::MadeWith;
 use std::marker::Model;
 
 /// A string of bytes: a realm, or one component of a name (`KerberosString`, RFC 4120, section
@@ -81,14 +80,6 @@ impl Drop for Bytes {
     fn drop(self) {
         let Bytes { bytes } = self;
         drop(bytes);
-    }
-}
-
-impl MadeWith<Global> for Bytes {
-    ghost is_made_with = { λ made. made ≡ [] };
-
-    fn made_with(alloc: Global) -> Bytes {
-        Bytes::new(alloc)
     }
 }
 

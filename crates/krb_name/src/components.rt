@@ -6,17 +6,14 @@ ghost use Rattle.std.proofs.Common.{rules};
 ghost use Rattle.std.specs.Cmp.Rules.{comparing};
 
 use crate::bytes::Bytes;
-use smallvec::SmallVec;
 use std::alloc::{AllocError, Global};
 use std::marker::Model;
 
 /// The components of a name, in their order (`name-string` of a `PrincipalName`, RFC 4120, section
 /// 5.2.2). A contract sees them as a list of lists of bytes.
-///
-/// Up to two components are held in place, without an allocation for their list.
 #[derive(Debug)]
 pub struct Components {
-    items: SmallVec<Bytes, 2>,
+    items: Vec<Bytes>,
 }
 
 impl Model for Components {
@@ -31,16 +28,16 @@ impl Components {
         ensures { result ≡ [] }
     {
         Components {
-            items: SmallVec::new(alloc),
+            items: Vec::new(alloc),
         }
     }
 
-    /// Makes an empty list with room for `count` components. Allocates no memory for up to two.
+    /// Makes an empty list with room for `count` components.
     pub fn with_room(alloc: Global, count: usize) -> Result<Self, AllocError>
         ensures { IfOk result (λ components. components ≡ []) }
     {
         Ok(Components {
-            items: SmallVec::with_capacity(alloc, count)?,
+            items: Vec::with_capacity(alloc, count)?,
         })
     }
 
@@ -74,7 +71,7 @@ impl Components {
     }
 }
 
-// Written by hand, so that callers see a call and not the cases of a `SmallVec`.
+// Written by hand, so that callers see a call.
 impl Drop for Components {
     fn drop(self) {
         let Components { items } = self;
