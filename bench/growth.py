@@ -4,7 +4,9 @@
     bench/growth.py PROGRAM LIBRARY
 
 PROGRAM is krbtool, LIBRARY the shared library for C. Each row has two sizes, one 16 times the other, and the least processor time of some runs
-of each. The time may grow by a factor of 24: what takes longer for its size is a fault to mend, and makes the script end with 1.
+of each. Before each run the processor's caches are filled with other data, as they are when a program reads a file once: what is repeated at
+once finds the smaller size in the caches, and the larger one not. The time may grow by a factor of 24: what takes longer for its size is a
+fault to mend, and makes the script end with 1. The last column is the factor of runs that are repeated at once; it decides nothing.
 """
 import ctypes
 import os
@@ -24,10 +26,25 @@ FACTOR, MOST, RUNS = 16, 24, 5
 # Options of mallopt (malloc.h), and the greatest size that malloc takes for one of them.
 TRIM_THRESHOLD, TOP_PAD, MMAP_THRESHOLD = -1, -2, -3
 KEPT = 32 << 20
+# More than a processor's caches hold.
+OTHER_DATA = ctypes.create_string_buffer(128 << 20)
 
 
 def least(run):
     return min(run() for _ in range(RUNS))
+
+
+def fill_caches():
+    """Fills the processor's caches with other data."""
+    ctypes.memset(OTHER_DATA, 1, ctypes.sizeof(OTHER_DATA))
+
+
+def least_cold(run):
+    def cold():
+        fill_caches()
+        return run()
+
+    return least(cold)
 
 
 def of_a_call(call):
@@ -42,10 +59,17 @@ def of_a_call(call):
 
 def row(name, small, run_of):
     """`run_of` makes a run of a size."""
-    here, there = least(run_of(small)), least(run_of(small * FACTOR))
+    run = run_of(small)
+    here, warm = least_cold(run), least(run)
+    run = run_of(small * FACTOR)
+    there, warm_there = least_cold(run), least(run)
     said = "" if there <= MOST * here else ": it grows faster than its size"
-    print(f"| {name} | {small:,} | {here / 1e6:.1f} ms | {there / 1e6:.1f} ms | {there / here:.1f}{said} |", flush=True)
+    print(f"| {name} | {small:,} | {shown(here)} | {shown(there)} | {there / here:.1f}{said} | {warm_there / warm:.1f} |", flush=True)
     return not said
+
+
+def shown(nanoseconds):
+    return f"{nanoseconds / 1e6:.2f} ms"
 
 
 def commands(program, folder):
@@ -186,7 +210,7 @@ def main():
     keep_memory()
     fevstunik.load(library)
     with tempfile.TemporaryDirectory() as name:
-        print(f"| what | size | its time | {FACTOR} times the size | ratio |\n|---|---|---|---|---|")
+        print(f"| what | size | its time | {FACTOR} times the size | ratio | repeated at once |\n|---|---|---|---|---|---|")
         rows = [*commands(program, Path(name)), *calls(Path(name))]
         is_well = [row(*it) for it in rows]
     sys.exit(0 if all(is_well) else 1)

@@ -146,16 +146,16 @@ pub(crate) fn hand_over(bytes: &[u8], buffer: &mut [u8]) -> Answer
 /// changes.
 pub(crate) fn hand_over_with<R: Copy>(
     made: Result<(Vec<u8>, R), AllocError>,
-    record: &mut R,
+    told: &mut R,
     buffer: &mut [u8],
 ) -> Answer
     ensures { (bytes : List ℕ) (is : R)
         → IfOk made (λ both. (both.0.items ≡ bytes) × (both.1 ≡ is))
-        → Tells bytes is record.old record.new buffer.old buffer.new result }
+        → Tells bytes is told.old told.new buffer.old buffer.new result }
 {
     match made {
         Ok((bytes, made)) => {
-            *record = made;
+            *told = made;
             hand_over(bytes.as_slice(), buffer)
         }
         Err(_) => Answer::plain(code::OUT_OF_MEMORY),

@@ -5,7 +5,7 @@ use Rattle.krb_c.proofs.contexts.fevstunik_context_read.Goals as goal
 
 pub returns-in-Ok : goal.returns-in-Ok
 returns-in-Ok c =
-    let read : HandsContext c.args.checksum.now c.args.context.now c.hand_over_with.new.record c.args.buffer.now c.hand_over_with.new.buffer c.hand_over_with.result = record {
+    let read : HandsContext c.args.checksum.now c.args.context.now c.hand_over_with.new.told c.args.buffer.now c.hand_over_with.new.buffer c.hand_over_with.result = record {
       content = content_of c.in-Ok.found;
       is_checksum = c.in-Ok.ensures.found;
       tells = c.hand_over_with.ensures _ _ c.told.ensures;

@@ -12,5 +12,5 @@ returns-in-Some c =
     let is : slice_get c.args.cache.now.credentials c.args.index ≡ Some c.in-Some.found.now =
     subst (λ (items : List Credential). slice_get items c.args.index ≡ Some c.in-Some.found.now) c.credentials.ensures
     (slice_get_read c.credentials.result.now _ c.args.index c.in-Some.found.now refl (ltb-true _ _ (sym c.in-Some.ensures.lookup.0)) c.in-Some.ensures.lookup.1) in
-    subst (λ (found : Option Credential). TellsCredentialIf found c.args.credential.now c.hand_over_with.new.record c.args.buffer.now c.hand_over_with.new.buffer c.hand_over_with.result) (sym is)
+    subst (λ (found : Option Credential). TellsCredentialIf found c.args.credential.now c.hand_over_with.new.told c.args.buffer.now c.hand_over_with.new.buffer c.hand_over_with.result) (sym is)
     (c.hand_over_with.ensures (credential_bytes c.in-Some.found.now) (credential_of c.in-Some.found.now) c.credential_told.ensures)
