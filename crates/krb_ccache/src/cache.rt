@@ -82,8 +82,9 @@ impl CCache {
     /// Finds a fault, and counts the credentials, before it allocates memory. Then allocates memory
     /// for their list at once, and for parts as they are read, never because of a count or a length
     /// that the bytes don't bear out. Beside the parts it holds a copy of the bytes of one at a
-    /// time. After the last credential it allocates an index by server, of 20 bytes for each
-    /// credential and 8 more, for `find_server`.
+    /// time, and beside each credential a hash of its server's name, of 4 bytes. After the last
+    /// credential it allocates the rest of an index by server, of 16 bytes for each credential and 8
+    /// more, for `find_server`.
     ///
     /// # Errors
     /// `OutOfMemory` if the bytes are a cache and there is no memory for it; else the first
@@ -121,8 +122,8 @@ impl CCache {
 
     /// Reads a source to its end, or to one byte past 16,777,216, and parses what it gave.
     ///
-    /// Allocates memory as parts are read, also for the list of credentials, and after the last
-    /// credential the index that `parse` allocates.
+    /// Allocates memory as parts are read, also for the lists of credentials and of hashes, and after
+    /// the last credential the index that `parse` allocates.
     ///
     /// Condition: fewer than 18,446,744,073,709,551,615 reads of the source have failed so far.
     ///

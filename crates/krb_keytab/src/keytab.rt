@@ -45,8 +45,9 @@ impl Keytab {
     /// Parses the bytes of a file.
     ///
     /// Allocates memory as entries are read, and never because of a count or a length that the
-    /// bytes don't bear out. After the last entry it allocates an index by name, of 20 bytes for
-    /// each entry and 8 more. A keytab of at most 8 entries has none.
+    /// bytes don't bear out. Beside each entry it keeps a hash of its name, of 4 bytes. After the last
+    /// entry it allocates the rest of an index by name, of 16 bytes for each entry and 8 more. A keytab
+    /// of at most 8 entries has no index.
     ///
     /// # Errors
     /// `OutOfMemory` if the bytes are a keytab and there is no memory for it; else the first that
@@ -83,8 +84,8 @@ impl Keytab {
     /// Reads a keytab from a source, to its end or to one byte past 16,777,216, as `parse` does
     /// from bytes.
     ///
-    /// Holds the entries and the bytes of one record at a time. A hole's bytes aren't kept. After
-    /// the last entry it allocates an index, as `parse` does.
+    /// Holds the entries, their hashes, and the bytes of one record at a time. A hole's bytes aren't
+    /// kept. After the last entry it allocates an index, as `parse` does.
     ///
     /// Condition: fewer than 18,446,744,073,709,551,615 reads of the source have failed so far.
     ///
