@@ -69,6 +69,7 @@ def build_over_ci(folder, name):
     out.mkdir()
     words = crate.words("out/incremental")
     words[words.index("check")] = "build"
+    words[words.index("--jobs") + 1] = str(os.cpu_count())
     more = ["--toolchain", str(kit / "toolchain"), "--backend", "llvm", "-o", str(out / f"{name}.o")]
     said([*words, *more], cwd=crate.folder)
     said(["cc", str(out / f"{name}.o"), str(kit / "c/libos_c.a"), str(kit / "c/liblibc_c.a"), "-o", str(out / name)])
