@@ -144,6 +144,14 @@ ReadsTo result value = (result ≡ Ok value) ⊎ ((e : EngineFault) × ((result 
 abbrev pub FailsBy : {X : Type 0} → Result X EngineFault → EngineFault → Type 0
 FailsBy result fault = (result ≡ Err fault) ⊎ ((e : EngineFault) × ((result ≡ Err e) × IsUnread e))
 
+-- a fault of the content that is reported is one that the file has
+abbrev pub ReportsTruly : {X : Type 0} → (List ℕ → EngineFault → Type 0) → Option (List ℕ) → Result X EngineFault → Type 0
+ReportsTruly IsFaultOf from result = IfErr result (λ e. IsContent e → IfSome from (λ bytes. IsFaultOf bytes e))
+
+-- a fault that the file has is reported, unless the source or memory failed
+abbrev pub ReportsAlways : {X : Type 0} → (List ℕ → EngineFault → Type 0) → Option (List ℕ) → Result X EngineFault → Type 0
+ReportsAlways IsFaultOf from result = (bytes : List ℕ) (fault : EngineFault) → from ≡ Some bytes → IsFaultOf bytes fault → FailsBy result fault
+
 -- how many reads failed
 abbrev pub failed_reads : {X : Type 0} → Result X EngineFault → ℕ
 failed_reads (Err (Keytab keytab.Read)) = 1
@@ -166,8 +174,8 @@ failed_writes _ = 0
 pub record ReadsOrFails {X V : Type 0} (IsFile : List ℕ → V → Type 0) (IsFaultOf : List ℕ → EngineFault → Type 0) (IsOf : EngineFault → Type 0)
     (from to : Option (List ℕ)) (before after : ℕ) (Holds : X → V → Type 0) (result : Result X EngineFault) : Type 0 where
   pub found : IfOk result (λ made. OfFile IsFile from (Holds made))
-  pub fault : IfErr result (λ e. IsContent e → IfSome from (λ bytes. IsFaultOf bytes e))
-  pub faulty : (bytes : List ℕ) (fault : EngineFault) → from ≡ Some bytes → IsFaultOf bytes fault → FailsBy result fault
+  pub fault : ReportsTruly IsFaultOf from result
+  pub faulty : ReportsAlways IsFaultOf from result
   pub kind : IfErr result (λ e. IsOf e × IsOfFile e)
   pub reads : after ≡ before + failed_reads result
   pub taken : TakesFile from to

@@ -1,11 +1,11 @@
 //! The engine of `check-keytab` and `check-ccache`.
 
-ghost use Rattle.std.specs.Prelude.{◌≡◌, ◌⊎◌, ◌+◌, ◌-◌, ◌^◌, ◌<◌, ℕ, List, Some, Err, IfOk, IfErr, IfSome, OnOk, OnErr, string_bytes};
+ghost use Rattle.std.specs.Prelude.{◌≡◌, ◌⊎◌, ◌+◌, ◌-◌, ◌^◌, ◌<◌, Err, IfOk, IfErr, OnOk, OnErr, string_bytes};
 ghost use Rattle.std.specs.Io.KnownBytes.{Appends, Keeps};
 ghost use Rattle.krb_name.specs.File.{TakesFile};
 ghost use Rattle.krb_name.specs.Flow.{AppendsBeginning};
 ghost use Rattle.krbtool.specs.Lines.{ok_line};
-ghost use Rattle.krbtool.specs.Engine.{FailsBy, IsContent, IsOfFile, OfFile, failed_reads, failed_writes};
+ghost use Rattle.krbtool.specs.Engine.{IsOfFile, OfFile, ReportsAlways, ReportsTruly, failed_reads, failed_writes};
 
 use crate::fault::EngineFault;
 use crate::format::FileFormat;
@@ -34,10 +34,8 @@ pub fn check<F: FileFormat, S: Source, T: Sink>(
     ensures checked { OnOk result (OfFile F.is_file (S.remaining source.old) (λ value.
         Appends (T.taken sink.old) (T.taken sink.new) (ok_line (F.size value)))) }
 
-    // A fault of the content is the file's own, and is returned wherever the file has it.
-    ensures fault { IfErr result (λ e. IsContent e → IfSome (S.remaining source.old) (λ bytes. F.is_fault_of bytes e)) }
-    ensures faulty { (bytes : List ℕ) (fault : EngineFault)
-        → S.remaining source.old ≡ Some bytes → F.is_fault_of bytes fault → FailsBy result fault }
+    ensures fault { ReportsTruly F.is_fault_of (S.remaining source.old) result }
+    ensures faulty { ReportsAlways F.is_fault_of (S.remaining source.old) result }
 
     // If the file couldn't be had, the sink is as it was; at any other fault it took a beginning of the
     // line.

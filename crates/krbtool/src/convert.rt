@@ -4,7 +4,7 @@ ghost use Rattle.std.specs.Prelude.{◌≡◌, ◌⊎◌, ◌+◌, ◌-◌, ◌^
 ghost use Rattle.std.specs.Io.KnownBytes.{Appends, Keeps};
 ghost use Rattle.krb_name.specs.File.{TakesFile, file_limit};
 ghost use Rattle.krb_name.specs.Flow.{AppendsBeginning};
-ghost use Rattle.krbtool.specs.Engine.{FailsBy, IsContent, IsOfFile, OfFile, failed_reads, failed_writes};
+ghost use Rattle.krbtool.specs.Engine.{FailsBy, IsContent, IsOfFile, OfFile, ReportsAlways, failed_reads, failed_writes};
 
 use crate::fault::EngineFault;
 use crate::format::FileFormat;
@@ -41,8 +41,7 @@ pub fn convert<F: FileFormat, S: Source, T: Sink>(
     // returned wherever it is there.
     ensures fault { IfErr result (λ e. IsContent e → IfSome (S.remaining source.old) (λ bytes. F.is_fault_of bytes e
         ⊎ ((e ≡ F.too_long) × ((value : F) × (F.is_file bytes value × (file_limit < length (F.bytes value))))))) }
-    ensures faulty { (bytes : List ℕ) (fault : EngineFault)
-        → S.remaining source.old ≡ Some bytes → F.is_fault_of bytes fault → FailsBy result fault }
+    ensures faulty { ReportsAlways F.is_fault_of (S.remaining source.old) result }
     ensures grown { (bytes : List ℕ) (value : F)
         → S.remaining source.old ≡ Some bytes → F.is_file bytes value → file_limit < length (F.bytes value)
         → FailsBy result F.too_long }

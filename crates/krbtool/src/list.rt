@@ -1,11 +1,11 @@
 //! The engine of `list-keytab` and `list-ccache`, and the lines that it writes.
 
-ghost use Rattle.std.specs.Prelude.{◌≡◌, ◌⊎◌, ◌+◌, ◌-◌, ◌^◌, ◌<◌, ◌++◌, ◌∷◌, [], ℕ, List, Some, Err, IfOk, IfErr, IfSome, OnOk, OnErr, string_bytes};
+ghost use Rattle.std.specs.Prelude.{◌≡◌, ◌⊎◌, ◌+◌, ◌-◌, ◌^◌, ◌<◌, ◌++◌, ◌∷◌, [], ℕ, List, Err, IfOk, IfErr, OnOk, OnErr, string_bytes};
 ghost use Rattle.std.specs.Io.KnownBytes.{Appends, Keeps};
 ghost use Rattle.krb_name.specs.File.{TakesFile};
 ghost use Rattle.krb_name.specs.Flow.{AppendsBeginning};
 ghost use Rattle.krbtool.specs.Lines.{keytab_line, keytab_lines, credential_line, config_line, ticket_line, times_of, names_of, cache_lines};
-ghost use Rattle.krbtool.specs.Engine.{FailsBy, IsContent, IsOfFile, OfFile, ReadsOrFails, failed_reads, failed_writes};
+ghost use Rattle.krbtool.specs.Engine.{IsOfFile, OfFile, ReadsOrFails, ReportsAlways, ReportsTruly, failed_reads, failed_writes};
 
 use crate::fault::EngineFault;
 use crate::format::FileFormat;
@@ -52,10 +52,8 @@ pub fn list<F: FileFormat, L: Listing<F>, S: Source, T: Sink>(
     ensures listed { OnOk result (OfFile F.is_file (S.remaining source.old) (λ value.
         Appends (T.taken sink.old) (T.taken sink.new) (L.text listing.now value))) }
 
-    // A fault of the content is the file's own, and is returned wherever the file has it.
-    ensures fault { IfErr result (λ e. IsContent e → IfSome (S.remaining source.old) (λ bytes. F.is_fault_of bytes e)) }
-    ensures faulty { (bytes : List ℕ) (fault : EngineFault)
-        → S.remaining source.old ≡ Some bytes → F.is_fault_of bytes fault → FailsBy result fault }
+    ensures fault { ReportsTruly F.is_fault_of (S.remaining source.old) result }
+    ensures faulty { ReportsAlways F.is_fault_of (S.remaining source.old) result }
 
     // If the file couldn't be had, the sink is as it was; at any other fault it took a beginning of the
     // text.

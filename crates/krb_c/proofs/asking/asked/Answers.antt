@@ -1,8 +1,8 @@
-use Rattle.std.proofs.Common.{ℤ, Err, ap, inr, refl, subst, sym}
-use Rattle.krb_ap.specs.Request.{Awaited, HasGoodTicket}
+use Rattle.std.proofs.Common.{inr, refl, subst, sym}
+use Rattle.krb_ap.specs.Request.{Awaited}
 use Rattle.krb_ap.specs.declared.request_fault.RequestFault.TheVariants.{OutOfMemory}
 use Rattle.krb_c.specs.Asking.{IsRequestFor, ask, moment_of}
-use Rattle.krb_c.proofs.Requests.{prevents_at, request_at, requested_ticket}
+use Rattle.krb_c.proofs.Requests.{request_at, requested_ticket}
 use Rattle.krb_c.proofs.asking.asked.Goals as goal
 
 pub returns-in-Ok-new-clause-asks : goal.returns-in-Ok-new-clause-asks
@@ -51,35 +51,6 @@ returns-clause-fault c = inr (
             (record { «mutual» = c.args.given.now.choice.now.wants_reply; subkey = c.in-Ok-subkey.subkey; seq = c.seq.result; context = c.args.given.now.context }) _ _
             c.in-Some.ensures.1 c.in-Ok-block_of.ensures.made c.in-Ok-make_request.ensures.request);
         answer_is = c.request_told-in-Err-new.ensures;
-      }),
-    ),
-  ),
-)
-
-pub returns-in-Err-make_request-clause-fault : goal.returns-in-Err-make_request-clause-fault
-returns-in-Err-make_request-clause-fault c = inr (
-  (_, c.in-Ok.ensures.name),
-  inr (
-    c.in-Some.ensures.0,
-    inr (
-      c.in-Ok-block_of.ensures.size,
-      inr (record {
-        service = c.in-Ok.service;
-        options = record { «mutual» = c.args.given.now.choice.now.wants_reply; subkey = c.in-Ok-subkey.subkey; seq = c.seq.result; context = c.args.given.now.context };
-        asked = record {
-          service_is = c.in-Ok.ensures.name;
-          at_is = c.in-Some.ensures.0;
-          chosen = c.in-Ok-subkey.ensures.chosen;
-          seq_is = c.seq.ensures;
-          reply = refl;
-          context_is = refl;
-        };
-        fault = c.in-Err-make_request.fault;
-        prevents = prevents_at c.args.cache.now c.in-Ok.service c.in-Some.now (moment_of c.args.given.now.at.now) c.in-Ok-block_of.confounder c.args.given.now.confounder.now
-            (record { «mutual» = c.args.given.now.choice.now.wants_reply; subkey = c.in-Ok-subkey.subkey; seq = c.seq.result; context = c.args.given.now.context }) _
-            c.in-Some.ensures.1 c.in-Ok-block_of.ensures.made c.in-Err-make_request.ensures.fault;
-        memory = λ is. subst (λ (at : ℤ). HasGoodTicket c.args.cache.now c.in-Ok.service at) c.in-Some.ensures.1 (c.in-Err-make_request.ensures.memory (ap Err is));
-        answer_is = c.request_told.ensures;
       }),
     ),
   ),

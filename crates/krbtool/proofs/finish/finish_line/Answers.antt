@@ -7,10 +7,9 @@ use Rattle.krb_ccache.specs.Format.{IsCache}
 use Rattle.krb_ccache.specs.declared.fault.CacheFault.TheVariants.{OutOfMemory, Read}
 use Rattle.krbtool.specs.declared.fault.EngineFault.TheVariants.{Cache as OfCache}
 use Rattle.krb_ap.specs.declared.finish_fault.FinishFault.{FinishFault}
-use Rattle.krb_ap.specs.declared.request_fault.RequestFault.{RequestFault}
 use Rattle.krbtool.specs.declared.fault.EngineFault.{EngineFault}
-use Rattle.krbtool.specs.Engine.{finish_fault, request_fault}
-use Rattle.krbtool.specs.Finishing.{IsAgreedLine, IsRefusedReply, IsUnasked}
+use Rattle.krbtool.specs.Engine.{finish_fault}
+use Rattle.krbtool.specs.Finishing.{IsAgreedLine, IsRefusedReply}
 use Rattle.krbtool.proofs.FaultLaws.{passed_on, none_met, value_met, if_err_map, if_some_map}
 use Rattle.krbtool.proofs.FileLaws.{of_file, ok_of_file}
 use Rattle.krbtool.proofs.finish.finish_line.Goals as goal
@@ -52,12 +51,3 @@ returns-clause-refused g c =
     (λ (cache : Cache). IsRefusedReply cache c.args.service.now c.args.at c.args.reply.now fault)
     c.in_ok-cache.ensures.reads.found refused))
     c.write_agreed.ensures.refused
-
-pub returns-clause-prevented : goal.returns-clause-prevented
-returns-clause-prevented g c =
-    if_err_map c.write_agreed.result
-    (λ (e : EngineFault). if_some_map (request_fault e) (λ (fault : RequestFault) unasked.
-    of_file IsCache (g.S.Source.remaining c.args.source.now) c.in_ok-cache.cache
-    (λ (cache : Cache). IsUnasked cache c.args.service.now c.args.at fault)
-    c.in_ok-cache.ensures.reads.found unasked))
-    c.write_agreed.ensures.prevented

@@ -42,18 +42,6 @@ loop-lines-preserved g c =
       lent = next.lent ∙ c.loop-lines.invariant.lent;
     }
 
-pub loop-lines-preserved-in_ok-write_line : goal.loop-lines-preserved-in_ok-write_line
-loop-lines-preserved-in_ok-write_line g c =
-    let going = c.loop-lines.invariant.going in
-    let next = c.in_ok-credential.ensures in
-    record {
-      listed = λ from opened. credential_listed g.S.Source.remaining from c.loop-lines.reader c.next.new.self _ _ c.in-Some.credential (c.loop-lines.invariant.listed from opened) next.given next.limit
-          (λ value read. rw c.in-Some.is at next.item from value read) c.in_ok-write_line.ensures;
-      going = rw c.in-Some.is at next.ended going;
-      failures = rw add-zero at next.failed going ∙ c.loop-lines.invariant.failures;
-      lent = next.lent ∙ c.loop-lines.invariant.lent;
-    }
-
 pub returns-clause-made : goal.returns-clause-made
 returns-clause-made g c = λ from opened.
     let listed = c.loop-lines.invariant.listed from opened in
