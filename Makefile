@@ -33,15 +33,22 @@ MANUALS := $(wildcard docs/man/*.[1-8])
 .PHONY: all check install uninstall dist clean
 all: $(BUILD)/krbtool $(LIBRARIES)
 
-# (each build leaves its archive in the crate's out/, so they are made one after another)
-.NOTPARALLEL:
+# The program and the library are built side by side, once the libraries that both stand on are proved. (The kinds of the library are built
+# one after another, since each is left in the crate's out/ at first.)
+MAKEFLAGS += --jobs=2
 
-$(BUILD)/krbtool: $(SOURCES)
-	./krbtool --version >/dev/null
+$(BUILD)/proved: $(SOURCES) packaging/prove
+	packaging/prove krb_ap krb_gss
+	mkdir -p $(BUILD) && touch $@
+
+$(BUILD)/krbtool: $(BUILD)/proved
+	packaging/prove krbtool
 	install -D -m 755 crates/krbtool/out/krbtool $@
 
-$(BUILD)/%/libfevstunik.a: $(SOURCES) packaging/build-library packaging/archive.py packaging/fevstunik.map
+$(BUILD)/%/libfevstunik.a: $(BUILD)/proved packaging/build-library packaging/archive.py packaging/fevstunik.map
 	packaging/build-library $* $(BUILD)/$* $(VERSION)
+$(BUILD)/x86-64-v2/libfevstunik.a: | $(BUILD)/x86-64/libfevstunik.a
+$(BUILD)/x86-64-v3/libfevstunik.a: | $(BUILD)/x86-64-v2/libfevstunik.a
 
 check:
 	./test

@@ -1,34 +1,36 @@
 #!/usr/bin/env python3
 """Tries the edits of each crate, many at a time: the checker has to refuse each, by a goal of a function that it changes.
 
-    tests/edits.py [NAME..]     the edits of these crates; if none is named, of those that tests/edits.lock doesn't hold for, and of one
-                                more, drawn by the commit's hash, to see that the lock says what is so (tests/edits_lock.py)
+    tests/edits.py [NAME..]     the edits of these crates; if none is named, those that tests/edits.lock doesn't hold for, and beside them
+                                a share of all others, another for each commit, to see that the lock is right (tests/edits_lock.py)
       --all                     the edits of all crates
-      --plan                    says whose edits would be tried, and tries none
+      --plan                    says which edits would be tried, and tries none
       --jobs N                  so many checks side by side (as many as processors and memory allow, if left out)
       --at FOLDER               the repository (the one that this file stands in, if left out)
       --edit WORD               only edits whose name has this word
+      --few N                   a crate of which more edits are tried is proved as it is first
       --after-ci                `rt ci` has just proved all crates as they are: what it left is taken (see libraries_of_ci)
       --log FOLDER              keeps what each check said there
 
 An edit is a file crates/NAME/edits/WHAT.edit, in the form that `rt must-fail` reads: a line 'file: src/x.rt', then pairs of
 lines 'old: TEXT' and 'new: TEXT'; each old TEXT stands once in that file, as the pairs before it left it.
 
-First the crates are proved as they are (over what earlier checks kept in out/). Edits of one crate that change different
-functions are then put into one copy of the crate, which is checked once, by the same command as `rt must-fail`. An edit is refused where the check names a goal that
-it didn't prove in a function that the edit changes: goals speak of the contracts of what a function calls, and not of its
-proofs. Where it says only that a callee wasn't proved, the edit is tried again in a later round, without that callee's edit.
+Edits of one crate that change different functions are put into one copy of the crate, which is checked once: these functions and what
+they call alone, from nothing. If many edits of a crate are tried, it is first proved as it is, and its checks go on from that. An edit is
+refused if the check names a goal that it didn't prove in a function that the edit changes: goals speak of the contracts of what a function
+calls, and not of its proofs. If it says only that a callee wasn't proved, the edit is tried again in a later round, without that callee's edit.
 What is left is tried alone: an edit that its group didn't refuse, one whose group didn't compile, each of a group that left a
 goal open in a function which none of them changes; and from the start an edit outside of functions, or of what other functions
 see of one (its head, or a const fn), since its group could be refused for it.
 
 An edit fails, by name, where it doesn't apply, doesn't compile or can't be read, where its crate stays proved, and where only
-a proof file is refused, for a name that the edit took away. Once all edits of a crate are refused, its line is written to the lock; if one
-isn't, its line goes. An edit that is refused only since a term of an answer file no longer fits says nothing of the goal: another answer
+a proof file is refused, for a name that the edit took away. The line of each edit that was refused is written to the lock; that of one that
+wasn't goes. An edit that is refused only since a term of an answer file no longer fits says nothing of the goal: another answer
 might prove it. So it is tried once more without these answers. The checker then tries to prove the goal itself, and has to leave it open: if
 it proves it, the edit isn't refused. Those of which it names no goal even then are named. The last line is 'N passed, M failed', of the edits that were tried.
 """
 import argparse
+import json
 import os
 import re
 import shutil
@@ -51,6 +53,8 @@ PARTS = ("src", "specs", "proofs")
 LIMIT = 3600
 # More edits in one check save little, and leave other processors with nothing to do.
 MOST = 16
+# With more edits of a crate it is proved as it is first.
+FEW = 64
 # The toolchain.
 KIT = os.path.dirname(os.path.dirname(os.path.realpath(shutil.which("rt") or "/opt/rattle/bin/rt")))
 
@@ -126,6 +130,10 @@ class Edit:
                     if is_head or one.is_const:
                         self.is_seen = self.is_seen or self.crate.is_named_elsewhere(path, one)
 
+    def is_lone(self):
+        """Returns whether the edit is tried alone: it changes what others than its functions may see."""
+        return self.is_outside or self.is_seen or not self.changed
+
     def functions(self):
         return [(path, self.crate.functions(path)[number]) for path, number in self.changed]
 
@@ -194,7 +202,7 @@ class Crate:
         # the checker's names of its functions, once a check has listed them
         self.known = set()
         self.seconds, self.checks, self.memory = 0.0, 0, 0
-        self.edits, self.strays = [], []
+        self.edits, self.strays, self.due = [], [], []
 
     def load(self, word):
         folder = f"{self.folder}/edits"
@@ -228,8 +236,13 @@ class Crate:
                     return True
         return False
 
+    def is_proved_first(self, few):
+        """Returns whether the crate is proved as it is before edits are tried: many of them, or some for which it is checked whole."""
+        return len(self.due) > few or sum(it.is_lone() for it in self.due) > 1
+
     def words(self, kept):
-        """Returns the command that checks the crate in the folder where it runs, over what is kept there, and over the libraries as they are built."""
+        """Returns the command that checks the crate in the folder where it runs, over what is kept there, if anything, and over the libraries
+        as they are built."""
         words = [f"{KIT}/bin/rattle", "check", "--crate-name", self.name]
         words += ["src/main.rt" if os.path.isfile(f"{self.folder}/src/main.rt") else "src/lib.rt"]
         rlib = lambda it: f"{self.top}/crates/{it}/out/rlib"
@@ -238,7 +251,7 @@ class Crate:
         for it in [f"{KIT}/rlibs", *map(rlib, self.below)]:
             words += ["-L", f"dependency={it}"]
         words += ["--antt-project", f"{KIT}/rattle/logic/antt-project.json", "--logic-built", f"{KIT}/logic_built"]
-        return [*words, "--jobs", "1", "--links", f"{self.name}=", "--incremental", kept]
+        return [*words, "--jobs", "1", "--links", f"{self.name}=", *(["--incremental", kept] if kept else [])]
 
     def need(self):
         """Returns the memory that a check is likely to take, in bytes: what earlier ones took, or a guess by the size of its texts."""
@@ -338,7 +351,8 @@ def copy_of(crate, room, texts):
     for part in PARTS:
         if os.path.isdir(f"{crate.folder}/{part}"):
             shutil.copytree(f"{crate.folder}/{part}", f"{room}/{part}")
-    linked(crate.kept, f"{room}/kept")
+    if crate.kept:
+        linked(crate.kept, f"{room}/kept")
     for path, text in texts.items():
         with open(f"{room}/{path}", "w", encoding="utf-8") as it:
             it.write(text)
@@ -375,8 +389,8 @@ class Said:
         self.lines = text.split("\n")
         self.state, self.goals, self.callees = {}, defaultdict(list), {}
         self.name_faults, self.unread, self.errors = defaultdict(list), [], []
-        self.is_proved = status == 0 and any(it.startswith("logic=proved ") for it in self.lines)
-        self.is_refused = any(it.startswith("logic=not-proved") for it in self.lines)
+        self.is_proved = status == 0 and any(it.startswith(("logic=proved ", "only=")) for it in self.lines)
+        self.is_refused = status == 1 and any(it.startswith(("logic=not-proved", "only=")) for it in self.lines)
         self.read(crate)
 
     def read(self, crate):
@@ -438,6 +452,31 @@ class Runner:
             self.seconds += seconds
         return Said(crate, status, text).is_proved
 
+    def list_functions(self, crate):
+        """Learns the checker's names of the crate's functions, without proving any."""
+        self.lanes.enter(crate.name, crate.need())
+        try:
+            with tempfile.TemporaryDirectory(prefix="edits-names-") as room:
+                _, _, seconds, _ = run([*crate.words(None), "--generated", room, "--old-names"], crate.folder)
+                with open(f"{room}/names.json", encoding="utf-8") as it:
+                    places = [name.removeprefix(f"Rattle-{crate.name}-proofs.").split(".") for name in json.load(it)]
+        except OSError:
+            # (what the crate's checks say is then the first that is known)
+            return
+        finally:
+            self.lanes.leave(crate.name)
+        with self.lock:
+            crate.seconds += seconds
+            crate.known |= {"::".join([crate.name, *it[:-1]]) for it in places if len(it) > 1 and it[-1] == "Lts"}
+
+    def command(self, crate, edits):
+        """Returns the command that checks a copy of the crate with these edits: all of it if something is kept or one may be seen elsewhere."""
+        words = crate.words("kept" if crate.kept else None)
+        names = [self.names(it) for it in edits]
+        if crate.kept or not all(names) or any(it.is_lone() for it in edits):
+            return words
+        return [*words, *(word for name in sorted(set().union(*names)) for word in ("--only", name))]
+
     def check(self, crate, edits, texts=None):
         """Checks a copy of the crate with these edits, and then these texts, and returns what that said."""
         with self.lock:
@@ -447,7 +486,7 @@ class Runner:
         try:
             with tempfile.TemporaryDirectory(prefix="edits-") as room:
                 copy_of(crate, room, {**joined(crate, edits), **(texts or {})})
-                status, text, seconds, memory = run(crate.words("kept"), room)
+                status, text, seconds, memory = run(self.command(crate, edits), room)
         finally:
             self.lanes.leave(number)
         with self.lock:
@@ -549,17 +588,20 @@ class Runner:
         return silent
 
     def work(self, crate, pool, report, is_proved):
-        """Tries all edits of a crate, once it is proved as it is. Rounds go on while each refuses some."""
-        ready = [it for it in crate.edits if not it.fault]
-        if not is_proved and not pool.submit(self.proves, crate).result():
+        """Tries the edits of a crate that are due. Rounds go on while each refuses some."""
+        ready = [it for it in crate.due if not it.fault]
+        if not crate.kept:
+            pool.submit(self.list_functions, crate).result()
+        elif not is_proved and not pool.submit(self.proves, crate).result():
             for it in ready:
                 it.end("wasn't tried, since the crate isn't proved as it is")
             return report(crate)
-        is_lone = lambda it: it.is_outside or it.is_seen or not it.changed
-        lone, left = [it for it in ready if is_lone(it)], [it for it in ready if not is_lone(it)]
+        lone, left = [it for it in ready if it.is_lone()], [it for it in ready if not it.is_lone()]
+        # (from nothing, more edits in a check share what it proves of the functions that they call)
+        most = MOST if crate.kept else max(MOST, -(-len(left) // self.lanes.number))
         tried = []
         while left or lone:
-            given = [pool.submit(self.together, crate, it) for it in groups_of(left)]
+            given = [pool.submit(self.together, crate, it) for it in groups_of(left, most)]
             tried += [pool.submit(self.alone, it) for it in lone]
             lone = []
             results = [it.result() for it in given]
@@ -571,7 +613,7 @@ class Runner:
             left = again
         for it in tried:
             it.result()
-        for groups in (groups_of, lambda edits: [[it] for it in edits]):
+        for groups in (lambda edits: groups_of(edits, most), lambda edits: [[it] for it in edits]):
             terms = [it for it in ready if it.by_terms and it.misfits]
             for it in [pool.submit(self.by_goals, crate, group) for group in groups(terms)]:
                 it.result()
@@ -588,11 +630,11 @@ def places_of(lines):
     return found
 
 
-def groups_of(edits):
-    """Groups edits so that none of a group change one function."""
+def groups_of(edits, most):
+    """Groups edits, at most so many in each, so that none of a group change one function."""
     groups = []
     for it in edits:
-        place = next((g for g in groups if len(g) < MOST and not any({*it.changed} & {*other.changed} for other in g)), None)
+        place = next((g for g in groups if len(g) < most and not any({*it.changed} & {*other.changed} for other in g)), None)
         if place is None:
             groups.append([it])
         else:
@@ -616,19 +658,20 @@ def proved_first(top, crates, all_of_them, jobs):
     return True, seconds
 
 
-def libraries_of_ci(known, crates, room):
+def libraries_of_ci(known, crates, room, few):
     """Takes the libraries that `rt ci` built. Returns whether they are there.
 
     `rt ci` proves everything from nothing and leaves each library's statements in out/rlib, where an author's own checks had left nothing.
-    Each crate is proved as it is, once, before its edits are tried, while other crates' edits go on.
+    A crate of which many edits are tried is proved once more, while other crates' edits go on.
     """
     for name in {it for crate in crates for it in crate.below}:
         folder = f"{known[name].folder}/out/rlib"
         if not os.path.isdir(f"{folder}/{name}.rlib") or os.path.lexists(f"{folder}/stamp"):
             return False
     for it in crates:
-        it.kept = f"{room}/{it.name}"
-        os.makedirs(it.kept, exist_ok=True)
+        it.kept = f"{room}/{it.name}" if it.is_proved_first(few) else None
+        if it.kept:
+            os.makedirs(it.kept, exist_ok=True)
     return True
 
 
@@ -641,19 +684,20 @@ def read_words():
     parser.add_argument("--at", default=os.path.dirname(os.path.dirname(os.path.abspath(__file__))))
     parser.add_argument("--edit", default="")
     parser.add_argument("--log")
+    parser.add_argument("--few", type=int, default=FEW)
     parser.add_argument("--after-ci", action="store_true")
     return parser.parse_args()
 
 
 def reported(crate):
     """What came of the edits of a crate, a line each."""
-    refused = sum(it.outcome == "refused" for it in crate.edits)
+    refused = sum(it.outcome == "refused" for it in crate.due)
     cost = f"{crate.checks} checks, {crate.seconds:.0f} s of processor time, {crate.memory / 1e9:.1f} GB"
-    yield f"{crate.name}: {refused} of {len(crate.edits)} refused, by {cost}"
-    terms = [os.path.basename(it.file) for it in crate.edits if it.by_terms]
+    yield f"{crate.name}: {refused} of {len(crate.due)} refused, by {cost}"
+    terms = [os.path.basename(it.file) for it in crate.due if it.by_terms]
     if terms:
         yield f"{crate.name}: {len(terms)} of these show less: a term of an answer no longer fits, and no goal is named: {' '.join(terms)}"
-    for it in crate.edits:
+    for it in crate.due:
         if it.outcome != "refused":
             told = f": {it.told[:300]}" if it.told else ""
             yield f"{it.name} {it.fault or it.outcome}{told}"
@@ -661,15 +705,17 @@ def reported(crate):
         yield f"{it} is no edit: a file there ends in .edit (or in .md, where it is only to be read)"
 
 
-def said_of_lock(lock, crates, chosen):
-    """Says whose edits are tried, and whose are not."""
-    held = [it for it in crates if it not in chosen]
-    count = sum(len(it.edits) for it in held)
-    if held:
-        yield f"{count} edits of {', '.join(it.name for it in held)}: refused before, and nothing that decides it has changed (tests/edits.lock)"
-    for it in chosen:
-        why = "drawn, to see that the lock says what is so" if it.name == lock.drawn else "changed since they were refused, or new"
-        yield f"{it.name}: {len(it.edits)} edits are tried: {why}"
+def said_of_lock(lock, crates):
+    """Says how many edits are tried, and why; and how many are not."""
+    every = [it for crate in crates for it in crate.edits]
+    due = [it for it in every if lock.is_due(it)]
+    yield f"{len(every) - len(due)} edits were refused before, and nothing that decides it has changed (tests/edits.lock)"
+    for crate in crates:
+        missing, turn = [it for it in crate.edits if not lock.holds(it)], [it for it in crate.edits if lock.holds(it) and lock.is_due(it)]
+        if missing:
+            yield f"{crate.name}: {len(missing)} edits are tried: changed since they were refused, or new"
+        if turn:
+            yield f"{crate.name}: {len(turn)} edits are tried: it is their turn"
 
 
 def try_all(given, top, known, crates, runner, report):
@@ -677,14 +723,14 @@ def try_all(given, top, known, crates, runner, report):
     jobs = runner.lanes.number
     # (a leader for each crate waits for the checks that it hands to the pool)
     with tempfile.TemporaryDirectory(prefix="edits-kept-") as room, ThreadPoolExecutor(4 * jobs) as pool, ThreadPoolExecutor(max(len(crates), 1)) as leaders:
-        is_proved = not (given.after_ci and libraries_of_ci(known, crates, room))
+        is_proved = not (given.after_ci and libraries_of_ci(known, crates, room, given.few))
         if is_proved:
             for it in crates:
                 it.kept = f"{it.folder}/out/incremental"
             well, runner.seconds = proved_first(top, crates, given.all, jobs)
             if not well:
                 return False
-        order = sorted(crates, key=lambda it: -sum(map(len, it.texts.values())) * len(it.edits))
+        order = sorted(crates, key=lambda it: -sum(map(len, it.texts.values())) * len(it.due))
         for it in [leaders.submit(runner.work, crate, pool, report, is_proved) for crate in order]:
             it.result()
     return True
@@ -702,10 +748,12 @@ def main():
         it.load(given.edit if not given.names or it.name in given.names else "")
     crates = [it for it in known.values() if it.edits or it.strays]
     lock = edits_lock.Lock(top, known, crates)
-    named = [it for it in crates if it.name in given.names]
-    chosen = named if given.names else crates if given.all or given.edit else lock.to_try(crates)
-    if not (given.names or given.all or given.edit):
-        for line in said_of_lock(lock, crates, chosen):
+    is_chosen = bool(given.names or given.all or given.edit)
+    for it in crates:
+        it.due = [edit for edit in it.edits if (it.name in given.names or not given.names if is_chosen else lock.is_due(edit))]
+    chosen = [it for it in crates if it.due or (it.strays and (not given.names or it.name in given.names))]
+    if not is_chosen:
+        for line in said_of_lock(lock, crates):
             print(f"edits: {line}", flush=True)
     if given.plan:
         return 0
@@ -713,24 +761,20 @@ def main():
         os.makedirs(given.log, exist_ok=True)
     began, printing = time.monotonic(), threading.Lock()
     runner = Runner(top, Lanes(given.jobs or processors()), given.log)
-    total = sum(len(it.edits) + len(it.strays) for it in chosen)
-
-    is_whole = lambda it: not it.strays and all(edit.outcome == "refused" for edit in it.edits)
+    total = sum(len(it.due) + len(it.strays) for it in chosen)
 
     def report(crate):
         with printing:
             for line in reported(crate):
                 print(f"edits: {line}", flush=True)
             # (at once: what a run that is ended early has seen isn't lost)
-            if is_whole(crate) and not given.edit:
-                lock.keep([crate])
+            lock.keep(crate.due)
 
     if not try_all(given, top, known, chosen, runner, report):
         print("edits: the crates aren't proved as they are, so no edit was tried")
         print(f"0 passed, {max(total, 1)} failed")
         return 1
-    lock.forget([it for it in chosen if not is_whole(it)])
-    passed = sum(it.outcome == "refused" for crate in chosen for it in crate.edits)
+    passed = sum(it.outcome == "refused" for crate in chosen for it in crate.due)
     seconds = runner.seconds + sum(it.seconds for it in chosen)
     print(f"edits: {runner.count} checks, {seconds:.0f} s of processor time, in {time.monotonic() - began:.0f} s")
     print(f"{passed} passed, {total - passed} failed")

@@ -1,21 +1,31 @@
-"""Says of which crates all edits were refused, and of which texts that was so, by tests/edits.lock: one line for each crate and toolchain.
+"""Says which edits were refused, and of which texts that was so, by tests/edits.lock:
 
-    NAME COUNT HASH TOOLCHAIN      all COUNT edits of the crate were refused by this toolchain (what `rt version` prints)
+    toolchain VERSION          what `rt version` prints; it goes for the lines that follow
+    CRATE/WHAT.edit HASH       this edit was refused
 
-Machines have different toolchains, so the lock keeps a line for each that was seen, while it holds. Whether an edit is refused depends on the edit, on the sources, definitions and proofs of its crate, on what the crates below state, and on
-the toolchain. The hash is of all that, without comments. A crate below states its definitions and its sources without the bodies of
-functions (a const fn keeps its own, since others may see it). A line holds only while all edits of the crate apply, since an edit may name a
-comment.
+Whether an edit is refused depends on the edit, on the functions that it changes and their proofs, on what its crate states (its sources
+without the bodies of functions), on its definitions and lemmas, on what the crates below state, and on the toolchain. The hash is of all
+that, without comments. (An edit of what stands outside functions, or of a const fn, depends on all sources and proofs of its crate.) A
+line holds only while the edit applies, since an edit may name a comment.
+
+Lines are believed, but not for long: the edits are dealt to slots, and each commit has the slot of its number (`share`).
 """
 import hashlib
 import os
 import re
 import subprocess
+from functools import lru_cache
 
 from source_text import functions_of, without_comments
 
 FILE = "tests/edits.lock"
+# After so many commits each edit's turn has come.
+SLOTS = 24
+# Of these, the slots of edits that change what stands outside functions: they need a check of their own, and of the whole crate.
+OUTSIDE = 4
 COMMENT_OF_ANTT = re.compile(r"(?m)(?:^|(?<=\s))--(?=\s|$).*$")
+# The files of a function's own proof.
+OWN_PROOF = ("Answers.antt", "Invariants.antt", "Proof.antt")
 
 
 def files_below(folder):
@@ -25,6 +35,7 @@ def files_below(folder):
             yield f"{at}/{name}"
 
 
+@lru_cache(maxsize=None)
 def read(path):
     with open(path, encoding="utf-8", errors="surrogateescape") as it:
         return it.read()
@@ -40,19 +51,18 @@ def stated(text):
     return " ".join(without_comments("".join([*kept, text[at:]])).split())
 
 
-def lines_that_count(path):
-    """The lines of a file without its comments, and without those that are empty then."""
+def without_its_comments(path):
+    """A file's text without its comments, with single spaces."""
     text = read(path)
     text = without_comments(text) if path.endswith(".rt") else COMMENT_OF_ANTT.sub("", text) if path.endswith(".antt") else text
-    return "\n".join(it for it in map(str.rstrip, text.split("\n")) if it)
+    return " ".join(text.split())
 
 
+@lru_cache(maxsize=None)
 def stated_by(folder):
-    """What a crate states, by file."""
-    for path in files_below(f"{folder}/src"):
-        yield os.path.relpath(path, folder), stated(read(path))
-    for path in files_below(f"{folder}/specs"):
-        yield os.path.relpath(path, folder), " ".join(COMMENT_OF_ANTT.sub("", read(path)).split())
+    """What a crate states: its sources without bodies, and its definitions, by file."""
+    sources = [(os.path.relpath(it, folder), stated(read(it))) for it in files_below(f"{folder}/src")]
+    return (*sources, *[(os.path.relpath(it, folder), without_its_comments(it)) for it in files_below(f"{folder}/specs")])
 
 
 def toolchain():
@@ -60,78 +70,128 @@ def toolchain():
     return ran.stdout.strip()
 
 
-def hash_of(crate, known, version):
-    """The hash of all that decides whether the edits of a crate are refused."""
+def sum_of(*parts):
+    """The hash of texts and of lists of texts."""
     made = hashlib.sha256()
-
-    def add(*parts):
-        for it in parts:
-            text = it.encode("utf-8", "surrogateescape")
-            made.update(b"%d:" % len(text) + text)
-
-    add(version, crate.name, *sorted(crate.deps))
-    for part in ("src", "specs", "proofs", "edits"):
-        for path in files_below(f"{crate.folder}/{part}"):
-            add(os.path.relpath(path, crate.folder), lines_that_count(path))
-    for name in sorted(crate.below):
-        add(name, *sorted(known[name].deps))
-        for path, text in stated_by(known[name].folder):
-            add(path, text)
+    for it in parts:
+        text = repr(it).encode("utf-8", "surrogateescape")
+        made.update(b"%d:" % len(text) + text)
     return made.hexdigest()
 
 
+@lru_cache(maxsize=None)
+def proofs_of(folder):
+    """The proofs of a crate: the folder that each file stands in if it is of one function's own proof, else '', with its path and text."""
+    found = []
+    for path in files_below(f"{folder}/proofs"):
+        inside, name = os.path.split(os.path.relpath(path, folder))
+        found.append((os.path.basename(inside) if name in OWN_PROOF else "", os.path.relpath(path, folder), without_its_comments(path)))
+    return tuple(found)
+
+
+@lru_cache(maxsize=None)
+def sum_below(crate, known):
+    """The hash of what the edits of a crate have in common: what it states, its lemmas, and what the crates below state."""
+    below = [(name, known[name].deps, stated_by(known[name].folder)) for name in sorted(crate.below)]
+    lemmas = [it for it in proofs_of(crate.folder) if not it[0]]
+    return sum_of(crate.name, sorted(crate.deps), stated_by(crate.folder), lemmas, below)
+
+
+def hash_of(edit, known, version):
+    """The hash of all that decides whether an edit is refused."""
+    crate = edit.crate
+    changed = [(path, *it.key(), " ".join(without_comments(crate.texts[path][it.start : it.ends]).split())) for path, it in edit.functions()]
+    names = {it.name for _, it in edit.functions()}
+    proofs = [it for it in proofs_of(crate.folder) if it[0] in names]
+    whole = ()
+    if edit.is_outside or edit.is_seen or not changed:
+        whole = ([without_its_comments(it) for it in files_below(f"{crate.folder}/src")], proofs_of(crate.folder))
+    return sum_of(version, " ".join(read(edit.file).split()), sum_below(crate, known), changed, proofs, whole)[:32]
+
+
 def read_lock(top):
-    """The number of edits and the hash of each crate and toolchain in the lock."""
-    path = f"{top}/{FILE}"
-    rows = [it.split(maxsplit=3) for it in read(path).splitlines()] if os.path.isfile(path) else []
-    return {(name, version): (int(count), made) for name, count, made, version in (it for it in rows if len(it) == 4 and it[1].isdigit())}
+    """The hash of each toolchain and edit in the lock."""
+    path, rows, version = f"{top}/{FILE}", {}, ""
+    if os.path.isfile(path):
+        with open(path, encoding="utf-8") as it:
+            for line in it:
+                word, _, rest = line.strip().partition(" ")
+                if word == "toolchain":
+                    version = rest
+                elif rest:
+                    rows[version, word] = rest
+    return rows
 
 
 def write_lock(top, rows):
     os.makedirs(os.path.dirname(f"{top}/{FILE}"), exist_ok=True)
     with open(f"{top}/{FILE}.new", "w", encoding="utf-8") as it:
-        it.writelines(f"{name} {count} {made} {version}\n" for (name, version), (count, made) in sorted(rows.items()))
+        last = None
+        for (version, name), made in sorted(rows.items()):
+            if version != last:
+                it.write(f"toolchain {version}\n")
+                last = version
+            it.write(f"{name} {made}\n")
     os.replace(f"{top}/{FILE}.new", f"{top}/{FILE}")
 
 
-def drawn(top, names):
-    """One of these crates, drawn by the hash of the commit (of the lock, outside of git)."""
-    ran = subprocess.run(["git", "-C", top, "rev-parse", "HEAD"], capture_output=True, text=True)
-    word = ran.stdout.strip() if ran.returncode == 0 else str(sorted(read_lock(top).items()))
-    number = int(hashlib.sha256(word.encode()).hexdigest(), 16)
-    return sorted(names)[number % len(names)] if names else None
+def commits(top):
+    """The number of commits that led to what is checked out (outside of git, 0)."""
+    ran = subprocess.run(["git", "-C", top, "rev-list", "--count", "HEAD"], capture_output=True, text=True)
+    return int(ran.stdout) if ran.returncode == 0 else 0
+
+
+def dealt(edits, slots):
+    """Deals edits to slots, in their order, so that those of one crate are in few slots: they are tried in one check."""
+    return [edits[len(edits) * it // slots : len(edits) * (it + 1) // slots] for it in range(slots)]
+
+
+def share(edits, number):
+    """The edits whose turn it is at the commit of this number."""
+    lone = [it for it in edits if it.is_outside]
+    slots = dealt([it for it in edits if not it.is_outside], SLOTS - OUTSIDE) + dealt(lone, OUTSIDE)
+    return slots[number % SLOTS]
 
 
 class Lock:
-    """The lock of a repository, and what it says of the crates that have edits."""
+    """The lock of a repository, and what it says of the edits of these crates."""
 
     def __init__(self, top, known, crates):
-        self.top, self.known, self.version = top, known, toolchain()
-        self.crates = {it.name: it for it in crates}
+        self.top, self.known, self.version = top, Known(known), toolchain()
+        self.edits = {it.name: it for crate in crates for it in crate.edits}
         rows = read_lock(top)
-        apply = {it.name for it in crates if not it.strays and not any(edit.fault for edit in it.edits)}
-        self.holds = {it.name for it in crates if it.name in apply and rows.get((it.name, self.version)) == self.row(it, self.version)}
-        self.drawn = drawn(top, self.holds)
+        self.held = {name for name, it in self.edits.items() if (made := rows.get((self.version, name))) and made == self.row(it, self.version)}
+        self.turn = {it.name for it in share(list(self.edits.values()), commits(top))}
 
-    def row(self, crate, version):
-        """What the lock has to say of a crate under a toolchain."""
-        return len(crate.edits), hash_of(crate, self.known, version)
+    def row(self, edit, version):
+        """What the lock has to say of an edit under a toolchain; None if the edit can't be applied."""
+        return None if edit.fault else hash_of(edit, self.known, version)
 
-    def to_try(self, crates):
-        """The crates of which the lock has no line or another one, and the one that is drawn."""
-        return [it for it in crates if it.name not in self.holds or it.name == self.drawn]
+    def holds(self, edit):
+        return edit.name in self.held
 
-    def others(self):
-        """The lines that still hold: of crates that have edits, under any toolchain."""
-        rows = read_lock(self.top).items()
-        return {(name, version): row for (name, version), row in rows if name in self.crates and row == self.row(self.crates[name], version)}
+    def is_due(self, edit):
+        """Whether the edit is to be tried: its line is missing or of other texts, or it is its turn."""
+        return not self.holds(edit) or edit.name in self.turn
 
-    def keep(self, crates):
-        """Writes the lines of these crates, all of whose edits were just refused, and drops those that no longer hold."""
-        write_lock(self.top, self.others() | {(it.name, self.version): self.row(it, self.version) for it in crates})
+    def keep(self, edits):
+        """Writes what came of these edits, and drops the lines that no longer hold: of edits that are gone or that depend on other texts now."""
+        rows = {}
+        for (version, name), made in read_lock(self.top).items():
+            if name in self.edits and made == self.row(self.edits[name], version):
+                rows[version, name] = made
+        for it in edits:
+            rows.pop((self.version, it.name), None)
+            if it.outcome == "refused":
+                rows[self.version, it.name] = self.row(it, self.version)
+        write_lock(self.top, rows)
 
-    def forget(self, crates):
-        """Drops the lines of crates of which an edit wasn't refused."""
-        names = {it.name for it in crates}
-        if names:
-            write_lock(self.top, {key: row for key, row in read_lock(self.top).items() if key[0] not in names})
+
+class Known(dict):
+    """Crates by name. (There is one such value in a run, so what is found out of it is kept by its identity.)"""
+
+    def __hash__(self):
+        return id(self)
+
+    def __eq__(self, other):
+        return self is other

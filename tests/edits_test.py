@@ -162,27 +162,28 @@ pub fn one() -> u32
 """
 
 # An edit that names a comment, too.
-NAMES_A_COMMENT = ("twice_and_one", "    n + n", "    n + n + 1\nold: // Where an edit may stand.\nnew: // Here.", None)
+NAMES_A_COMMENT = ("names_a_comment", "    n + n", "    n + n + 1\nold: // Where an edit may stand.\nnew: // Here.", None)
 
-# What is changed (file, old text, new text), and leaves the edits as they were; and what is changed, so that they are tried again.
-WITHOUT_EFFECT = [
-    ("a comment of the crate below", "low/src/lib.rt", "// A number.", "// One."),
-    ("a body of the crate below", "low/src/lib.rt", "    1\n", "    2 - 1\n"),
-    ("a comment", "sample/src/lib.rt", "// Functions whose edits show", "// These show"),
-    ("a comment of a proof", "sample/proofs/six_times/Answers.antt", "pub returns :", "-- What is returned.\npub returns :"),
+# What is changed (file, old text, new text), and how many of two edits are tried again for it: one that changes a function, and one that
+# names a comment outside of functions, too.
+CHANGES = [
+    ("a comment of the crate below", "low/src/lib.rt", "// A number.", "// One.", 0),
+    ("a body of the crate below", "low/src/lib.rt", "    1\n", "    2 - 1\n", 0),
+    ("a comment", "sample/src/lib.rt", "// Functions whose edits show", "// These show", 0),
+    ("a comment of a proof", "sample/proofs/six_times/Answers.antt", "pub returns :", "-- What is returned.\npub returns :", 0),
+    ("the body of another function", "sample/src/lib.rt", "    n / 2", "    n / 4", 1),
+    ("the proof of another function", "sample/proofs/six_times/Answers.antt", "search rules", "search (rules)", 1),
+    ("a comment that an edit names", "sample/src/lib.rt", "// Where an edit may stand.", "// Elsewhere.", 1),
+    ("an edit", "sample/edits/twice_is_none.edit", "    0", "    1", 1),
+    ("a contract of the crate below", "low/src/lib.rt", "result ≡ 1", "result ≤ 1", 2),
+    ("a definition of the crate below", "low/specs/Lib.antt", "", "pub mod More\n", 2),
+    ("the body that they change", "sample/src/lib.rt", "    n + n\n", "    n + n + 0\n", 2),
+    ("a contract", "sample/src/lib.rt", "ensures { result ≤ n }", "ensures { n ≤ n }", 2),
+    ("a definition", "sample/specs/Lib.antt", "", "pub mod More\n", 2),
+    ("a lemma", "sample/proofs/Lemmas.antt", "", "pub lemma : ℕ\n", 2),
+    ("the function's own proof", "sample/proofs/twice/Answers.antt", "", "pub returns : goal.returns\n", 2),
 ]
-WITH_EFFECT = [
-    ("a contract of the crate below", "low/src/lib.rt", "result ≡ 1", "result ≤ 1"),
-    ("a definition of the crate below", "low/specs/Lib.antt", "", "pub mod More\n"),
-    ("a comment that an edit names", "sample/src/lib.rt", "// Where an edit may stand.", "// Elsewhere."),
-    ("a body", "sample/src/lib.rt", "    n / 2", "    n / 4"),
-    ("a contract", "sample/src/lib.rt", "ensures { result ≤ n }", "ensures { n ≤ n }"),
-    ("a definition", "sample/specs/Lib.antt", "", "pub mod More\n"),
-    ("a proof", "sample/proofs/six_times/Answers.antt", "search rules", "search  rules"),
-    ("an edit", "sample/edits/twice_and_one.edit", "n + n + 1", "n + n + 2"),
-]
-CHANGES = [(*it, tried) for changes, tried in ((WITHOUT_EFFECT, False), (WITH_EFFECT, True)) for it in changes]
-CHANGED, HELD = "edits: sample: 1 edits are tried: changed since", "edits: sample: 1 edits are tried: drawn"
+TURN = "edits: sample: 1 edits are tried: it is their turn"
 
 
 def write(path, text):
@@ -198,48 +199,80 @@ def read(path):
         return it.read()
 
 
+def git(room, *words):
+    subprocess.run(["git", "-c", "user.name=A", "-c", "user.email=a@example", "-C", room, *words], check=True, capture_output=True)
+
+
+def commit(room):
+    git(room, "commit", "--allow-empty", "-q", "-m", "more")
+
+
 def check_lock(hold):
-    """What makes the runner try edits again, and what it says of a lock that lies."""
+    """What makes the runner try an edit again, and that a line that lies is found when its turn comes."""
     with tempfile.TemporaryDirectory(prefix="edits-test-") as room:
-        made(room, [NAMES_A_COMMENT])
+        made(room, [EDITS[1], NAMES_A_COMMENT])
         write(f"{room}/crates.txt", "low:\nsample: low\n")
         write(f"{room}/crates/low/src/lib.rt", LOW)
+        git(room, "init", "-q")
+        commit(room)
         plan = lambda: run_of(room, [], "--plan")[1]
-        hold("without a lock all is tried", CHANGED in plan())
+        tried = lambda: int((re.search(r"edits: sample: (\d+) edits are tried: changed since", plan()) or [0, 0])[1])
+        hold("without a lock all is tried", tried() == 2)
         status, said = run_of(room, [])
-        hold("a lock is written once all are refused", status == 0 and said.endswith("\n1 passed, 0 failed\n") and HELD in plan())
-        lock = read(f"{room}/{edits_lock.FILE}")
+        hold("a line is written if an edit is refused", status == 0 and said.endswith("\n2 passed, 0 failed\n") and tried() == 0)
         for what, file, old, new, again in CHANGES:
             path = f"{room}/crates/{file}"
             text = read(path)
             write(path, text.replace(old, new, 1) if old else new)
-            hold(f"{what} is changed", (CHANGED in plan()) == again and (HELD in plan()) != again)
+            hold(f"{what} is changed", tried() == again)
             if text:
                 write(path, text)
             else:
                 os.remove(path)
-        hold("all is as it was", HELD in plan())
-        write(f"{room}/tools/rt", "#!/bin/sh\necho another version\n")
-        os.chmod(f"{room}/tools/rt", 0o755)
-        words = [sys.executable, f"{os.path.dirname(os.path.abspath(__file__))}/edits.py", "--at", room, "--plan"]
-        ran = subprocess.run(words, capture_output=True, text=True, env={**os.environ, "PATH": f"{room}/tools:{os.environ['PATH']}"})
-        hold("another toolchain", CHANGED in ran.stdout)
-        other = "another version"
-        known = crates_of(room)
-        known["sample"].load("")
-        both = f"{lock}sample 1 {edits_lock.hash_of(known['sample'], known, other)} {other}\n"
-        write(f"{room}/{edits_lock.FILE}", f"{both}sample 1 0 a third version\n")
-        status, said = run_of(room, [])
-        lines = lambda text: sorted(text.splitlines())
-        hold("lines of other toolchains stay while they hold", status == 0 and lines(read(f"{room}/{edits_lock.FILE}")) == lines(both))
-        made(room, [EDITS[4]])
-        write(f"{room}/crates.txt", "low:\nsample: low\n")
-        known = crates_of(room)
-        version = edits_lock.toolchain()
-        write(f"{room}/{edits_lock.FILE}", f"sample 2 {edits_lock.hash_of(known['sample'], known, version)} {version}\n")
-        status, said = run_of(room, [])
-        found = "drawn" in said and "part_is_a_third.edit isn't refused" in said and "\n1 passed, 1 failed\n" in said
-        hold("a lock that lies is found", status == 1 and found and lock != read(f"{room}/{edits_lock.FILE}") == "")
+        hold("all is as it was", tried() == 0)
+        os.remove(f"{room}/crates/sample/edits/{NAMES_A_COMMENT[0]}.edit")
+        check_toolchains(hold, room)
+        check_turns(hold, room, plan)
+
+
+def check_toolchains(hold, room):
+    """Lines of another toolchain count for nothing, and stay while they hold."""
+    write(f"{room}/tools/rt", "#!/bin/sh\necho another version\n")
+    os.chmod(f"{room}/tools/rt", 0o755)
+    words = [sys.executable, f"{os.path.dirname(os.path.abspath(__file__))}/edits.py", "--at", room, "--plan"]
+    ran = subprocess.run(words, capture_output=True, text=True, env={**os.environ, "PATH": f"{room}/tools:{os.environ['PATH']}"})
+    hold("another toolchain", "edits: sample: 1 edits are tried: changed since" in ran.stdout)
+    lock, other = read(f"{room}/{edits_lock.FILE}"), "another version"
+    known = crates_of(room)
+    known["sample"].load("")
+    edit = known["sample"].edits[0]
+    both = f"toolchain {other}\n{edit.name} {edits_lock.hash_of(edit, edits_lock.Known(known), other)}\n{lock}"
+    write(f"{room}/{edits_lock.FILE}", f"toolchain a third version\n{edit.name} 0\n{both}")
+    status, _ = run_of(room, [], "sample")
+    hold("lines of other toolchains stay while they hold", status == 0 and read(f"{room}/{edits_lock.FILE}") == both)
+
+
+def check_turns(hold, room, plan):
+    """Each edit is tried at least once in so many commits, so a line that lies is found."""
+    edit = EDITS[4]
+    os.remove(f"{room}/crates/sample/edits/{EDITS[1][0]}.edit")
+    made(room, [edit])
+    write(f"{room}/crates.txt", "low:\nsample: low\n")
+    known = crates_of(room)
+    known["sample"].load("")
+    lie = known["sample"].edits[0]
+    lies = f"toolchain {edits_lock.toolchain()}\n{lie.name} {edits_lock.hash_of(lie, edits_lock.Known(known), edits_lock.toolchain())}\n"
+    write(f"{room}/{edits_lock.FILE}", lies)
+    turns = 0
+    for _ in range(edits_lock.SLOTS):
+        commit(room)
+        if TURN in plan():
+            turns += 1
+            status, said = run_of(room, [])
+            hold("a line that lies is found", status == 1 and "part_is_a_third.edit isn't refused" in said and said.endswith("\n0 passed, 1 failed\n"))
+            hold("its line goes", lie.name not in read(f"{room}/{edits_lock.FILE}"))
+            write(f"{room}/{edits_lock.FILE}", lies)
+    hold("a turn in each round of commits", turns == 1)
 
 
 def main():
@@ -266,7 +299,7 @@ def main():
         hold("the same after rt ci", told(after) == told(said) and after.split("\n")[-2] == said.split("\n")[-2])
         with open(f"{room}/crates/sample/src/lib.rt", "w", encoding="utf-8") as it:
             it.write(SOURCE.replace("    n + 1", "    n"))
-        status, unproved = run_of(room, [], "--after-ci")
+        status, unproved = run_of(room, [], "--after-ci", "--few", "0")
         tried = [it for it in told(unproved) if " wasn't tried" not in it and " doesn't apply" not in it]
         hold("nothing where the crate isn't proved", status == 1 and not tried and f"\n0 passed, {len(EDITS)} failed\n" in unproved)
     check_lock(hold)

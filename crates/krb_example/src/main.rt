@@ -100,9 +100,14 @@ fn serve(rt: &HostRuntime, request: &[u8]) -> Result<Acceptor<TimedMemory>> {
 fn main(rt: HostRuntime) -> Result<()> {
     let request = fs::read(&rt, "request")?;
     let mut service = serve(&rt, &request)?;
-    let cache = read_cache(&rt)?;
+    introduce(&rt, &mut service)
+}
+
+/// Has the client of the cache ask the service.
+fn introduce(rt: &HostRuntime, service: &mut Acceptor<TimedMemory>) -> Result<()> {
     let later = Moment::new(1_700_000_101, 0).context("a year from 0 to 9999")?;
-    ask(rt.alloc(), &cache, &mut service, later)?;
+    let cache = read_cache(rt)?;
+    ask(rt.alloc(), &cache, service, later)?;
     println!(rt; "the client knows the service")?;
     Ok(())
 }
