@@ -3,8 +3,8 @@ import os
 import pickle
 import time
 
-import c_cases
-import fixture as der
+from support import c_cases
+from support import fixture as der
 import pytest
 from fevstunik import (Acceptor, Code, ContextFlags, CredentialCache, Error, Fault, Key, Keytab, Moment, Refused, TicketFlags, TypedData,
                        check_name, make_request)

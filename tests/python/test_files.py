@@ -1,8 +1,8 @@
 """Keytabs and caches: what is read, what is written, and faults with their offsets."""
 import struct
 
-import c_cases
-import fixture as der
+from support import c_cases
+from support import fixture as der
 import pytest
 from fevstunik import Credential, CredentialCache, Fault, Key, Keytab, KeytabEntry, Owner, TicketFlags
 

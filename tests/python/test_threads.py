@@ -4,8 +4,8 @@ import signal
 import threading
 from collections import Counter
 
-import c_cases
-import fixture as der
+from support import c_cases
+from support import fixture as der
 import pytest
 from fevstunik import Acceptor, CredentialCache, Keytab, Moment, Refused, _values, make_request
 
