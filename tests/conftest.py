@@ -3,17 +3,15 @@
 Fixtures that cost much are made once for all processes of pytest-xdist, and only if a test asks for them.
 """
 import fcntl
-import os
 import random
-import shutil
 import subprocess
 
 import pytest
+
 from support import TOP
 from support.checks import Checks
 
-BUILD = TOP / "build/x86-64-v2"
-VERSION = "0.1.0"
+TARGET = "build/x86-64-v2/libfevstunik.a"
 # Instances of pytest that build or that download wait for each other here.
 LOCK = TOP / "build/.lock"
 
@@ -21,6 +19,8 @@ LOCK = TOP / "build/.lock"
 def pytest_addoption(parser):
     parser.addoption("--seed", type=int, help="the order of the tests: the seed that an earlier run printed")
     parser.addoption("--case", default="", metavar="WORD", help="of tests that look at many cases, only cases whose names contain WORD")
+    parser.addoption("--inputs", type=int, default=50_000, help="how many files and messages are drawn for fuzzing")
+    parser.addoption("--tokens", type=int, default=1_000_000, help="how many tokens are drawn for fuzzing")
     parser.addini("least_tests", "how many tests a run of the whole suite has")
     parser.addini("least_checks", "how many checks these tests make")
 
@@ -45,9 +45,21 @@ def pytest_report_header(config):
 
 
 def pytest_collection_modifyitems(config, items):
-    """Shuffles the tests. Those that take long come first, so that no process is left with one at the end."""
-    random.Random(config.seed).shuffle(items)
-    items.sort(key=lambda it: it.get_closest_marker("slow") is None)
+    """Shuffles the modules, and the tests of each. Those that take long come first, so that no process is left with one at the end."""
+    draw, modules = random.Random(config.seed), {}
+    for it in items:
+        modules.setdefault(it.path, []).append(it)
+    blocks = list(modules.values())
+    draw.shuffle(blocks)
+    for block in blocks:
+        draw.shuffle(block)
+        block.sort(key=is_quick)
+    blocks.sort(key=lambda block: is_quick(block[0]))
+    items[:] = [it for block in blocks for it in block]
+
+
+def is_quick(item):
+    return item.get_closest_marker("slow") is None
 
 
 # ---------------------------------------------------------------- checks
@@ -149,10 +161,17 @@ def built(path, how):
 def library():
     """The built shared library for C and Python."""
     with locked():
-        ran = subprocess.run(["make", "-s", f"{BUILD}/libfevstunik.a"], cwd=TOP, capture_output=True, text=True)
+        ran = subprocess.run(["make", "-s", TARGET], cwd=TOP, capture_output=True, text=True)
     if ran.returncode:
-        pytest.fail(f"make {BUILD}/libfevstunik.a: {(ran.stdout + ran.stderr)[-2000:]}")
-    return BUILD / f"libfevstunik.so.{VERSION}"
+        pytest.fail(f"make {TARGET}: {(ran.stdout + ran.stderr)[-2000:]}")
+    version = subprocess.run([TOP / "packaging/version"], capture_output=True, text=True).stdout.strip()
+    return TOP / TARGET.replace(".a", f".so.{version}")
+
+
+@pytest.fixture(scope="session")
+def lock():
+    """One process at a time has it, of all that run tests here."""
+    return locked()
 
 
 class locked:

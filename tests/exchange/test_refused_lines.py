@@ -10,9 +10,7 @@ import subprocess
 
 import pytest
 
-from support import calls
-from support import exchange_made
-from support import preload
+from support import calls, exchange_made, preload
 from support.exchange_made import CONFOUNDER, REPLY_CONFOUNDER, Made
 from support.preload import ALL
 

@@ -1,11 +1,15 @@
 """`krbtool finish` given the replies of their services; `krbtool pick-key` beside what their tools list and their libraries pick; and
 `krbtool add-keys` beside their tools."""
-from support import der_rules
-import files
-from support import msg_rules
+import pytest
+
+from support import der_rules, msg_rules, tickets
+from support.checks import slug
 from support.kdc import Trouble, ran
 from support.sides import LIBRARIES, first_words, now
-from support.tickets import AES128, AES256, NUMBERS
+from support.tickets import AES128, AES256, NUMBERS, klist_keytab
+
+pytestmark = [pytest.mark.packages, pytest.mark.slow, pytest.mark.xdist_group("realms")]
+EACH_KEYTAB = pytest.mark.parametrize("keytab", tickets.KEYTABS, indirect=True, ids=slug)
 
 # ---------------------------------------------------------------- finish
 
@@ -75,22 +79,25 @@ def bent(exchange, other):
     yield "to another ticket", other.reply, "Integrity"
 
 
-def finishes(cases, peers, ticket, other):
+@pytest.mark.parametrize("ticket", tickets.OF_EACH_TYPE, indirect=True, ids=slug)
+def test_finish(checks, world, peers, ticket):
     """The replies of their services with each choice of theirs, and some that were bent. The other ticket has another session key."""
+    at = tickets.OF_EACH_TYPE.index(ticket.label)
+    other = world.tickets[tickets.OF_EACH_TYPE[(at + 1) % len(tickets.OF_EACH_TYPE)]]
     for library in LIBRARIES:
         for words in CHOICES:
             exchange = Exchange(peers, library, ticket, words)
             name = f"finish: {library}'s reply, {ticket.label}, {' '.join(words) or 'plain'}"
             wanted = f"accepted {ticket.client} {ticket.etype} {exchange.second} {MICROS} mutual"
-            cases.equal(name, [exchange.accepted, exchange.finished(exchange.reply)], [wanted, exchange.agreed()])
-            cases.equal(f"{name}, to another moment", exchange.finished(exchange.reply, MICROS + 1), "Mismatch")
+            checks.equal(name, [exchange.accepted, exchange.finished(exchange.reply)], [wanted, exchange.agreed()])
+            checks.equal(f"{name}, to another moment", exchange.finished(exchange.reply, MICROS + 1), "Mismatch")
             if "subkey" in words:
-                cases.equal(f"{name}, chose a key", exchange.subkey in ("19", "20"), True)
+                checks.equal(f"{name}, chose a key", exchange.subkey in ("19", "20"), True)
             if "number" in words:
-                cases.equal(f"{name}, chose a number", int(exchange.number) > 0, True)
+                checks.equal(f"{name}, chose a number", int(exchange.number) > 0, True)
         for how, reply, fault in bent(exchange, Exchange(peers, library, other, [])):
             wanted = fault if fault is not None else fault_of(reply)
-            cases.equal(f"finish: {library}'s reply, {ticket.label}, {how}", exchange.finished(reply), wanted)
+            checks.equal(f"finish: {library}'s reply, {ticket.label}, {how}", exchange.finished(reply), wanted)
 
 
 # ---------------------------------------------------------------- pick-key
@@ -98,20 +105,6 @@ def finishes(cases, peers, ticket, other):
 USABLE = (NUMBERS[AES128], NUMBERS[AES256])
 # A type that is listed and never picked, and a name and a version number that no keytab has.
 UNUSABLE, NOBODY, NEVER = 18, "host/nobody.example@ELSE.TEST", 99
-
-
-def rotated_keytabs(mit, heimdal):
-    """Keytabs of both after two changes of a key, the first written as docs/OPERATING.md says, so with keys that are listed twice."""
-    service, both, theirs = "host/rotated.example", mit.folder / "rotated.keytab", heimdal.folder / "rotated.keytab"
-    mit.kadmin("addprinc", "-randkey", service)
-    heimdal.kadmin("add", "--random-key", "--use-defaults", service)
-    for turn in range(3):
-        if turn:
-            mit.kadmin("cpw", "-randkey", "-keepold", "-e", f"{AES256}:normal,{AES128}:normal", service)
-            heimdal.kadmin("cpw", "--random-key", service)
-        mit.kadmin("ktadd", "-k", both, "-norandkey", service)
-        heimdal.kadmin("ext_keytab", "-k", theirs, service)
-    return [(mit, both), (heimdal, theirs)]
 
 
 def listed_by_heimdal(heimdal, path):
@@ -124,7 +117,7 @@ def listed_by_heimdal(heimdal, path):
 
 def listed_by_mit(realm, path):
     """The version number, type, name and time of each line of MIT's `klist -kte`."""
-    for line, _ in files.klist_keytab(realm, path):
+    for line, _ in klist_keytab(realm, path):
         kvno, etype, moment, name = line.split()
         yield kvno, etype, name, moment
 
@@ -167,20 +160,22 @@ def asked_of(lines):
     return [(name, etype, kvno) for name in [*names, NOBODY] for etype in (*USABLE, UNUSABLE) for kvno in (None, *numbers, NEVER)]
 
 
-def picks(cases, peers, heimdal, realm, path):
+@EACH_KEYTAB
+def test_pick_key(checks, world, peers, keytab):
     """Each name, type and version number of a keytab, as the tools' lists and the libraries' own choice have it."""
+    (realm, path), heimdal = keytab, world.heimdal
     lines, short = list(listed_by_mit(realm, path)), list(listed_by_heimdal(heimdal, path))
     asked = asked_of(lines)
     found = {it: picked(peers, path, *it) for it in asked}
     label = f"pick-key: {path.name} of {realm.name}"
-    cases.equal(f"{label}, asked", len(asked) >= 18 and any(isinstance(it, tuple) for it in found.values()), True)
-    cases.equal(f"{label}, by MIT's klist", found, {it: chosen(lines, *it) for it in asked})
+    checks.equal(f"{label}, asked", len(asked) >= 18 and any(isinstance(it, tuple) for it in found.values()), True)
+    checks.equal(f"{label}, by MIT's klist", found, {it: chosen(lines, *it) for it in asked})
     shortened = {it: answer[:3] if isinstance(answer, tuple) else answer for it, answer in found.items()}
-    cases.equal(f"{label}, by Heimdal's ktutil", shortened, {it: chosen(short, *it) for it in asked})
+    checks.equal(f"{label}, by Heimdal's ktutil", shortened, {it: chosen(short, *it) for it in asked})
     for library in LIBRARIES:
         usable = [it for it in asked if it[1] in USABLE and (library != "MIT" or is_clear(lines, *it))]
         ours = [f"{it[0]} {it[1]} {it[3]}" if isinstance(it, tuple) else "none" for it in map(found.get, usable)]
-        cases.equal(f"{label}, by {library}'s krb5_kt_get_entry", ours, picked_by(peers, realm, library, path, usable))
+        checks.equal(f"{label}, by {library}'s krb5_kt_get_entry", ours, picked_by(peers, realm, library, path, usable))
 
 
 # ---------------------------------------------------------------- add-keys
@@ -188,20 +183,23 @@ def picks(cases, peers, heimdal, realm, path):
 
 def keys_of(realm, path):
     """The version number, type, name and bytes of each key of a keytab, as MIT's `klist -kteK` prints them."""
-    for line, key in files.klist_keytab(realm, path):
+    for line, key in klist_keytab(realm, path):
         kvno, etype, _, name = line.split()
         yield kvno, etype, name, key
 
 
-def additions(cases, peers, heimdal, realm, one, other):
+@pytest.mark.parametrize("more", [tickets.KEYTABS[0], tickets.KEYTABS[-1]], ids=slug)
+@EACH_KEYTAB
+def test_add_keys(checks, world, peers, keytab, more):
     """The keys of a keytab added to another, as MIT's `ktutil` puts both into one; no key is there more often than before."""
+    (realm, one), (_, other), heimdal = keytab, world.keytabs[more], world.heimdal
     made, merged = one.with_suffix(f".with-{other.stem}"), one.with_suffix(f".beside-{other.stem}")
     label = f"add-keys: {other.name} to {one.name} of {realm.name}"
-    cases.equal(label, peers.said("add-keys", one, other, made), f"wrote {made.stat().st_size}\n")
+    checks.equal(label, peers.said("add-keys", one, other, made), f"wrote {made.stat().st_size}\n")
     realm.run("default", "ktutil", input=f"rkt {one}\nrkt {other}\nwkt {merged}\nquit\n")
     held, found = list(keys_of(realm, one)), list(keys_of(realm, made))
     lacking = {key for key in keys_of(realm, other)} - set(held)
-    cases.equal(f"{label}, by MIT's ktutil", set(found), set(keys_of(realm, merged)))
-    cases.equal(f"{label}, each once", sorted(found), sorted([*held, *lacking]))
+    checks.equal(f"{label}, by MIT's ktutil", set(found), set(keys_of(realm, merged)))
+    checks.equal(f"{label}, each once", sorted(found), sorted([*held, *lacking]))
     listed = sorted((kvno, etype, name) for kvno, etype, name, _ in found)
-    cases.equal(f"{label}, by Heimdal's ktutil", sorted(listed_by_heimdal(heimdal, made)), listed)
+    checks.equal(f"{label}, by Heimdal's ktutil", sorted(listed_by_heimdal(heimdal, made)), listed)

@@ -1,14 +1,17 @@
 """Requests of ours and theirs that are accepted, and those that are refused, at services of ours and theirs.
 
-A case is one request: what our service and those of both libraries answer to it, each in a new service.
+A check is one request: what our service and those of both libraries answer to it, each in a new service.
 """
-import re
-import textwrap
+import pytest
 
-from support import reference
-from support.kdc import ran
+from support import tickets
+from support.checks import slug
 from support.sides import LIBRARIES, SKEW, first_words, now
-from support.tickets import TOP, Ticket, advice, filled_in
+from support.tickets import LABELS, Ticket
+
+pytestmark = [pytest.mark.packages, pytest.mark.slow, pytest.mark.xdist_group("realms")]
+EACH_TICKET = pytest.mark.parametrize("ticket", LABELS, indirect=True, ids=slug)
+OF_EACH_TYPE = pytest.mark.parametrize("ticket", tickets.OF_EACH_TYPE, indirect=True, ids=slug)
 
 # The libraries' own numbers, which aren't codes of the protocol: Heimdal's where the keytab hasn't the key, and where a request was
 # seen before; MIT's where a ticket is marked invalid.
@@ -18,7 +21,8 @@ HEIMDAL_NO_KEY, HEIMDAL_REPLAY, MIT_INVALID = "refused 182", "refused 163", "ref
 WORDS = [[], ["mutual"], ["subkey"], ["number"], ["checksum"], ["mutual", "etypes"], ["mutual", "subkey", "number", "checksum"]]
 
 
-def their_requests(cases, peers, ticket):
+@EACH_TICKET
+def test_their_requests(checks, peers, ticket):
     """What their clients ask is accepted by our service in one run, in the words of their own service."""
     asked = []
     for library in LIBRARIES:
@@ -33,10 +37,11 @@ def their_requests(cases, peers, ticket):
         known = f"accepted {ticket.client} {ticket.etype} {mode} {ticket.pac}"
         accepted, client, etype, ctime, cusec, their_mode, pac, *_ = their.split()
         name = f"request: {library}'s, {ticket.label}, {' '.join(words) or 'plain'}"
-        cases.equal(name, [f"{accepted} {client} {etype} {their_mode} {pac}", our], [known, f"accepted {client} {etype} {ctime} {cusec} {mode}"])
+        checks.equal(name, [f"{accepted} {client} {etype} {their_mode} {pac}", our], [known, f"accepted {client} {etype} {ctime} {cusec} {mode}"])
 
 
-def our_requests(cases, peers, ticket):
+@EACH_TICKET
+def test_our_requests(checks, peers, ticket):
     """What our client asks is accepted by their services and by ours, with just what was asked."""
     second = now()
     for micros, mode, words in ((7, "plain", []), (999999, "mutual", ["--mutual"]), (0, "mutual", ["--mutual"])):
@@ -44,7 +49,7 @@ def our_requests(cases, peers, ticket):
         wanted = f"accepted {ticket.client} {ticket.etype} {second} {micros} {mode}"
         theirs = [first_words(peers.served(ticket.realm, it, ticket.keytab, [line], ticket.service)[0], 10) for it in LIBRARIES]
         found = [*peers.accept(ticket.keytab, [line]), *theirs]
-        cases.equal(f"request: ours, {ticket.label}, {mode} with {micros} µs", found, [wanted] + [f"{wanted} {ticket.pac} none 0 unsigned"] * 2)
+        checks.equal(f"request: ours, {ticket.label}, {mode} with {micros} µs", found, [wanted] + [f"{wanted} {ticket.pac} none 0 unsigned"] * 2)
 
 
 def requests_of_all(peers, ticket, second):
@@ -66,7 +71,8 @@ def taken(ticket):
     return [f"accepted {ticket.client} {ticket.etype}"] * 3
 
 
-def repeats(cases, peers, ticket):
+@OF_EACH_TYPE
+def test_repeats(checks, peers, ticket):
     """The same request twice to one service."""
     accepted = f"accepted {ticket.client} {ticket.etype}"
     for who, request in requests_of_all(peers, ticket, now()):
@@ -74,29 +80,31 @@ def repeats(cases, peers, ticket):
         ours = peers.accept(ticket.keytab, lines)
         theirs = [[first_words(it, 3) for it in peers.served(ticket.realm, library, ticket.keytab, lines)] for library in LIBRARIES]
         found = [[first_words(ours[0], 3), ours[1]], *theirs]
-        cases.equal(f"refusal: a repeat of {who}, {ticket.label}", found, [[accepted, "refused 34 Repeat"], [accepted, "refused 34"], [accepted, HEIMDAL_REPLAY]])
+        checks.equal(f"refusal: a repeat of {who}, {ticket.label}", found, [[accepted, "refused 34 Repeat"], [accepted, "refused 34"], [accepted, HEIMDAL_REPLAY]])
 
 
-def skewed(cases, peers, ticket):
+@OF_EACH_TYPE
+def test_skewed(checks, peers, ticket):
     """A service whose clock is off by more than the skew, while the ticket is alive."""
     second = now() + 1000
     for who, request in requests_of_all(peers, ticket, second):
         for distance in (-SKEW - 2, SKEW + 2):
             found = answers(peers, ticket, request, second + distance)
-            cases.equal(f"refusal: a clock {distance} s off, of {who}, {ticket.label}", found, ["refused 37 Skew", "refused 37", "refused 37"])
+            checks.equal(f"refusal: a clock {distance} s off, of {who}, {ticket.label}", found, ["refused 37 Skew", "refused 37", "refused 37"])
 
 
-def ended(cases, peers, ticket):
+@OF_EACH_TYPE
+def test_ended(checks, peers, ticket):
     """A ticket that ended before the service's time less the skew; up to then it is taken. We make no request with it after its end."""
     end = ticket.credential()["endtime"]
     for who, request in requests_of_all(peers, ticket, end - 1):
         found = answers(peers, ticket, request, end + SKEW - 5)
-        cases.equal(f"request: an ended ticket within the skew, of {who}, {ticket.label}", found, taken(ticket))
+        checks.equal(f"request: an ended ticket within the skew, of {who}, {ticket.label}", found, taken(ticket))
     for library in LIBRARIES:
         request = peers.asked(ticket.realm, library, ticket.cache, ticket.service, end + 20)
         found = answers(peers, ticket, request, end + SKEW + 3)
-        cases.equal(f"refusal: an ended ticket of {library}, {ticket.label}", found, ["refused 32 Expired", "refused 32", "refused 32"])
-    cases.equal(f"fault: an ended ticket of us, {ticket.label}", not_made(peers, ticket.cache, ticket.service, end), "Expired")
+        checks.equal(f"refusal: an ended ticket of {library}, {ticket.label}", found, ["refused 32 Expired", "refused 32", "refused 32"])
+    checks.equal(f"fault: an ended ticket of us, {ticket.label}", not_made(peers, ticket.cache, ticket.service, end), "Expired")
 
 
 def not_made(peers, cache, service, second):
@@ -106,106 +114,62 @@ def not_made(peers, cache, service, second):
     return said[len("krbtool: request: ") : -1] if named else (out, said, status)
 
 
-def other_services(cases, peers, ticket):
+@OF_EACH_TYPE
+def test_other_services(checks, peers, ticket):
     """A ticket for a service that the keytab hasn't; and tickets that the cache hasn't."""
     other = ticket.realm.folder / "other.keytab"
     for who, request in requests_of_all(peers, ticket, now()):
         found = answers(peers, ticket, request, now(), other)
-        cases.equal(f"refusal: the wrong service, of {who}, {ticket.label}", found, ["refused 35 NotUs", "refused 35", HEIMDAL_NO_KEY])
+        checks.equal(f"refusal: the wrong service, of {who}, {ticket.label}", found, ["refused 35 NotUs", "refused 35", HEIMDAL_NO_KEY])
     for service in (f"host/nobody.example@{ticket.realm.name}", "host/web.example@ELSE.TEST"):
-        cases.equal(f"fault: no ticket for {service}", not_made(peers, ticket.cache, service, now()), "NoCredential")
+        checks.equal(f"fault: no ticket for {service}", not_made(peers, ticket.cache, service, now()), "NoCredential")
 
 
-def turned_tickets(realm):
-    """A service whose key was changed, from number 2 to 300: tickets of both, and keytabs with one, both, or the later and a hole."""
-    service, ktadd = "host/turned.example", advice()[2]
-    both, old, new, holed = (realm.folder / f"turned-{it}.keytab" for it in ("both", "old", "new", "holed"))
-    realm.kadmin("addprinc", "-randkey", service)
-    realm.kadmin(*filled_in(ktadd, both, service))
-    old.write_bytes(both.read_bytes())
-    early = Ticket("the old key", realm, realm.cache("turned-early", "one", [service]), service, 20, True)
-    realm.kadmin("modprinc", "-kvno", "299", service)
-    realm.kadmin(*filled_in(ktadd, both, service))
-    realm.kadmin("ktadd", "-norandkey", "-k", new, service)
-    late = Ticket("the new key", realm, realm.cache("turned-late", "one", [service]), service, 20, True)
-    holed.write_bytes(both.read_bytes())
-    realm.kadmin("ktremove", "-k", holed, service, "2")
-    return (early, [both, old], [new, holed]), (late, [both, new, holed], [old])
-
-
-def lines_below(heading):
-    """The shell's lines below a heading of docs/OPERATING.md, a text for each block."""
-    part = re.search(rf"^#+ {heading}\n(.*?)^#+ ", (TOP / "docs/OPERATING.md").read_text(), re.S | re.M)[1]
-    return [textwrap.dedent(it) for it in re.findall(r"^ *```sh\n(.*?)^ *```$", part, re.S | re.M)]
-
-
-def advised_tickets(realm):
-    """A service that is made, and whose key is then changed, by the lines of docs/OPERATING.md: tickets of both keys, and its keytabs."""
-    service, folder = "HTTP/www.example.com", realm.folder / "advised"
-    both, new = folder / "www.keytab", folder / "new.keytab"
-    folder.mkdir()
-
-    def shell(*blocks):
-        ran(["sh", "-ec", "".join(blocks)], cwd=folder, env=realm.environment("admin"))
-
-    made, (known, given, removed) = lines_below("Keys")[0], lines_below("Without a refused login")
-    shell(made)
-    early = Ticket("the key before an advised change", realm, realm.cache("advised-early", "one", [service]), service, 20, True)
-    both.unlink()
-    shell(known, given)
-    late = Ticket("the key after an advised change", realm, realm.cache("advised-late", "one", [service]), service, 20, True)
-    shell(removed)
-    return (early, [both], [new]), (late, [both, new], [])
-
-
-def turned_keys(cases, peers, realm):
-    for ticket, good, bad in (*turned_tickets(realm), *advised_tickets(realm)):
+def test_turned_keys(checks, world, peers):
+    for ticket, good, bad in world.turned:
         for who, request in requests_of_all(peers, ticket, now()):
             for keytab in good:
-                cases.equal(f"request: by {ticket.label} of {who} to {keytab.stem}", answers(peers, ticket, request, now(), keytab), taken(ticket))
+                checks.equal(f"request: by {ticket.label} of {who} to {keytab.stem}", answers(peers, ticket, request, now(), keytab), taken(ticket))
             for keytab in bad:
                 found = answers(peers, ticket, request, now(), keytab)
-                cases.equal(f"refusal: by {ticket.label} of {who} to {keytab.stem}", found, ["refused 44 BadKeyVersion", "refused 44", HEIMDAL_NO_KEY])
+                checks.equal(f"refusal: by {ticket.label} of {who} to {keytab.stem}", found, ["refused 44 BadKeyVersion", "refused 44", HEIMDAL_NO_KEY])
 
 
-def old_types(cases, peers, realm):
+def test_old_types(checks, world, peers):
     """Tickets and session keys of type 18 are refused in the words of docs/ACCEPTANCE.md, and we make no requests with them."""
-    cache = realm.cache("old", "default", ["host/plain.example", "host/old.example"])
+    realm, cache = world.mit, world.old_types
     for service, answer in (("host/plain.example", "refused 14 SessionKey"), ("host/old.example", "refused 14 TicketEtype")):
         ticket = Ticket("type 18", realm, cache, service, 18, True)
         for library in LIBRARIES:
             found = answers(peers, ticket, peers.asked(realm, library, cache, ticket.service), now())
-            cases.equal(f"refusal: type 18 of {library} for {service}", found, [answer, *taken(ticket)[1:]])
-        cases.equal(f"fault: type 18 for {service}", not_made(peers, cache, ticket.service, now()), "NoUsableKey")
+            checks.equal(f"refusal: type 18 of {library} for {service}", found, [answer, *taken(ticket)[1:]])
+        checks.equal(f"fault: type 18 for {service}", not_made(peers, cache, ticket.service, now()), "NoUsableKey")
 
 
-def postdated(cases, peers, realm):
+def test_postdated(checks, world, peers):
     """A ticket that begins in an hour and wasn't validated: refused before it begins, when their clients won't send it, and afterwards."""
-    cache = realm.cache("postdated", "one", [], ["-s", "1h", "-S", f"host/web.example@{realm.name}"])
-    ticket = Ticket("postdated", realm, cache, "host/web.example", 20, True)
+    cache = world.postdated
+    ticket = Ticket("postdated", world.mit, cache, "host/web.example", 20, True)
     begins = ticket.credential()["starttime"]
     early = begins - SKEW - 30
     found = answers(peers, ticket, peers.request(cache, ticket.service, early), early)
-    cases.equal("refusal: a postdated ticket of us", found, ["refused 33 NotYetValid", "refused 33", "refused 33"])
+    checks.equal("refusal: a postdated ticket of us", found, ["refused 33 NotYetValid", "refused 33", "refused 33"])
     for who, request in requests_of_all(peers, ticket, begins):
         found = answers(peers, ticket, request, begins)
-        cases.equal(f"refusal: an invalid ticket of {who}", found, ["refused 33 NotYetValid", MIT_INVALID, "refused 33"])
+        checks.equal(f"refusal: an invalid ticket of {who}", found, ["refused 33 NotYetValid", MIT_INVALID, "refused 33"])
 
 
-def wrong_keys(cases, peers, realm):
+def test_wrong_keys(checks, world, peers):
     """A keytab whose keys of the right name and version number aren't the KDC's."""
-    ticket = Ticket("a wrong key", realm, realm.folder / "one.ccache", "host/plain.example", 20, True)
-    keytab = realm.folder / "wrong.keytab"
-    turned = [{**it, "key": it["key"][::-1]} for it in reference.keytab(ticket.keytab.read_bytes())]
-    keytab.write_bytes(b"\x05\x02" + b"".join(map(reference.record_of, turned)))
+    ticket = world.tickets["permitted_enctypes of one client, 20"]
     for who, request in requests_of_all(peers, ticket, now()):
-        found = answers(peers, ticket, request, now(), keytab)
-        cases.equal(f"refusal: a wrong key, of {who}", found, ["refused 31 TicketIntegrity", "refused 31", "refused 31"])
+        found = answers(peers, ticket, request, now(), world.wrong_keytab)
+        checks.equal(f"refusal: a wrong key, of {who}", found, ["refused 31 TicketIntegrity", "refused 31", "refused 31"])
 
 
-def other_messages(cases, peers, realm):
+def test_other_messages(checks, world, peers):
     """What a client may send in place of a request: user-to-user, a GSS-API token around it, a part of it, and more."""
-    ticket = Ticket("", realm, realm.folder / "one.ccache", "host/plain.example", 20, True)
+    realm, ticket = world.mit, world.tickets["permitted_enctypes of one client, 20"]
     asked = bytes.fromhex(peers.asked(realm, "MIT", ticket.cache, ticket.service))
     token = bytes.fromhex("06092a864886f712010202" "0100") + asked
     wrapped = b"\x60\x82" + len(token).to_bytes(2, "big") + token
@@ -217,4 +181,9 @@ def other_messages(cases, peers, realm):
         ("with a byte after it", asked.hex() + "00", "refused 60 Malformed"),
         ("with its last byte changed", asked[:-1].hex() + f"{asked[-1] ^ 1:02x}", "refused 31 AuthenticatorIntegrity"),
     ):
-        cases.equal(f"refusal: a request {name}", peers.accept(ticket.keytab, [f"{now()} 0 {message}"]), [answer])
+        checks.equal(f"refusal: a request {name}", peers.accept(ticket.keytab, [f"{now()} 0 {message}"]), [answer])
+
+
+def test_labels(world):
+    """Each ticket has tests."""
+    assert tuple(world.tickets) == LABELS

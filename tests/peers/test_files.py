@@ -2,19 +2,14 @@
 import re
 from datetime import datetime, timezone
 
-from support import reference
-from support.kdc import PASSWORD
-from support.sides import now
-from support.tickets import AES128, AES256, NUMBERS, Ticket
+import pytest
 
-def klist_keytab(realm, path):
-    """The lines that we print for a keytab, as klist of MIT krb5 tells them, and with each its key."""
-    lines = realm.run("default", "klist", "-kteK", path).splitlines()
-    begin = next(at for at, line in enumerate(lines) if line.startswith("----"))
-    for line in lines[begin + 1 :]:
-        kvno, day, hour, principal, etype, key = line.split()
-        moment = datetime.strptime(f"{day} {hour}", "%m/%d/%y %H:%M:%S").replace(tzinfo=timezone.utc)
-        yield f"{kvno} {NUMBERS[etype.strip('()')]} {int(moment.timestamp())} {principal}", key
+from support import reference, tickets
+from support.checks import slug
+from support.sides import now
+from support.tickets import NUMBERS, Ticket, klist_keytab
+
+pytestmark = [pytest.mark.packages, pytest.mark.slow, pytest.mark.xdist_group("realms")]
 
 
 def ktutil_keytab(realm, path):
@@ -23,20 +18,21 @@ def ktutil_keytab(realm, path):
     return [line.split()[1:3] for line in said[begin + 1 :] if line.split() and line.split()[0].isdigit()]
 
 
-def keytabs(cases, peers, heimdal, paths):
+@pytest.mark.parametrize("keytab", tickets.KEYTABS, indirect=True, ids=slug)
+def test_keytab(checks, world, peers, keytab):
     """Keytabs that the tools made are listed and counted as MIT's klist does; their converted form is the same to klist, ktutil and
     Heimdal's ktutil."""
-    for realm, path in paths:
-        told = list(klist_keytab(realm, path))
-        lines = [line for line, _ in told]
-        cases.equal(f"file: list-keytab {path.name}", peers.said("list-keytab", path).splitlines(), lines)
-        cases.equal(f"file: check-keytab {path.name}", peers.said("check-keytab", path), f"ok {len(lines)}\n")
-        made = path.with_suffix(".converted")
-        cases.equal(f"file: convert-keytab {path.name}", peers.said("convert-keytab", path, made), f"wrote {made.stat().st_size}\n")
-        cases.equal(f"file: klist of the converted {path.name}", list(klist_keytab(realm, made)), told)
-        cases.equal(f"file: ktutil of the converted {path.name}", ktutil_keytab(realm, made), [[line.split()[0], line.split()[3]] for line in lines])
-        listed = [heimdal.ktutil(it, "list", "--keys", "--timestamp").splitlines()[1:] for it in (path, made)]
-        cases.equal(f"file: Heimdal's ktutil of the converted {path.name}", listed[1], listed[0])
+    (realm, path), heimdal = keytab, world.heimdal
+    told = list(klist_keytab(realm, path))
+    lines = [line for line, _ in told]
+    checks.equal(f"file: list-keytab {path.name}", peers.said("list-keytab", path).splitlines(), lines)
+    checks.equal(f"file: check-keytab {path.name}", peers.said("check-keytab", path), f"ok {len(lines)}\n")
+    made = path.with_suffix(".converted")
+    checks.equal(f"file: convert-keytab {path.name}", peers.said("convert-keytab", path, made), f"wrote {made.stat().st_size}\n")
+    checks.equal(f"file: klist of the converted {path.name}", list(klist_keytab(realm, made)), told)
+    checks.equal(f"file: ktutil of the converted {path.name}", ktutil_keytab(realm, made), [[line.split()[0], line.split()[3]] for line in lines])
+    listed = [heimdal.ktutil(it, "list", "--keys", "--timestamp").splitlines()[1:] for it in (path, made)]
+    checks.equal(f"file: Heimdal's ktutil of the converted {path.name}", listed[1], listed[0])
 
 
 FLAG_LETTERS = {1: "F", 2: "f", 3: "P", 4: "p", 5: "D", 6: "d", 7: "i", 8: "R", 9: "I", 11: "H", 10: "A", 12: "T", 13: "O", 16: "a"}
@@ -70,32 +66,35 @@ def ours_as_klist(text):
     return told
 
 
-def caches(cases, peers, paths):
+@pytest.mark.parametrize("cache", tickets.CACHES, indirect=True, ids=slug)
+def test_cache(checks, peers, cache):
     """Caches that the tools made are listed as by their format's rules and by klist; their converted form is the same to klist, and is used."""
-    for realm, path in paths:
-        name, data = f"{path.stem} of {realm.name}", path.read_bytes()
-        listed = peers.said("list-ccache", path)
-        cases.equal(f"file: list-ccache {name}", listed, reference.list_ccache(data))
-        cases.equal(f"file: klist of {name}", ours_as_klist(listed), klist_cache(realm, path))
-        cases.equal(f"file: check-ccache {name}", peers.said("check-ccache", path), reference.check_ccache(data))
-        made = path.with_suffix(".converted")
-        wanted = reference.convert_ccache(data)
-        cases.equal(f"file: convert-ccache {name}", peers.said("convert-ccache", path, made), f"wrote {len(wanted)}\n")
-        cases.equal(f"file: the converted {name}", made.read_bytes(), wanted)
-        cases.equal(f"file: klist of the converted {name}", klist_cache(realm, made), klist_cache(realm, path))
-        cases.equal(f"file: Heimdal's klist of the converted {name}", heimdal_klist(realm, made), converted(heimdal_klist(realm, path)))
+    realm, path = cache
+    name, data = f"{path.stem} of {realm.name}", path.read_bytes()
+    listed = peers.said("list-ccache", path)
+    checks.equal(f"file: list-ccache {name}", listed, reference.list_ccache(data))
+    checks.equal(f"file: klist of {name}", ours_as_klist(listed), klist_cache(realm, path))
+    checks.equal(f"file: check-ccache {name}", peers.said("check-ccache", path), reference.check_ccache(data))
+    made = path.with_suffix(".converted")
+    wanted = reference.convert_ccache(data)
+    checks.equal(f"file: convert-ccache {name}", peers.said("convert-ccache", path, made), f"wrote {len(wanted)}\n")
+    checks.equal(f"file: the converted {name}", made.read_bytes(), wanted)
+    checks.equal(f"file: klist of the converted {name}", klist_cache(realm, made), klist_cache(realm, path))
+    checks.equal(f"file: Heimdal's klist of the converted {name}", heimdal_klist(realm, made), converted(heimdal_klist(realm, path)))
 
 
-def old_cache(cases, peers, ticket):
+def test_old_cache(checks, world, peers):
     """A cache that Heimdal wrote with `fcache_version = 3` is of version 0x0503, and its converted form of 0x0504; both give requests."""
-    cases.equal("file: the version that Heimdal writes", ticket.cache.read_bytes()[:2], reference.OLD)
-    made = ticket.cache.with_suffix(".converted")
-    cases.equal("file: the version that we write", made.read_bytes()[:2], reference.NEW)
+    ticket = world.tickets["a cache of version 0x0503, 19"]
+    checks.equal("file: the version that Heimdal writes", ticket.cache.read_bytes()[:2], reference.OLD)
+    made = ticket.cache.with_suffix(".newer")
+    peers.said("convert-ccache", ticket.cache, made)
+    checks.equal("file: the version that we write", made.read_bytes()[:2], reference.NEW)
     second = now()
     for version, cache in (("0x0503", ticket.cache), ("0x0504", made)):
         line = f"{second} 0 {peers.request(cache, ticket.service, second, 5)}"
         wanted = f"accepted {ticket.client} {ticket.etype} {second} 5 plain"
-        cases.equal(f"file: a request of the cache of version {version}", peers.accept(ticket.keytab, [line]), [wanted])
+        checks.equal(f"file: a request of the cache of version {version}", peers.accept(ticket.keytab, [line]), [wanted])
 
 
 def converted(lines):
@@ -107,32 +106,16 @@ def heimdal_klist(realm, path):
     return realm.run("default", realm.heimdal / "usr/bin/heimtools", "klist", "-v", "-c", path).splitlines()[1:]
 
 
-def used(cases, peers, realm, kind, name):
+@pytest.mark.parametrize("keytab, kind, name", [
+    ("alice of PEER.TEST", "one", "host/plain.example"), ("alice of HEIM.TEST", "default", "host/web.example")], indirect=["keytab"])
+def test_used(checks, peers, keytab, kind, name):
     """A converted keytab logs a user in, and a converted cache fetches a ticket."""
-    made, cache = realm.folder / "alice.converted", realm.folder / "used.ccache"
+    realm, path = keytab
+    made, cache = realm.folder / "alice.used", realm.folder / "used.ccache"
+    peers.said("convert-keytab", path, made)
     copy = realm.folder / "used.converted"
     realm.run(kind, "kinit", "-c", cache, "-k", "-t", made, "alice")
     peers.said("convert-ccache", cache, copy)
     realm.run(kind, "kvno", "-q", "-c", copy, name)
     ticket = Ticket("", realm, copy, name, 20, True)
-    cases.equal(f"file: a ticket by our files from {realm.name}", ticket.credential()["etype"], 20)
-
-
-def of_mit(realm):
-    """Keytabs of kadmin and ktutil: several services and types, version numbers above 255, holes, and what ktutil took out."""
-    folder = realm.folder
-    realm.kadmin("ktadd", "-norandkey", "-k", folder / "alice.keytab", "alice")
-    realm.run("default", "ktutil", input=f"rkt {folder}/web.keytab\nrkt {folder}/turned-holed.keytab\ndelent 2\nwkt {folder}/merged.keytab\nquit\n")
-    names = ("web", "alice", "merged", "turned-both", "turned-new", "turned-holed", "wrong")
-    return [(realm, folder / f"{name}.keytab") for name in names]
-
-
-def of_heimdal(realm):
-    """Keytabs of Heimdal's kadmin and ktutil, one with an entry taken out and one with another put into its place."""
-    folder = realm.folder
-    realm.kadmin("ext_keytab", "-k", folder / "alice.keytab", "alice")
-    (folder / "holed-web.keytab").write_bytes((folder / "web.keytab").read_bytes())
-    realm.ktutil(folder / "holed-web.keytab", "remove", "-p", "host/web.example", "-e", AES256)
-    (folder / "filled-web.keytab").write_bytes((folder / "holed-web.keytab").read_bytes())
-    realm.ktutil(folder / "filled-web.keytab", "add", "-p", "bob", "-V", "70000", "-e", AES128, "-w", PASSWORD)
-    return [(realm, folder / f"{name}.keytab") for name in ("web", "alice", "holed-web", "filled-web")]
+    checks.equal(f"file: a ticket by our files from {realm.name}", ticket.credential()["etype"], 20)

@@ -1,15 +1,26 @@
 """Replies and errors: theirs read by our client, and ours by theirs. Our side is the library, by the program of the crate krb_calls_exchange."""
 from pathlib import Path
 
+import pytest
+
+from support import calls, tickets
+from support.checks import slug
 from support.exchange_made import name_word, parts_of
 from support.kdc import ran
 from support.sides import LIBRARIES, now
 
+pytestmark = [pytest.mark.packages, pytest.mark.slow, pytest.mark.xdist_group("realms")]
+OF_EACH_TYPE = pytest.mark.parametrize("ticket", tickets.OF_EACH_TYPE, indirect=True, ids=slug)
 HIGHEST = 4294967295
 CONFOUNDER = "5a" * 16
 SUBKEY = f"20/{'07' * 32}"
 # The type of a service's name (NT-SRV-HST, RFC 4120, section 6.2).
 SERVICE = 3
+
+
+@pytest.fixture(scope="module")
+def sides_program():
+    return calls.built("krb_calls_exchange")
 
 
 def text_of(name):
@@ -56,34 +67,37 @@ class Sides:
         return accepted.split()[0], refused, reply, error
 
 
-def theirs_to_ours(cases, peers, program, ticket):
+@OF_EACH_TYPE
+def test_theirs_to_ours(checks, peers, sides_program, ticket):
     """Replies of their services, with and without a subkey and a number of theirs, to requests of ours, with and without ours."""
     for how, given in (("none", "none 0"), ("chosen", f"20 {HIGHEST}")):
         for library in LIBRARIES:
             for words in ([], ["number"], ["subkey"], ["subkey", "number"]):
-                sides = Sides(program, ticket, now(), how)
+                sides = Sides(sides_program, ticket, now(), how)
                 line = f"{sides.second} 0 {sides.asked(7)}"
                 *told, subkey, number, reply = peers.served(ticket.realm, library, ticket.keytab, [line], ticket.service, words)[0].split()
                 wanted = f"agreed {ticket.client} {ticket.etype} {subkey.replace('none', '0')} {number if 'number' in words else -1}"
                 name = f"reply: {library}'s to ours, {ticket.label}, {how}, {' '.join(words) or 'plain'}"
-                cases.equal(name, [" ".join(told[7:9]), sides.finished(7, reply)], [given, wanted])
-                cases.equal(f"{name}, to another request", sides.finished(8, reply), "refused Mismatch")
+                checks.equal(name, [" ".join(told[7:9]), sides.finished(7, reply)], [given, wanted])
+                checks.equal(f"{name}, to another request", sides.finished(8, reply), "refused Mismatch")
 
 
-def ours_to_theirs(cases, peers, program, ticket):
+@OF_EACH_TYPE
+def test_ours_to_theirs(checks, peers, sides_program, ticket):
     """Replies of ours, with and without a subkey and a number, to requests of theirs; and the error that we send for a repeat."""
     for how, wanted in (("none", "agreed none 0"), ("chosen", f"agreed 20 {HIGHEST}")):
         for library in LIBRARIES:
             for words in (["mutual"], ["mutual", "subkey", "number"]):
-                sides = Sides(program, ticket, now(), how)
+                sides = Sides(sides_program, ticket, now(), how)
                 client, request = peers.client(ticket.realm, library, ticket.cache, ticket.service, 0, words)
                 accepted, refused, reply, error = sides.served(9, request)
                 told = client.communicate(f"{reply}\n{error}\n", timeout=60)[0].splitlines()
                 name = f"reply: ours to {library}'s, {ticket.label}, {how}, {' '.join(words)}"
-                cases.equal(name, [accepted, refused, *told], ["accepted", "refused Repeat", wanted, f"error 34 {sides.second} 9 {ticket.service}"])
+                checks.equal(name, [accepted, refused, *told], ["accepted", "refused Repeat", wanted, f"error 34 {sides.second} 9 {ticket.service}"])
 
 
-def commands_to_theirs(cases, peers, ticket):
+@OF_EACH_TYPE
+def test_commands_to_theirs(checks, peers, ticket):
     """What the command accept puts after its answers, given to their clients: a reply, and the error for the same request again."""
     for library in LIBRARIES:
         second = now()
@@ -93,11 +107,4 @@ def commands_to_theirs(cases, peers, ticket):
         reply, error = accepted.partition(" reply ")[2], refused.partition(" error ")[2]
         told = client.communicate(f"{reply}\n{error}\n", timeout=60)[0].splitlines()
         wanted = ["agreed none 0", f"error 34 {second} 9 {ticket.service}"]
-        cases.equal(f"reply: the command's to {library}'s, {ticket.label}", told, wanted)
-
-
-def exchanged(cases, peers, program, tickets):
-    for ticket in tickets:
-        commands_to_theirs(cases, peers, ticket)
-        theirs_to_ours(cases, peers, program, ticket)
-        ours_to_theirs(cases, peers, program, ticket)
+        checks.equal(f"reply: the command's to {library}'s, {ticket.label}", told, wanted)

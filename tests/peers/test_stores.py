@@ -2,8 +2,7 @@
 
 Each of thousands of requests is delivered to four instances at the same time, in random order: it is let in exactly once.
 Meanwhile instances are killed and started again, or the store is: then none is let in twice, and none while the store is down. A store that
-doesn't answer in time lets nobody in, nor does an instance that gets the answer too late. Each check is a pair: its name, and what is
-wrong, or None.
+doesn't answer in time lets nobody in, nor does an instance that gets the answer too late.
 """
 import contextlib
 import itertools
@@ -11,16 +10,16 @@ import os
 import random
 import signal
 import subprocess
-import sys
 import threading
 import time
 from collections import Counter
 from concurrent.futures import ThreadPoolExecutor
-from pathlib import Path
 
-from support import store_servers
+import pytest
 
-TOP = Path(__file__).resolve().parent.parent
+from support import TESTS, TOP, c_programs, store_servers
+
+pytestmark = [pytest.mark.packages, pytest.mark.slow]
 PYTHON = "/usr/bin/python3"
 SERVICE = [TOP / "examples/service.keytab", "host/web@EX"]
 # How many requests there are in each phase (PostgreSQL takes some milliseconds for each), and more for what comes after the phases.
@@ -282,31 +281,41 @@ def made_requests(cache, count, library, ago=0):
     return ran.stdout.split()
 
 
-def checks(folder, library, program, cache):
-    """`cache` has a ticket for host/web@EX that is valid now; `program` is examples/service/shared.c; clock.so is in the folder."""
+# ---------------------------------------------------------------- tests
+
+
+@pytest.fixture(scope="module")
+def folder(library, tmp_path_factory):
+    """A folder with another clock, the service in C, and a cache that has a ticket for host/web@EX that is valid now."""
+    made = tmp_path_factory.mktemp("stores")
+    c_programs.well(c_programs.run("gcc", "-shared", "-fPIC", *c_programs.STRICT[:3], TESTS / "support/clock.c", "-o", made / "clock.so"))
+    source = TOP / "examples/service/shared.c"
+    c_programs.linked(library.parent / "libkrb_c.a", made / "shared", "-D_DEFAULT_SOURCE", source, "-lhiredis")
+    (made / "cache").write_bytes(c_programs.current_cache(int(time.time()) - 60))
+    return made
+
+
+def in_python(store, wait, again=False):
+    return [PYTHON, "-B", TOP / "examples/shared.py", *SERVICE, *store.words, "--wait", wait, *["--again"][:again]]
+
+
+def test_redis(folder, library, checks):
+    """Two instances in C and two in Python."""
     def in_c(store, wait, again=False):
-        return [program, *SERVICE, store.socket, wait, *["again"][:again]]
+        return [folder / "shared", *SERVICE, store.socket, wait, *["again"][:again]]
 
-    def in_python(store, wait, again=False):
-        return [PYTHON, "-B", TOP / "examples/shared.py", *SERVICE, *store.words, "--wait", wait, *["--again"][:again]]
-
-    for make, kinds in ((store_servers.Redis, [in_c, in_c, in_python, in_python]), (store_servers.Postgres, [in_python] * 4)):
-        store = None
-        try:
-            requests = made_requests(cache, sum(REQUESTS[make.name]) + MORE, library)
-            store = make()
-            for name, fault in over(store, kinds, folder, library, requests):
-                yield f"{store.name}: {name}", fault
-            if make is store_servers.Postgres:
-                yield from old_stamps(store)
-            else:
-                yield from user_of_redis()
-        except (OSError, ValueError, LookupError, subprocess.SubprocessError) as error:
-            yield f"{make.name}: instances that share a store", repr(error)
-        finally:
-            if store:
-                store.close()
+    requests = made_requests(folder / "cache", sum(REQUESTS["Redis"]) + MORE, library)
+    with contextlib.closing(store_servers.Redis()) as store:
+        checks.all(over(store, [in_c, in_c, in_python, in_python], folder, library, requests))
 
 
-if __name__ == "__main__":
-    sys.exit("tests/c_library.py runs these checks")
+def test_user_of_redis(checks):
+    checks.all(user_of_redis())
+
+
+def test_postgresql(folder, library, checks):
+    """Four instances in Python."""
+    requests = made_requests(folder / "cache", sum(REQUESTS["PostgreSQL"]) + MORE, library)
+    with contextlib.closing(store_servers.Postgres()) as store:
+        checks.all(over(store, [in_python] * 4, folder, library, requests))
+        checks.all(old_stamps(store))

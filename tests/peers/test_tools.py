@@ -1,35 +1,17 @@
-"""MIT krb5's own tools on files that the built program wrote (Debian's package krb5-user).
-
-Each check is a pair: its name, and what is wrong, or None.
-"""
+"""MIT krb5's own tools on files that the built program wrote (Debian's package krb5-user)."""
 import datetime
 import os
 import re
 import struct
-import subprocess
-import tempfile
-from itertools import chain, product
-from pathlib import Path
+from itertools import product
 
-from support import generated
-from support import readable
-from support import reference
+import pytest
 
-from support import fixture
+from support import EXAMPLES, fixture, generated, reference
+from support.kdc import ran
 
-TOP = Path(__file__).resolve().parent.parent
+pytestmark = pytest.mark.packages
 TYPES = {19: "aes128-cts-hmac-sha256-128", 20: "aes256-cts-hmac-sha384-192"}
-
-
-def ran(command, **more):
-    """Standard output of a command that ended well; else what it said is raised."""
-    try:
-        done = subprocess.run(command, stdout=subprocess.PIPE, stderr=subprocess.PIPE, timeout=60, text=True, **more)
-    except (OSError, subprocess.TimeoutExpired) as error:
-        raise RuntimeError(str(error)) from None
-    if done.returncode:
-        raise RuntimeError(f"{command[0]} ended with {done.returncode}: {done.stderr[:300]!r}")
-    return done.stdout
 
 
 def listed_by_klist(path):
@@ -52,11 +34,9 @@ def told_by_the_rules(data):
     ]
 
 
-def keytabs():
-    for path in sorted((TOP / "examples").glob("*.keytab")):
-        yield path.name, path.read_bytes()
-    yield "fixture", generated.FIXTURE_KEYTAB
-    yield "holes", generated.HOLED_KEYTAB
+KEYTABS = {**{it.name: it.read_bytes() for it in sorted(EXAMPLES.glob("*.keytab"))}, "fixture": generated.FIXTURE_KEYTAB,
+           "holes": generated.HOLED_KEYTAB}
+CACHES = {**{it.name: it.read_bytes() for it in sorted(EXAMPLES.glob("*.ccache"))}, "fixture": generated.FIXTURE_CACHE}
 
 
 def converted(program, command, folder, name, data):
@@ -67,14 +47,12 @@ def converted(program, command, folder, name, data):
     return given, made
 
 
-def keytab_checks(program, folder):
-    for name, data in keytabs():
-        _, made = converted(program, "convert-keytab", folder, name, data)
-        wanted = told_by_the_rules(data)
-        found = [(it[0], it[3], it[4], it[5]) for it in listed_by_klist(made)]
-        yield f"klist on the converted {name}", None if found == wanted else f"it lists {found}, not {wanted}"
-        found = [it[:3] for it in listed_by_ktutil(made)]
-        yield f"ktutil on the converted {name}", None if found == [it[:3] for it in wanted] else f"it lists {found}"
+@pytest.mark.parametrize("name", KEYTABS)
+def test_converted_keytab(program, tmp_path, name):
+    _, made = converted(program, "convert-keytab", tmp_path, name, KEYTABS[name])
+    wanted = told_by_the_rules(KEYTABS[name])
+    assert [(it[0], it[3], it[4], it[5]) for it in listed_by_klist(made)] == wanted
+    assert [it[:3] for it in listed_by_ktutil(made)] == [it[:3] for it in wanted]
 
 
 def keys_of(path):
@@ -82,18 +60,16 @@ def keys_of(path):
     return [(it[0], *it[3:6]) for it in listed_by_klist(path)]
 
 
-def added_checks(program, folder):
+@pytest.mark.parametrize("name, other", product(KEYTABS, repeat=2))
+def test_added_keys(program, tmp_path, name, other):
     """The keys of a keytab added to another are those that ktutil puts into one from both, and none is there more often than before."""
-    for (name, data), (other, keys) in product(keytabs(), repeat=2):
-        one, two, made, merged = (folder / f"added.{word}" for word in ("one", "two", "made", "merged"))
-        one.write_bytes(data)
-        two.write_bytes(keys)
-        merged.unlink(missing_ok=True)
-        ran([program, "add-keys", str(one), str(two), str(made)])
-        ran(["ktutil"], input=f"read_kt {one}\nread_kt {two}\nwrite_kt {merged}\nquit\n")
-        found, held, theirs = keys_of(made), keys_of(one), keys_of(merged)
-        wanted = sorted([*held, *(set(theirs) - set(held))])
-        yield f"ktutil's keys of {name} and of {other}", None if sorted(found) == wanted else f"it has {found}, not {wanted}"
+    one, two, made, merged = (tmp_path / word for word in ("one", "two", "made", "merged"))
+    one.write_bytes(KEYTABS[name])
+    two.write_bytes(KEYTABS[other])
+    ran([program, "add-keys", one, two, made])
+    ran(["ktutil"], input=f"read_kt {one}\nread_kt {two}\nwrite_kt {merged}\nquit\n")
+    held = keys_of(one)
+    assert sorted(keys_of(made)) == sorted([*held, *(set(keys_of(merged)) - set(held))])
 
 
 def listed_caches(path):
@@ -101,21 +77,14 @@ def listed_caches(path):
     return ran(["klist", "-e", "-f", "-c", f"FILE:{path}"], env={**os.environ, "TZ": "UTC"}).splitlines()[1:]
 
 
-def caches():
-    for path in sorted((TOP / "examples").glob("*.ccache")):
-        yield path.name, path.read_bytes()
-    yield "fixture cache", generated.FIXTURE_CACHE
-
-
-def cache_checks(program, folder):
+@pytest.mark.parametrize("name", CACHES)
+def test_converted_cache(program, tmp_path, name):
     """A converted cache is the same to klist as the one that it was made of, and names the services that we list."""
-    for name, data in caches():
-        given, made = converted(program, "convert-ccache", folder, name, data)
-        told = listed_caches(made)
-        yield f"klist on the converted {name}", None if told == listed_caches(given) else f"it says {told}"
-        ours = [line.split()[-1] for line in ran([program, "list-ccache", str(made)]).splitlines() if line.startswith("ticket ")]
-        theirs = [line.split()[-1] for line in told if line[:2].isdigit()]
-        yield f"klist's services of {name}", None if ours == theirs else f"klist lists {theirs}, we {ours}"
+    given, made = converted(program, "convert-ccache", tmp_path, name, CACHES[name])
+    told = listed_caches(made)
+    assert told == listed_caches(given)
+    ours = [line.split()[-1] for line in ran([program, "list-ccache", made]).splitlines() if line.startswith("ticket ")]
+    assert ours == [line.split()[-1] for line in told if line[:2].isdigit()]
 
 
 def moment(day, clock):
@@ -164,29 +133,18 @@ def with_flags(number):
     return b"\x05\x04\x00\x00" + client + made
 
 
-def flagged():
-    """A cache for each flag."""
-    return ((f"a ticket with flag {bit}", with_flags(1 << (31 - bit))) for bit in range(32))
+@pytest.mark.parametrize("name", KEYTABS)
+def test_table_of_a_keytab(program, tmp_path, name):
+    """The table has the names, types and times that klist prints."""
+    (tmp_path / "keys").write_bytes(KEYTABS[name])
+    ours = rows_of(ran([program, "list-keytab", "--readable", tmp_path / "keys"]))
+    assert ours and ours == klist_keys(tmp_path / "keys")
 
 
-def readable_checks(program, folder):
-    """The tables of real files, and of a ticket with each flag, have the names, types, flags and times that klist prints."""
-    for name, data in keytabs():
-        (folder / "keys").write_bytes(data)
-        ours, theirs = rows_of(ran([program, "list-keytab", "--readable", str(folder / "keys")])), klist_keys(folder / "keys")
-        yield f"the table of {name}, and klist", None if ours == theirs and ours else f"klist lists {theirs}, we {ours}"
-    for name, data in chain(caches(), flagged()):
-        (folder / "cache").write_bytes(data)
-        ours, theirs = our_tickets(ran([program, "list-ccache", "--readable", str(folder / "cache")])), klist_tickets(folder / "cache")
-        yield f"the table of {name}, and klist", None if ours == theirs and ours else f"klist lists {theirs}, we {ours}"
-
-
-def checks(program):
-    with tempfile.TemporaryDirectory(prefix="krbtool-peers-") as folder:
-        try:
-            yield from keytab_checks(program, Path(folder))
-            yield from added_checks(program, Path(folder))
-            yield from cache_checks(program, Path(folder))
-            yield from readable_checks(program, Path(folder))
-        except (RuntimeError, StopIteration) as error:
-            yield "a tool of krb5-user", str(error)
+@pytest.mark.parametrize("name", [*CACHES, *(f"flag-{bit}" for bit in range(32))])
+def test_table_of_a_cache(program, tmp_path, name):
+    """The table of a real file, or of a ticket with this flag, has the names, types, flags and times that klist prints."""
+    bit = name.removeprefix("flag-")
+    (tmp_path / "cache").write_bytes(with_flags(1 << (31 - int(bit))) if bit != name else CACHES[name])
+    ours = our_tickets(ran([program, "list-ccache", "--readable", tmp_path / "cache"]))
+    assert ours and ours == klist_tickets(tmp_path / "cache")

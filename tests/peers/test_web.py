@@ -6,27 +6,25 @@ Our client, and the tokens of krbtool, log in at a service over MIT's GSS-API, t
 Each is let in with its own name, and verifies the answer token if it can. A ticket for another service, an expired ticket, a wrong clock, a
 repeat, a bent token, another mechanism, a service's start and what isn't a token are refused, by name in the service's log. Java gets each
 ticket from the KDC, which refuses a client with a wrong clock, and gokrb5 asks the kernel for the time. So these two have a right clock, and
-the service's is wrong; and they have no expired ticket. gokrb5 looks at no answer token; nor does curl. Each check is a pair: its name, and
-what is wrong, or None.
+the service's is wrong; and they have no expired ticket. gokrb5 looks at no answer token; nor does curl.
 """
 import base64
 import contextlib
+import functools
 import http.client
 import os
 import re
 import socket
 import struct
 import subprocess
-import sys
 import time
-from pathlib import Path
 
-TOP = Path(__file__).resolve().parent.parent
-WEB = TOP / "tests/web"
-KRBTOOL = TOP / "crates/krbtool/out/krbtool"
-from support import kdc
-from support import tickets
+import pytest
 
+from support import TESTS, TOP, kdc, tickets
+
+pytestmark = [pytest.mark.packages, pytest.mark.slow, pytest.mark.xdist_group("web")]
+WEB = TESTS / "peers/web"
 REALM, SERVICE, OTHER = "WEB.TEST", "HTTP/localhost", "HTTP/other.test"
 ALICE = f"alice@{REALM}"
 PYTHON = "/usr/bin/python3"
@@ -187,30 +185,33 @@ class World:
             yield from refused(self.later, f"{name} with an expired ticket", expired, EXPIRED)
 
 
-def built_clients(folder, realm):
-    """The clients, of which some are compiled, and the words for Java's."""
-    java = ["java", "-XX:TieredStopAtLevel=1", f"-Djava.security.krb5.conf={realm.folder}/default.conf",
+def java_words(folder, realm):
+    return ["java", "-XX:TieredStopAtLevel=1", f"-Djava.security.krb5.conf={realm.folder}/default.conf",
             "-Djavax.security.auth.useSubjectCredsOnly=false", "-cp", folder / "java", "Client"]
-    heimdal = kdc.ran(["krb5-config.heimdal", "--cflags", "--libs", "gssapi"]).split()
-    kdc.ran(["gcc", "-std=c99", "-Wall", "-Wextra", "-Werror", "-pedantic", WEB / "client.c", *heimdal, "-o", folder / "heimdal"])
+
+
+def in_java(folder, realm):
     kdc.ran(["javac", "-d", folder / "java", WEB / "Client.java"])
+    return Client("Java's GSS-API", java_words(folder, realm), ["bare", "spnego"], has_clock=False)
+
+
+def over_heimdal(folder, _):
+    flags = kdc.ran(["krb5-config.heimdal", "--cflags", "--libs", "gssapi"]).split()
+    kdc.ran(["gcc", "-std=c99", "-Wall", "-Wextra", "-Werror", "-pedantic", WEB / "client.c", *flags, "-o", folder / "heimdal"])
+    return Client("Heimdal's GSS-API", [folder / "heimdal"], ["bare", "spnego"])
+
+
+def in_go(folder, _):
     env = {**os.environ, "GO111MODULE": "off", "GOPATH": "/usr/share/gocode", "GOCACHE": str(folder / "gocache"), "GOFLAGS": ""}
     kdc.ran(["go", "build", "-o", folder / "gokrb5", WEB / "client.go"], env=env)
-    return [
-        Client("MIT's GSS-API", [PYTHON, "-B", WEB / "client.py"], ["bare", "spnego"]),
-        Client("Heimdal's GSS-API", [folder / "heimdal"], ["bare", "spnego"]),
-        Client("Java's GSS-API", java, ["bare", "spnego"], has_clock=False),
-        Client("gokrb5", [folder / "gokrb5"], ["spnego"], host="HTTP/", verifies=False, has_clock=False),
-    ], java
+    return Client("gokrb5", [folder / "gokrb5"], ["spnego"], host="HTTP/", verifies=False, has_clock=False)
 
 
-def pages(world, java):
-    """Clients that get a page by themselves: HttpURLConnection and gokrb5."""
-    for name, words in (("HttpURLConnection", java), ("gokrb5's client of HTTP", [world.folder / "gokrb5"])):
-        said = kdc.ran([*words, world.service.url], seconds=SECONDS, env=world.env())
-        yield f"{name} is let in", is_it(said, f"200 hello {ALICE}\n")
-    kdc.done([*java, world.later.url], seconds=SECONDS, env=world.env())
-    yield "HttpURLConnection at a service with a wrong clock is refused by name", is_it(world.later.last(), SKEW)
+def over_mit(*_):
+    return Client("MIT's GSS-API", [PYTHON, "-B", WEB / "client.py"], ["bare", "spnego"])
+
+
+CLIENTS = {"MIT": over_mit, "Heimdal": over_heimdal, "Java": in_java, "gokrb5": in_go}
 
 
 def curl(world, port, *words, host="localhost", **more):
@@ -303,23 +304,15 @@ def reply_in(token):
     return reply[:2 + more + (int.from_bytes(reply[2:2 + more], "big") if more else reply[1])]
 
 
-def of_the_program(realm, kind):
+def of_the_program(program, realm, kind):
     """A token of krbtool logs in at a service over MIT's GSS-API, and krbtool reads its answer."""
     cache, now = realm.folder / "alice.ccache", int(time.time())
     moment = ["--time", now, "--usec", "5"]
-    token = kdc.ran([KRBTOOL, "request", cache, f"{SERVICE}@{REALM}", *moment, "--confounder", os.urandom(16).hex(), "--mutual", "--token", kind])
+    token = kdc.ran([program, "request", cache, f"{SERVICE}@{REALM}", *moment, "--confounder", os.urandom(16).hex(), "--mutual", "--token", kind])
     said = answered_by_mit(realm, token.strip())
     yield f"a token of krbtool, {kind}, is accepted by MIT's GSS-API", is_it((said[0], int(said[1]) & 0x3F, said[2]), (ALICE, 2, "complete"))
-    agreed = kdc.ran([KRBTOOL, "finish", cache, f"{SERVICE}@{REALM}", *moment, "--reply", reply_in(bytes.fromhex(said[3])).hex()])
+    agreed = kdc.ran([program, "finish", cache, f"{SERVICE}@{REALM}", *moment, "--reply", reply_in(bytes.fromhex(said[3])).hex()])
     yield f"krbtool reads the answer, {kind}", is_it(agreed.split()[:2], ["agreed", ALICE])
-
-
-def at_other_services(realm, library):
-    for kind in ("bare", "spnego"):
-        yield from at_mits_service(realm, library, kind, ASKED)
-        yield from at_mits_service(realm, library, kind, DELEGATED, BINDINGS)
-    for kind in ("gss", "spnego"):
-        yield from of_the_program(realm, kind)
 
 
 def refusals(service):
@@ -386,40 +379,96 @@ def through_nginx(world):
         yield "nor anybody without a token", is_it(status, b"HTTP/1.1 401 Unauthorized\r\n")
 
 
-def in_the_world(world, library):
-    yield from refusals(world.service)
-    yield from with_curl(world)
-    for kind in ("bare", "spnego"):
-        yield from with_ours(world.realm, world.service, library, kind)
-    yield from at_other_services(world.realm, library)
-    clients, java = built_clients(world.folder, world.realm)
-    for client in clients:
-        for kind in client.kinds:
-            yield from world.lets_in(client, kind)
-        yield from world.refuses(client)
-    for kind in ("bare", "spnego"):
-        yield from world.lets_in(clients[0], kind, "tls-server-end-point:x")
-    yield from pages(world, java)
-    yield from through_nginx(world)
+# ---------------------------------------------------------------- tests
 
 
-def checks(folder, library):
-    """clock.so is in the folder."""
-    try:
-        realm = realm_in(folder)
-    except (kdc.Trouble, OSError, ValueError) as error:
-        yield "a realm for the web service", str(error)
-        return
-    try:
-        with Service(folder, realm, library, "--first") as service, Service(folder, realm, library, "--first", ahead=LATER) as later:
-            yield from in_the_world(World(folder, realm, service, later), library)
-        began = time.time()
-        with Service(folder, realm, library) as service:
-            said = curl(World(folder, realm, service, None), service.port).stdout
-            yield "a service that has just started is quiet", None if said.endswith("who are you?\n") else said
-            yield "and says so", is_it(service.last(), "JUST_STARTED: the service has just started")
-        yield "the web service answered in time", None if time.time() - began < SECONDS else "it didn't"
-    except (kdc.Trouble, OSError, subprocess.SubprocessError, IndexError) as error:
-        yield "logins at the web service", repr(error)
-    finally:
-        realm.stop()
+@pytest.fixture(scope="module")
+def folder(tmp_path_factory):
+    """A folder with clock.so, which sets a program's clock when it is preloaded."""
+    made = tmp_path_factory.mktemp("web")
+    kdc.ran(["gcc", "-shared", "-fPIC", "-Wall", "-Wextra", "-Werror", TESTS / "support/clock.c", "-o", made / "clock.so"])
+    return made
+
+
+@pytest.fixture(scope="module")
+def realm(folder):
+    made = realm_in(folder)
+    yield made
+    made.stop()
+
+
+@pytest.fixture(scope="module")
+def web(folder, realm, library):
+    """The running service, and one whose clock is ahead."""
+    with Service(folder, realm, library, "--first") as service, Service(folder, realm, library, "--first", ahead=LATER) as later:
+        yield World(folder, realm, service, later)
+
+
+@pytest.fixture(scope="module")
+def clients(folder, realm):
+    """Gives the client of a name, which is compiled once."""
+    return functools.cache(lambda name: CLIENTS[name](folder, realm))
+
+
+def test_what_is_no_token(web, checks):
+    checks.all(refusals(web.service))
+
+
+def test_curl(web, checks):
+    checks.all(with_curl(web))
+
+
+@pytest.mark.parametrize("kind", ["bare", "spnego"])
+def test_our_client(web, realm, library, checks, kind):
+    checks.all(with_ours(realm, web.service, library, kind))
+
+
+@pytest.mark.parametrize("kind", ["bare", "spnego"])
+def test_our_client_at_mits_service(realm, library, checks, kind):
+    checks.all(at_mits_service(realm, library, kind, ASKED))
+    checks.all(at_mits_service(realm, library, kind, DELEGATED, BINDINGS))
+
+
+@pytest.mark.parametrize("kind", ["gss", "spnego"])
+def test_krbtool_at_mits_service(program, realm, checks, kind):
+    checks.all(of_the_program(program, realm, kind))
+
+
+@pytest.mark.parametrize("name, kind", [("MIT", "bare"), ("MIT", "spnego"), ("Heimdal", "bare"), ("Heimdal", "spnego"), ("Java", "bare"),
+                                        ("Java", "spnego"), ("gokrb5", "spnego")])
+def test_login(web, clients, checks, name, kind):
+    checks.all(web.lets_in(clients(name), kind))
+
+
+@pytest.mark.parametrize("kind", ["bare", "spnego"])
+def test_login_with_bindings(web, clients, checks, kind):
+    checks.all(web.lets_in(clients("MIT"), kind, "tls-server-end-point:x"))
+
+
+@pytest.mark.parametrize("name", CLIENTS)
+def test_refusals(web, clients, checks, name):
+    checks.all(web.refuses(clients(name)))
+
+
+@pytest.mark.parametrize("name", ["Java", "gokrb5"])
+def test_page(web, clients, name):
+    """Clients that get a page by themselves: HttpURLConnection and gokrb5's client of HTTP."""
+    said = kdc.ran([*clients(name).words, web.service.url], seconds=SECONDS, env=web.env())
+    assert said == f"200 hello {ALICE}\n"
+
+
+def test_page_at_a_service_with_a_wrong_clock(web, clients):
+    kdc.done([*clients("Java").words, web.later.url], seconds=SECONDS, env=web.env())
+    assert web.later.last() == SKEW
+
+
+def test_nginx(web, checks):
+    checks.all(through_nginx(web))
+
+
+def test_a_service_that_has_just_started(folder, realm, library):
+    began = time.time()
+    with Service(folder, realm, library) as service:
+        assert curl(World(folder, realm, service, None), service.port).stdout.endswith("who are you?\n")
+        assert service.last() == "JUST_STARTED: the service has just started"
+    assert time.time() - began < SECONDS

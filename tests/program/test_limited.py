@@ -9,14 +9,9 @@ import subprocess
 
 import pytest
 
-from support import EXAMPLES
-
-from support import generated
-from support import preload
+from support import EXAMPLES, fixture, generated, preload
 from support.checks import slug
 from support.preload import Command, Found
-
-from support import fixture
 
 STEP = 128 * 1024
 # How long the one record of a file is.

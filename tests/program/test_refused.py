@@ -10,7 +10,6 @@ import pytest
 from support import preload
 from support.preload import ALL, OLD, Command
 
-
 # What is refused, by the line that says so, in the order of a run; and the status.
 WORDS = ("krbtool: words: OutOfMemory\n", 2)
 CLAP = ("error: out of memory\n", 3)

@@ -3,11 +3,12 @@ import os
 import pickle
 import time
 
-from support import c_cases
-from support import fixture as der
+from support import c_cases, fixture as der
+
 import pytest
 from fevstunik import (Acceptor, Code, ContextFlags, CredentialCache, Error, Fault, Key, Keytab, Moment, Refused, TicketFlags, TypedData,
                        check_name, make_request)
+
 
 AT = 1_700_000_100
 SERVICE = "host/web@EX"

@@ -1,10 +1,11 @@
 """Keytabs and caches: what is read, what is written, and faults with their offsets."""
 import struct
 
-from support import c_cases
-from support import fixture as der
+from support import c_cases, fixture as der
+
 import pytest
 from fevstunik import Credential, CredentialCache, Fault, Key, Keytab, KeytabEntry, Owner, TicketFlags
+
 
 ENTRY = KeytabEntry("host/web@EX", Key(19, der.SERVICE_KEY), 3, 1_700_000_000)
 LIMIT = 16_777_216

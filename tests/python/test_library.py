@@ -12,7 +12,8 @@ import fevstunik
 import pytest
 from fevstunik import _library
 
-TOP = Path(__file__).resolve().parent.parent.parent
+from support import TOP
+
 HEADER = (TOP / "include/fevstunik.h").read_text()
 # Functions for which the package has another way: an error is made from its code alone.
 LEFT_OUT = {"acceptor_error"}

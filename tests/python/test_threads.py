@@ -4,10 +4,11 @@ import signal
 import threading
 from collections import Counter
 
-from support import c_cases
-from support import fixture as der
+from support import c_cases, fixture as der
+
 import pytest
 from fevstunik import Acceptor, CredentialCache, Keytab, Moment, Refused, _values, make_request
+
 
 THREADS, EACH, AT, SERVICE = 8, 400, 1_700_000_100, "host/web@EX"
 

@@ -1,8 +1,6 @@
 """Requests and caches that differ from the fixture's in one thing, for tests/c/faults.c and tests/c/library.c: by the standards' rules alone
 (tests/vectors/fixture.py)."""
 import struct
-import sys
-from pathlib import Path
 
 from support import fixture as der
 

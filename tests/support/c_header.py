@@ -1,7 +1,4 @@
-"""The header of the library for C beside the crate that it is of: codes, structs, prototypes, and what its comments name.
-
-Each check is a pair: its name, and what is wrong, or None.
-"""
+"""The header of the library for C beside the crate that it is of: codes, structs, prototypes, and what its comments name."""
 import re
 
 from support import TOP
@@ -146,12 +143,14 @@ def prototypes():
     return differs({" ".join(it.split()) for it in header}, crate)
 
 
-def header_checks():
-    yield "the header's codes are the crate's", codes()
-    yield "the codes' names and texts are those of the enum", names_and_texts()
-    yield "the codes are in order", order()
-    yield "the header's numbers of lists are the crate's", lists()
-    yield "the header's structs are the crate's", structs()
-    yield "the header's prototypes are the crate's", prototypes()
-    yield "each function has an example in the header", examples()
-    yield "each code is one that a function answers", differs(set().union(*documented().values()), set(header_codes()))
+# What tests/c/test_header.py looks at.
+CHECKS = {
+    "the header's codes are the crate's": codes,
+    "the codes' names and texts are those of the enum": names_and_texts,
+    "the codes are in order": order,
+    "the header's numbers of lists are the crate's": lists,
+    "the header's structs are the crate's": structs,
+    "the header's prototypes are the crate's": prototypes,
+    "each function has an example in the header": examples,
+    "each code is one that a function answers": lambda: differs(set().union(*documented().values()), set(header_codes())),
+}

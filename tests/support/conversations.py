@@ -2,22 +2,16 @@
 
 A KDC of MIT krb5 issues the tickets, with session keys of type 19 and 20. In each conversation both sides agree on the client's name, and
 a text and its receipt go under the subkeys of both; then the same request is sent again, and is refused. A service whose keytab has other
-keys refuses the first. Each check is a pair: its name, and what is wrong, or None.
+keys refuses the first.
 """
 import re
-import shutil
 import subprocess
 
-from support import TOP
-
-from support import kdc
-from support import reference
-from support import tickets
+from support import TOP, kdc, reference, tickets
 
 REALM = "PEER.TEST"
 SERVICES = {19: "host/only19.example", 20: "host/web.example"}
 MIT = ["mit_client", "mit_service"]
-PROGRAMS = ["kdb5_util", "kadmin.local", "krb5kdc", "kinit", "kvno", "krb5-config.mit"]
 # What each side says of a repeat and of a ticket that the keytab doesn't open: our service its own code, the others RFC 4120's.
 REPEAT, BENT_KEY = {"our": "FEVSTUNIK_REPEAT", "MIT's": 34}, {"our": "FEVSTUNIK_TICKET_INTEGRITY", "MIT's": 31}
 
@@ -30,12 +24,6 @@ def built(folder):
         kdc.ran(["gcc", *strict, f"-I{TOP}/examples/service", TOP / f"tests/c/{name}.c", *flags, "-o", folder / name])
 
 
-def bend(keytab, bent):
-    """Writes a keytab with other keys under the same names and numbers."""
-    turned = [{**it, "key": it["key"][::-1]} for it in reference.keytab(keytab.read_bytes())]
-    bent.write_bytes(b"\x05\x02" + b"".join(map(reference.record_of, turned)))
-
-
 def realm_in(folder):
     """A realm with a KDC, a service for each type, a user's cache with a ticket for each, a keytab, and one with other keys."""
     permitted, _, ktadd = tickets.advice()
@@ -44,7 +32,7 @@ def realm_in(folder):
     for etype, adding in ((20, ktadd), (19, f"ktadd -k FILE -e {tickets.AES128}:normal NAME")):
         realm.kadmin("addprinc", "-randkey", SERVICES[etype])
         realm.kadmin(*tickets.filled_in(adding, realm.folder / "good.keytab", SERVICES[etype]))
-    bend(realm.folder / "good.keytab", realm.folder / "bent.keytab")
+    tickets.bend(realm.folder / "good.keytab", realm.folder / "bent.keytab")
     try:
         realm.start("default", [permitted])
         realm.cache("alice", "default", SERVICES.values())
@@ -82,48 +70,21 @@ def refused(who, code):
     return r"refused: \d+ bytes of type 7e" if who == "our" else f"refused {code}"
 
 
-def differs(found, service, client):
-    """Whether the lines of both aren't those that are awaited, the client's as patterns."""
-    lines, told = found
-    well = lines == service and len(told) == len(client) and all(map(re.fullmatch, client, told))
-    return None if well else f"{found}, not {service}, {client}"
+# A client and a service, and the type of the session key.
+PAIRS = [(client, service, etype) for client, service in (("MIT's", "our"), ("our", "MIT's")) for etype in SERVICES]
 
 
-def conversations(folder, realm, **more):
-    """Conversations of programs in the folder: the realm's folder has good.keytab and bent.keytab, and alice.ccache with the tickets."""
-    for client, service in (("MIT's", "our"), ("our", "MIT's")):
-        for etype in SERVICES:
-            found = conversation(folder, realm, etype, client, service, "good", more)
-            yield f"{client} client to {service} service, type {etype}", differs(
-                found, [f"alice@{REALM}: a text", f"refused {REPEAT[service]}"], [f"agreed as alice@{REALM}", refused(client, 34)])
-            found = conversation(folder, realm, etype, client, service, "bent", more)
-            yield f"{client} client to {service} service with other keys, type {etype}", differs(
-                found, [f"refused {BENT_KEY[service]}"] * 2, [refused(client, 31)] * 2)
+def check(folder, realm, client, service, etype, **more):
+    """Two conversations of programs in the folder: the realm's has good.keytab and bent.keytab, and alice.ccache with the tickets."""
+    lines, told = conversation(folder, realm, etype, client, service, "good", more)
+    assert lines == [f"alice@{realm.name}: a text", f"refused {REPEAT[service]}"]
+    assert told[0] == f"agreed as alice@{realm.name}" and re.fullmatch(refused(client, 34), told[1]) and len(told) == 2, told
+    lines, told = conversation(folder, realm, etype, client, service, "bent", more)
+    assert lines == [f"refused {BENT_KEY[service]}"] * 2
+    assert len(told) == 2 and all(re.fullmatch(refused(client, 31), it) for it in told), told
 
 
 def session_types(realm):
     items = reference.cache((realm.folder / "alice.ccache").read_bytes())[2]
     found = {reference.name_text(it["server"]).split("@")[0]: it["etype"] for it in items}
     return {etype: found.get(name) for etype, name in SERVICES.items()}
-
-
-def checks(folder):
-    """The folder has the programs of examples/service."""
-    missing = [name for name in PROGRAMS if shutil.which(name) is None]
-    if missing:
-        yield "beside MIT krb5", f"without {' '.join(missing)}"
-        return
-    try:
-        built(folder)
-        realm = realm_in(folder)
-    except (kdc.Trouble, OSError, ValueError, reference.Fault) as error:
-        yield "a realm of MIT krb5", str(error)
-        return
-    try:
-        types = session_types(realm)
-        yield "session keys of both types", None if types == {19: 19, 20: 20} else str(types)
-        yield from conversations(folder, realm)
-    except (kdc.Trouble, OSError, subprocess.SubprocessError) as error:
-        yield "conversations with MIT krb5", str(error)
-    finally:
-        realm.stop()

@@ -5,13 +5,9 @@ worked out here, from RFC 4120 (sections 3.2 and 5) and docs/ACCEPTANCE.md alone
 """
 import random
 
-from support import der_rules
-from support import exchange
-from support import exchange_made
-from support import model
-from support import msg_rules
-from support.exchange_made import CONFOUNDER, REPLY_CONFOUNDER, Made, Replied, items_word, name_word, or_none, word_of
+from support import der_rules, exchange, exchange_made, model, msg_rules
 from support.calls import shown as told_bytes
+from support.exchange_made import CONFOUNDER, REPLY_CONFOUNDER, Made, Replied, items_word, name_word, or_none, word_of
 from support.model import der
 
 PROGRAM = "krb_calls_exchange"

@@ -8,11 +8,9 @@ import hashlib
 import random
 import struct
 
-from support import reference
+from support import fixture, reference
 from support.calls import TOP, shown
 from support.reference import Fault, Reader, Short
-
-from support import fixture
 
 PROGRAM = "krb_calls_files"
 LIMIT = reference.LIMIT

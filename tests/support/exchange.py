@@ -3,7 +3,6 @@
 Keytabs, tickets, authenticators, caches and moments are drawn so that each cause comes often: keys of other types, lengths, versions and
 entries; names that differ in one part; times at the edges of the skew; flags, authorization data and usages; messages bent byte by byte.
 """
-import random
 import struct
 
 from support import model

@@ -20,10 +20,7 @@ import functools
 import struct
 from dataclasses import dataclass, fields, replace
 
-
-from support import der_rules
-from support import fixture as der
-from support import model
+from support import der_rules, fixture as der, model
 from support.sealing import sealed
 
 sealed = functools.lru_cache(maxsize=None)(sealed)

@@ -7,18 +7,10 @@ import struct
 import tomllib
 from itertools import combinations, islice
 
-from support import EXAMPLES, TESTS
-from support import generated_edits
-from support import generated_exchange
-from support import generated_full
-from support import generated_tokens
-from support import readable
-from support import reference
-
-
-from support import drawn_files
-from support import fixture
-
+from support import (
+    EXAMPLES, TESTS, drawn_files, fixture, generated_edits, generated_exchange, generated_full,
+    generated_tokens, readable, reference,
+)
 
 # How long a message may be.
 MESSAGE_LIMIT = 1_048_576

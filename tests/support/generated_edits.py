@@ -3,11 +3,8 @@ keytab added to each; and each beginning of a keytab.
 
 What is expected comes from tests/reference.py, and from the edits of tests/drawn_files.py.
 """
-from support import EXAMPLES
-from support import drawn_files
-from support import reference
+from support import EXAMPLES, drawn_files, reference
 from support.generated_exchange import entry, keytab_of
-
 
 
 def keytabs():

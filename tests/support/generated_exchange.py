@@ -3,11 +3,7 @@ kind, each beginning of one, and one with each byte changed.
 
 What is expected comes from tests/model.py and tests/reference.py.
 """
-from support import EXAMPLES
-from support import der_rules
-from support import model
-from support import msg_rules
-from support import reference
+from support import EXAMPLES, der_rules, model, msg_rules, reference
 from support.model import der
 
 MICROS = 1_000_000

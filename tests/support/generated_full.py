@@ -5,12 +5,8 @@ What is expected of many items is what is expected of one (tests/reference.py an
 """
 import struct
 
-from support import readable
-from support import reference
+from support import fixture, readable, reference
 from support.generated_exchange import entry, keytab_of
-
-
-from support import fixture
 
 LIMIT = reference.LIMIT
 KEYTAB, CACHE = b"\x05\x02", b"\x05\x04\x00\x00" + fixture.principal(1, b"EX", b"alice")

@@ -6,10 +6,7 @@ What is expected comes from tests/gss_rules.py and tests/model.py.
 import random
 import re
 
-from support import c_cases
-from support import exchange
-from support import gss_rules
-from support import model
+from support import c_cases, exchange, gss_rules, model
 from support.c_cases import der as fixture
 from support.gss_rules import IAKERB, KERBEROS, LIMIT, MICROSOFT, NTLM, SPNEGO
 

@@ -5,11 +5,12 @@ What is installed on the machine isn't configured, and nothing outside the folde
 import os
 import socket
 import subprocess
+import tempfile
 import time
 from pathlib import Path
 
 PASSWORD = "a password that opens nothing"
-PACKAGES = ["krb5-kdc", "krb5-admin-server", "krb5-user", "libkrb5-dev", "heimdal-multidev", "gcc", "libc6-dev"]
+# What can't be installed beside MIT krb5's, and is unpacked instead.
 UNPACKED = ["heimdal-clients", "heimdal-kdc"]
 
 
@@ -33,25 +34,15 @@ def ran(command, seconds=120, **more):
     return it.stdout
 
 
-def is_installed(package):
-    query = ["dpkg-query", "-W", "-f", "${db:Status-Abbrev}", package]
-    return subprocess.run(query, stdout=subprocess.PIPE, stderr=subprocess.DEVNULL, text=True).stdout.startswith("ii")
-
-
-def install(folder, may_install):
-    """Installs what is missing, where it may, and unpacks into the folder what can't be installed beside it."""
-    missing = [package for package in PACKAGES if not is_installed(package)]
-    if missing and not may_install:
-        raise Trouble(f"without the packages {' '.join(missing)}")
-    quiet = {**os.environ, "DEBIAN_FRONTEND": "noninteractive"}
-    print("tests: fetching heimdal-clients and heimdal-kdc" + (", installing " + ", ".join(missing) if missing else ""), flush=True)
-    ran(["apt-get", "update", "-q"], env=quiet)
-    if missing:
-        ran(["apt-get", "install", "-y", "-q", *missing], env=quiet)
-    folder.mkdir()
-    ran(["apt-get", "download", "-q", *UNPACKED], cwd=folder, env=quiet)
-    for package in sorted(folder.glob("*.deb")):
-        ran(["dpkg", "-x", package, folder])
+def heimdal_programs(folder):
+    """The programs of Heimdal, unpacked into this folder: they are downloaded once."""
+    if not folder.is_dir():
+        with tempfile.TemporaryDirectory(dir=folder.parent) as made:
+            ran(["apt-get", "update", "-q"])
+            ran(["apt-get", "download", "-q", *UNPACKED], cwd=made)
+            for package in sorted(Path(made).glob("*.deb")):
+                ran(["dpkg", "-x", package, f"{made}/root"])
+            Path(made, "root").rename(folder)
     return folder
 
 

@@ -3,11 +3,7 @@
 Nothing here is taken from the program's sources. Bytes are read by der_rules and msg_rules, files by reference.py, and sealed by
 vectors/sealing.py. What opens is looked up among what was sealed, once its tag is right, so nothing is decrypted.
 """
-from support import der_rules
-from support import fixture as der
-from support import msg_rules
-from support import reference
-from support import sealing
+from support import der_rules, fixture as der, msg_rules, reference, sealing
 
 KEY_LENGTHS = {19: 16, 20: 32}
 SHORTEST = {19: 32, 20: 40}

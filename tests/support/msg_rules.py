@@ -19,7 +19,7 @@ The second, the third and the sixth are worked out here too, and this script fai
 """
 from support.msg_values import VALUES, element, encrypted, fields as numbered, flags, integer, name, octets, sequence, string, ticket, time, typed
 
-from support.der_rules import LIMIT, PROGRAM, Refused, answer, head, packed, read
+from support.der_rules import LIMIT, PROGRAM, answer, head, packed, read
 
 
 def may(shape):
@@ -196,7 +196,7 @@ def message(kind, many, parts, number=2**32 - 1):
     def listed(content):
         return sequence(*[typed(1, bytes([7] * 2))] * many, *[typed(1, content)] * bool(content))
 
-    moment, etype = time("20231114221500Z"), integer(19)
+    moment = time("20231114221500Z")
     key, cipher = typed(19, main), encrypted(19, main, 3)
     shared = ticket(named(), cipher, realm)
     rows = {

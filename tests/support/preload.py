@@ -7,16 +7,10 @@ from pathlib import Path
 
 import pytest
 
-from support import TESTS
-from support import drawn_files
-from support import generated
-from support import generated_edits
-from support import gss_rules
-from support import reference
+from support import TESTS, drawn_files, fixture, generated, generated_edits, gss_rules, reference
 from support.checks import slug
 from support.generated_exchange import entry
 
-from support import fixture
 OLD = b"what OUT held"
 # More calls than any command makes.
 ALL = 1_000_000

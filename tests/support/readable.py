@@ -7,9 +7,7 @@ MIT krb5 and Heimdal in examples/.
 import datetime
 import struct
 
-from support import EXAMPLES
-
-from support import reference
+from support import EXAMPLES, reference
 
 # IANA's registry "Kerberos Encryption Type Numbers".
 ENCTYPES = {

@@ -1,14 +1,32 @@
 """Realms with users, services and keytabs, and tickets whose session keys come to be of type 19 or 20 in each advised way."""
 import re
+import textwrap
+from datetime import datetime, timezone
 
-from support import TOP
-from support import reference
-from support.kdc import PASSWORD, HeimdalRealm, MitRealm, Trouble
+from support import TOP, reference
+from support.kdc import PASSWORD, HeimdalRealm, MitRealm, Trouble, ran
 from support.sides import LIBRARIES
 
 AES128, AES256 = "aes128-cts-hmac-sha256-128", "aes256-cts-hmac-sha384-192"
 OLD = "aes256-cts-hmac-sha1-96"
 NUMBERS = {AES128: 19, AES256: 20, OLD: 18}
+# The labels of the tickets that `of_mit`, `of_heimdal`, `with_addresses` and `of_both` make, and four with session keys of both types.
+LABELS = (
+    "setstr for one service, 20", "setstr for one service, 19", "permitted_enctypes of one client, 20", "permitted_enctypes of one client, 19",
+    "a service without PAC", "permitted_enctypes of a KDC without PACs, 20", "permitted_enctypes of a KDC without PACs, 19",
+    "Heimdal's tools at MIT's KDC, 20", "Heimdal's tools at MIT's KDC, 19", "MIT's tools at Heimdal's KDC, 20", "MIT's tools at Heimdal's KDC, 19",
+    "Heimdal's tools at Heimdal's KDC, 20", "Heimdal's tools at Heimdal's KDC, 19", "a cache of version 0x0503, 20", "a cache of version 0x0503, 19",
+    "with addresses, forwardable and proxiable", "another realm's client at Heimdal's KDC, 20", "another realm's client at MIT's KDC, 19",
+)
+OF_EACH_TYPE = (*LABELS[:2], *LABELS[11:13])
+KEYTABS = (
+    *(f"{it} of PEER.TEST" for it in ("web", "alice", "merged", "turned-both", "turned-new", "turned-holed", "wrong")),
+    *(f"{it} of HEIM.TEST" for it in ("web", "alice", "holed-web", "filled-web")), "rotated of PEER.TEST", "rotated of HEIM.TEST",
+)
+CACHES_OF_MIT = ("addressed", "advised-early", "advised-late", "all", "heimdal", "old", "one", "postdated", "service", "to-heimdal", "to-mit",
+                 "turned-early", "turned-late")
+CACHES_OF_HEIMDAL = ("Heimdal", "MIT", "old")
+CACHES = (*(f"{it} of PEER.TEST" for it in CACHES_OF_MIT), *(f"{it} of HEIM.TEST" for it in CACHES_OF_HEIMDAL))
 
 
 def advice():
@@ -147,3 +165,98 @@ def with_addresses(realm):
     realm.client("addressed", "one", "extra_addresses = 127.0.0.1")
     cache = realm.cache("addressed", "addressed", ["host/plain.example"], ["-a", "-f", "-p"])
     return Ticket("with addresses, forwardable and proxiable", realm, cache, "host/plain.example", 20, True)
+
+
+# ---------------------------------------------------------------- tickets and keytabs of other keys
+
+
+def turned(realm):
+    """A service whose key was changed, from number 2 to 300: tickets of both, and keytabs with one, both, or the later and a hole."""
+    service, ktadd = "host/turned.example", advice()[2]
+    both, old, new, holed = (realm.folder / f"turned-{it}.keytab" for it in ("both", "old", "new", "holed"))
+    realm.kadmin("addprinc", "-randkey", service)
+    realm.kadmin(*filled_in(ktadd, both, service))
+    old.write_bytes(both.read_bytes())
+    early = Ticket("the old key", realm, realm.cache("turned-early", "one", [service]), service, 20, True)
+    realm.kadmin("modprinc", "-kvno", "299", service)
+    realm.kadmin(*filled_in(ktadd, both, service))
+    realm.kadmin("ktadd", "-norandkey", "-k", new, service)
+    late = Ticket("the new key", realm, realm.cache("turned-late", "one", [service]), service, 20, True)
+    holed.write_bytes(both.read_bytes())
+    realm.kadmin("ktremove", "-k", holed, service, "2")
+    return (early, [both, old], [new, holed]), (late, [both, new, holed], [old])
+
+
+def lines_below(heading):
+    """The shell's lines below a heading of docs/OPERATING.md, a text for each block."""
+    part = re.search(rf"^#+ {heading}\n(.*?)^#+ ", (TOP / "docs/OPERATING.md").read_text(), re.S | re.M)[1]
+    return [textwrap.dedent(it) for it in re.findall(r"^ *```sh\n(.*?)^ *```$", part, re.S | re.M)]
+
+
+def advised(realm):
+    """A service that is made, and whose key is then changed, by the lines of docs/OPERATING.md: tickets of both keys, and its keytabs."""
+    service, folder = "HTTP/www.example.com", realm.folder / "advised"
+    both, new = folder / "www.keytab", folder / "new.keytab"
+    folder.mkdir()
+
+    def shell(*blocks):
+        ran(["sh", "-ec", "".join(blocks)], cwd=folder, env=realm.environment("admin"))
+
+    made, (known, given, removed) = lines_below("Keys")[0], lines_below("Without a refused login")
+    shell(made)
+    early = Ticket("the key before an advised change", realm, realm.cache("advised-early", "one", [service]), service, 20, True)
+    both.unlink()
+    shell(known, given)
+    late = Ticket("the key after an advised change", realm, realm.cache("advised-late", "one", [service]), service, 20, True)
+    shell(removed)
+    return (early, [both], [new]), (late, [both, new], [])
+
+
+def rotated_keytabs(mit, heimdal):
+    """Keytabs of both after two changes of a key, the first written as docs/OPERATING.md says, so with keys that are listed twice."""
+    service, both, theirs = "host/rotated.example", mit.folder / "rotated.keytab", heimdal.folder / "rotated.keytab"
+    mit.kadmin("addprinc", "-randkey", service)
+    heimdal.kadmin("add", "--random-key", "--use-defaults", service)
+    for turn in range(3):
+        if turn:
+            mit.kadmin("cpw", "-randkey", "-keepold", "-e", f"{AES256}:normal,{AES128}:normal", service)
+            heimdal.kadmin("cpw", "--random-key", service)
+        mit.kadmin("ktadd", "-k", both, "-norandkey", service)
+        heimdal.kadmin("ext_keytab", "-k", theirs, service)
+    return [(mit, both), (heimdal, theirs)]
+
+
+def bend(keytab, bent):
+    """Writes a keytab with other keys under the same names and numbers."""
+    turned = [{**it, "key": it["key"][::-1]} for it in reference.keytab(keytab.read_bytes())]
+    bent.write_bytes(b"\x05\x02" + b"".join(map(reference.record_of, turned)))
+
+
+def keytabs_of_mit(realm):
+    """Keytabs of kadmin and ktutil: several services and types, version numbers above 255, holes, and what ktutil took out."""
+    folder = realm.folder
+    realm.kadmin("ktadd", "-norandkey", "-k", folder / "alice.keytab", "alice")
+    realm.run("default", "ktutil", input=f"rkt {folder}/web.keytab\nrkt {folder}/turned-holed.keytab\ndelent 2\nwkt {folder}/merged.keytab\nquit\n")
+    names = ("web", "alice", "merged", "turned-both", "turned-new", "turned-holed", "wrong")
+    return [(realm, folder / f"{name}.keytab") for name in names]
+
+
+def keytabs_of_heimdal(realm):
+    """Keytabs of Heimdal's kadmin and ktutil, one with an entry taken out and one with another put into its place."""
+    folder = realm.folder
+    realm.kadmin("ext_keytab", "-k", folder / "alice.keytab", "alice")
+    (folder / "holed-web.keytab").write_bytes((folder / "web.keytab").read_bytes())
+    realm.ktutil(folder / "holed-web.keytab", "remove", "-p", "host/web.example", "-e", AES256)
+    (folder / "filled-web.keytab").write_bytes((folder / "holed-web.keytab").read_bytes())
+    realm.ktutil(folder / "filled-web.keytab", "add", "-p", "bob", "-V", "70000", "-e", AES128, "-w", PASSWORD)
+    return [(realm, folder / f"{name}.keytab") for name in ("web", "alice", "holed-web", "filled-web")]
+
+
+def klist_keytab(realm, path):
+    """The lines that we print for a keytab, as klist of MIT krb5 tells them, and with each its key."""
+    lines = realm.run("default", "klist", "-kteK", path).splitlines()
+    begin = next(at for at, line in enumerate(lines) if line.startswith("----"))
+    for line in lines[begin + 1 :]:
+        kvno, day, hour, principal, etype, key = line.split()
+        moment = datetime.strptime(f"{day} {hour}", "%m/%d/%y %H:%M:%S").replace(tzinfo=timezone.utc)
+        yield f"{kvno} {NUMBERS[etype.strip('()')]} {int(moment.timestamp())} {principal}", key
