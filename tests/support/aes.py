@@ -95,7 +95,7 @@ for key, block, wanted in [
 
 
 def drawn():
-    """The cases of tests/library.py: the block of appendix C.1 under its two keys, with each first byte, by both bodies, both ways."""
+    """Cases of calls: the block of appendix C.1 under its two keys, with each first byte, by both bodies, both ways."""
     for size in (16, 32):
         key = bytes(range(size))
         for first in range(256):

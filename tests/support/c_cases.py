@@ -1,5 +1,5 @@
 """Requests and caches that differ from the fixture's in one thing, for tests/c/faults.c and tests/c/library.c: by the standards' rules alone
-(tests/vectors/fixture.py)."""
+(tests/support/fixture.py)."""
 import struct
 
 from support import fixture as der

@@ -1,4 +1,4 @@
-"""Lines for tests/c/tokens.c: tokens of GSS-API by the second model (tests/gss_rules.py), and what each call answers."""
+"""Lines for tests/c/tokens.c: tokens of GSS-API by the second model (tests/support/gss_rules.py), and what each call answers."""
 import random
 import re
 import struct

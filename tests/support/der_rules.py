@@ -17,7 +17,7 @@ The rules (X.690, sections 8.1, 8.3, 8.6, 8.7 and 10.1; RFC 4120, section 5.2):
   Flags or Time at the element; bytes after the last element: Trailing at the first of them; a message above 1,048,576
   bytes: TooLong at 0, before all else.
 
-The cases are calls of the program krb_calls_wire (tests/library.py). What is read is shown value by value: numbers in decimal digits, a
+The cases are calls of the program krb_calls_wire (calls.py). What is read is shown value by value: numbers in decimal digits, a
 time in seconds from 1970-01-01T00:00:00Z on, texts in hexadecimal digits, `none` for what is left out, a list between `[` and `]`.
 """
 import functools
@@ -349,7 +349,7 @@ def lists():
 
 
 def drawn():
-    """The cases of tests/library.py: program, name, lines, answers."""
+    """Cases of calls: program, name, lines, answers."""
     for kind, data in cases():
         yield PROGRAM, f"DER by the rules: {kind} {data.hex()}", [f"der read {kind} {packed(data)}"], [answer(SHAPES[kind], data)]
     for name, lines, answers in [*sizes(), *lists()]:

@@ -1,6 +1,6 @@
-"""Draws cases of keytabs, credential caches and names, for the calls of crates/krb_calls_files (tests/library.py runs them).
+"""Draws cases of keytabs, credential caches and names, for the calls of crates/krb_calls_files (calls.py runs them).
 
-What is answered is worked out here: of whole files by tests/reference.py, of readers by a second walk over a source that gives a few
+What is answered is worked out here: of whole files by tests/support/reference.py, of readers by a second walk over a source that gives a few
 bytes a read. Nothing is taken from the program's sources. Fields are asked of a source one after another; the numbers after a
 session key's bytes, up to the flags, at once, and an encryption type that stands twice, too.
 """

@@ -1,6 +1,6 @@
-"""Messages and files that differ from the fixture's in what a text says, made by the standards' rules alone (vectors/fixture.py, model.py).
+"""Messages and files that differ from the fixture's in what a text says, made by the standards' rules alone (fixture.py, model.py).
 
-The cases of the program krb_calls_exchange (tests/library.py) name them in braces, `{WHAT WORD ..}`, words being mostly NAME=VALUE:
+The cases of the program krb_calls_exchange (calls.py) name them in braces, `{WHAT WORD ..}`, words being mostly NAME=VALUE:
 
     {keytab [KVNO:ETYPE:KEY ..]}     keys of host/web@EX; without a word, the fixture's key for both types
     {name TYPE TEXT}                 a name as the program reads it

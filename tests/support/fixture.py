@@ -136,15 +136,3 @@ def made():
         "reply with a subkey and a number": reply(short_key, 128),
         "error": error(37),
     }
-
-
-def main():
-    assert len(ticket_part()) == 119 and len(ticket()) == 214 and len(authenticator()) == 59
-    assert len(cache()) == 352 and len(configured_cache()) == 178
-    assert len(request()) == 348 and len(reply_part()) == 28 and len(reply()) == 87 and len(error(37)) == 73
-    for name, value in made().items():
-        print(f"{name} {value.hex()}")
-
-
-if __name__ == "__main__":
-    main()

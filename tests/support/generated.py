@@ -1,7 +1,7 @@
 """Cases that are made and not stored: each beginning of a file, each file with one byte changed, files at the limit, each way of closing
 the standard streams, a service that was started long ago, and files of as many items, and with as long names, as there may be.
 
-What is expected comes from tests/reference.py and tests/readable.py. A case is made when it is asked for.
+What is expected comes from tests/support/reference.py and tests/support/readable.py. A case is made when it is asked for.
 """
 import struct
 import tomllib

@@ -1,7 +1,7 @@
 """Cases of `remove-key` and `add-keys` that are made and not stored: each entry of each keytab and one past the last; the keys of each
 keytab added to each; and each beginning of a keytab.
 
-What is expected comes from tests/reference.py, and from the edits of tests/drawn_files.py.
+What is expected comes from tests/support/reference.py, and from the edits of tests/support/drawn_files.py.
 """
 from support import EXAMPLES, drawn_files, reference
 from support.generated_exchange import entry, keytab_of

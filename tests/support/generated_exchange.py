@@ -1,7 +1,7 @@
 """Cases of `pick-key` and `finish` that are made and not stored: each name, type and version number of each keytab; and replies of each
 kind, each beginning of one, and one with each byte changed.
 
-What is expected comes from tests/model.py and tests/reference.py.
+What is expected comes from tests/support/model.py and tests/support/reference.py.
 """
 from support import EXAMPLES, der_rules, model, msg_rules, reference
 from support.model import der

@@ -1,7 +1,7 @@
 """Cases of files with as many items, and with as long names, as a file has room for, and of very many lines: none is answered with out of
 memory, which a contract allows at any moment.
 
-What is expected of many items is what is expected of one (tests/reference.py and tests/readable.py), again and again.
+What is expected of many items is what is expected of one (tests/support/reference.py and tests/support/readable.py), again and again.
 """
 import struct
 

@@ -1,7 +1,7 @@
 """Cases of `accept --tokens` and `request --token` that are made and not stored: drawn tokens of drawn requests, each beginning of a token,
 one with each byte changed, each cause of a refusal, and the longest tokens.
 
-What is expected comes from tests/gss_rules.py and tests/model.py.
+What is expected comes from tests/support/gss_rules.py and tests/support/model.py.
 """
 import random
 import re

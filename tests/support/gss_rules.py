@@ -223,19 +223,19 @@ def straight(rng):
 def bent(rng, text):
     """The token with one thing otherwise: a byte, a cut, more bytes, or an element's head."""
     text, at = bytearray(text), rng.randrange(min(len(text), 60))
-    match rng.randrange(6):
-        case 0:
-            text[at] = rng.randrange(256)
-        case 1:
-            text[at] ^= 1 << rng.randrange(8)
-        case 2:
-            del text[rng.randrange(len(text)) :]
-        case 3:
-            text += rng.randbytes(rng.choice((1, 2, 9)))
-        case 4:
-            text[at : at + 1] = rng.choice((b"\x80", b"\x81", b"\x85", b"\x81\x05", b"\x82\x00\x05", b"\x84\x00\x00\x00\x05", b"\x00", b"\xa1", b"\xa3"))
-        case 5:
-            del text[at]
+    how = rng.randrange(6)
+    if how == 0:
+        text[at] = rng.randrange(256)
+    elif how == 1:
+        text[at] ^= 1 << rng.randrange(8)
+    elif how == 2:
+        del text[rng.randrange(len(text)):]
+    elif how == 3:
+        text += rng.randbytes(rng.choice((1, 2, 9)))
+    elif how == 4:
+        text[at:at + 1] = rng.choice((b"\x80", b"\x81", b"\x85", b"\x81\x05", b"\x82\x00\x05", b"\x84\x00\x00\x00\x05", b"\x00", b"\xa1", b"\xa3"))
+    else:
+        del text[at]
     return bytes(text)
 
 

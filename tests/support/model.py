@@ -1,7 +1,7 @@
 """A second service and a second client, written from RFC 4120 (sections 3.2 and 5), RFC 8009 and docs/ACCEPTANCE.md alone.
 
 Nothing here is taken from the program's sources. Bytes are read by der_rules and msg_rules, files by reference.py, and sealed by
-vectors/sealing.py. What opens is looked up among what was sealed, once its tag is right, so nothing is decrypted.
+sealing.py. What opens is looked up among what was sealed, once its tag is right, so nothing is decrypted.
 """
 from support import der_rules, fixture as der, msg_rules, reference, sealing
 

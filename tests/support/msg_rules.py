@@ -1,7 +1,7 @@
 #!/usr/bin/env python3
 """What a strict reader of Kerberos messages answers, and what a writer writes.
 
-The messages are those of tests/msg_values.py, and der_rules reads them, by the rules at its head. The shapes below are the tables
+The messages are those of tests/support/msg_values.py, and der_rules reads them, by the rules at its head. The shapes below are the tables
 of RFC 4120 (sections 5.2, 5.3, 5.5.1, 5.5.2 and 5.9.1), written out from that document alone. The cases:
 
 * Each message as it stands is read, with all its fields; copied and written again, it is the same bytes; and so is one made of its fields.
@@ -295,7 +295,7 @@ def too_long(kind, parts):
 
 
 def drawn():
-    """The cases of tests/library.py: program, name, lines, answers."""
+    """Cases of calls: program, name, lines, answers."""
     for title, word, data in VALUES:
         for it in of_value(title, word, data):
             yield PROGRAM, it[0], list(it[1]), list(it[2])

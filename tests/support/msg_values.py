@@ -1,5 +1,5 @@
 """Messages that no document shows, but four of the project's fixture: put together from RFC 4120's tables, by hand-written DER, without the
-project's code (vectors/der.py)."""
+project's code (der.py)."""
 
 from support.der import element, encrypted, field, integer, name, octets, sequence, string, time
 

@@ -1,6 +1,6 @@
 """A second reading of what `list-keytab --readable` and `list-ccache --readable` print, written from their rules alone.
 
-`keytab_table` and `cache_table` give the text for what tests/reference.py read of a file. Nothing here is taken from the program's
+`keytab_table` and `cache_table` give the text for what tests/support/reference.py read of a file. Nothing here is taken from the program's
 sources. `check` compares its own answers with what other sources say: dates and enctype names that are known, and the tables of files of
 MIT krb5 and Heimdal in examples/.
 """

@@ -1,7 +1,7 @@
 #!/usr/bin/env python3
 """A second implementation of RFC 8009, checked against the vectors of its appendix A.
 
-It prints the hashes of long sealed texts that stand in tests/calls/sealing.toml, in some minutes.
+It prints the hashes of long sealed texts that stand in tests/crypto/sealing.toml, in some minutes.
 """
 import hashlib
 import hmac
@@ -112,7 +112,7 @@ def changed(etype, key, confounder, plain=b""):
 
 
 def drawn():
-    """The cases of tests/library.py: program, name, lines, answers."""
+    """Cases of calls: program, name, lines, answers."""
     check()
     counted = bytes(range(16))
     first, other = bytes.fromhex("7e5895eaf2672435bad817f545a37148"), bytes(range(32))

@@ -33,7 +33,7 @@ def stolen(key, text):
 
 
 def drawn():
-    """The cases of tests/library.py: texts of each length from 16 to 220, both ways and without the first 16 bytes, under keys of both sizes."""
+    """Cases of calls: texts of each length from 16 to 220, both ways and without the first 16 bytes, under keys of both sizes."""
     for size, wanted in PUBLISHED:
         assert stolen(b"chicken teriyaki", SOUP[:size]).hex() == wanted, size
     text = bytes(7 * i % 256 for i in range(220))

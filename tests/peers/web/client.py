@@ -1,6 +1,6 @@
 """A client over MIT's GSS-API (Debian's package python3-gssapi).
 
-    /usr/bin/python3 tests/web/client.py SERVICE bare|spnego [BINDINGS]
+    /usr/bin/python3 tests/peers/web/client.py SERVICE bare|spnego [BINDINGS]
 
 SERVICE is like HTTP@localhost. It prints its token in hex, reads the service's token in hex from a line, and prints `complete` if the library
 verified it. The clients in other languages here do the same.

@@ -1,6 +1,6 @@
 """A service over MIT's GSS-API (Debian's package python3-gssapi), with the keytab that the environment names.
 
-    /usr/bin/python3 tests/web/service.py [BINDINGS]
+    /usr/bin/python3 tests/peers/web/service.py [BINDINGS]
 
 It reads a client's first token in hex from a line, and prints the client's name, the flags of the context, `complete` or `incomplete`, and the
 answer token in hex; or `refused` and why.
