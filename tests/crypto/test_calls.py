@@ -4,7 +4,7 @@ import pytest
 from support import aes, calls, codes, sealing, stealing
 
 
-@pytest.mark.parametrize("case", calls.parameters("crypto"))
+@pytest.mark.parametrize("case", calls.stored("crypto"), ids=calls.title)
 def test_call(case, checks):
     checks.all(calls.answered([case]))
 

@@ -4,7 +4,7 @@ import pytest
 from support import calls, drawn_exchange
 
 
-@pytest.mark.parametrize("case", calls.parameters("exchange"))
+@pytest.mark.parametrize("case", calls.stored("exchange"), ids=calls.title)
 def test_call(case, checks):
     checks.all(calls.answered([case]))
 

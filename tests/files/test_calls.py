@@ -4,7 +4,7 @@ import pytest
 from support import calls, drawn_files
 
 
-@pytest.mark.parametrize("case", calls.parameters("files"))
+@pytest.mark.parametrize("case", calls.stored("files"), ids=calls.title)
 def test_call(case, checks):
     checks.all(calls.answered([case]))
 

@@ -4,7 +4,7 @@ import pytest
 from support import calls, der_rules, msg_rules
 
 
-@pytest.mark.parametrize("case", calls.parameters("messages"))
+@pytest.mark.parametrize("case", calls.stored("messages"), ids=calls.title)
 def test_call(case, checks):
     checks.all(calls.answered([case]))
 

@@ -44,12 +44,6 @@ def requests(program, draw, folder):
         yield f"exchange: cache {number}, {wanted[1].strip() or 'a request'}", wrong, wanted
 
 
-def lacking(causes, seen):
-    """Whether each cause came at least a few times, so that the input is worth the name."""
-    rare = {cause: seen.count(cause) for cause in causes if seen.count(cause) < 3}
-    return f"too rare: {rare}" if rare else None
-
-
 @pytest.mark.slow
 def test_services(program, checks, tmp_path):
     """Each cause of a refusal comes at least a few times."""
@@ -57,7 +51,7 @@ def test_services(program, checks, tmp_path):
     for name, wrong, answers in conversations(program, random.Random(SEED), tmp_path):
         causes += [it.split()[2] if it.startswith("refused") else "accepted" for it in answers]
         checks.add(name, wrong)
-    assert lacking([*model.CODES, "accepted"], causes) is None
+    assert exchange.lacking([*model.CODES, "accepted"], causes) is None
 
 
 def test_clients(program, checks, tmp_path):
@@ -66,4 +60,4 @@ def test_clients(program, checks, tmp_path):
     for name, wrong, wanted in requests(program, random.Random(SEED), tmp_path):
         outcomes.append(wanted[1].split()[-1] if wanted[1] else "made")
         checks.add(name, wrong)
-    assert lacking(["NoCredential", "NoUsableKey", "Expired", "BadTicket", "made"], outcomes) is None
+    assert exchange.lacking(["NoCredential", "NoUsableKey", "Expired", "BadTicket", "made"], outcomes) is None

@@ -24,8 +24,6 @@ import subprocess
 import tomllib
 from collections import defaultdict
 
-import pytest
-
 from support import TESTS, TOP, exchange_made
 from support.checks import slug
 
@@ -114,9 +112,9 @@ def stored(folder="*"):
                 yield table["program"], f"{path.stem}: {case['name']}{form}", lines, answers
 
 
-def parameters(folder):
-    """The stored cases of a folder, each a parameter of a test."""
-    return [pytest.param(it, id=slug(it[1])) for it in stored(folder)]
+def title(case):
+    """The name of a case, as `pytest -k` takes it."""
+    return slug(case[1])
 
 
 def by_program(cases):
@@ -138,15 +136,15 @@ def built(program):
     """The program, as it was built."""
     path = TOP / f"crates/{program}/out/{program}"
     if not path.is_file():
-        pytest.fail(f"{program} isn't built: `(cd crates/{program} && rt run </dev/null)` builds it")
+        raise FileNotFoundError(f"{program} isn't built: `(cd crates/{program} && rt run </dev/null)` builds it")
     return path
 
 
 def compared(program, cases):
     """The name of each case, and what is wrong with what the program answers, or None."""
     try:
-        text = joined(lines for _, lines, _ in cases)
-        ran = subprocess.run([built(program)], input=text.encode(), capture_output=True, timeout=SECONDS)
+        text, path = joined(lines for _, lines, _ in cases), built(program)
+        ran = subprocess.run([path], input=text.encode(), capture_output=True, timeout=SECONDS)
     except (OSError, subprocess.TimeoutExpired) as error:
         yield program, str(error)
         return

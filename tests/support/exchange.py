@@ -187,3 +187,9 @@ def asked(draw):
     except model.Refused as refusal:
         return file, words, ("", f"krbtool: request: {refusal}\n", 1)
     return file, words, (f"{made.hex()}\n", "", 0)
+
+
+def lacking(causes, seen):
+    """Whether each cause came at least a few times, so that the input is worth the name."""
+    rare = {cause: seen.count(cause) for cause in causes if seen.count(cause) < 3}
+    return f"too rare: {rare}" if rare else None

@@ -4,7 +4,7 @@ import pytest
 from support import calls, gss_rules
 
 
-@pytest.mark.parametrize("case", calls.parameters("tokens"))
+@pytest.mark.parametrize("case", calls.stored("tokens"), ids=calls.title)
 def test_call(case, checks):
     checks.all(calls.answered([case]))
 
