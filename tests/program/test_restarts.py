@@ -10,9 +10,8 @@ import subprocess
 
 import pytest
 
-from support import model
+from support import der, model, reference
 from support.checks import slug
-from support.model import der
 
 SEED = 37
 WORLDS, LIVES = 2_000, 5
@@ -49,38 +48,23 @@ class Requests:
 
     def __init__(self):
         self.seals, self.made = model.Seals(), {}
-        part = der.element(0x63, der.sequence(
-            der.field(0, der.element(3, bytes(5))), der.field(1, der.key(ETYPE, SESSION)), der.field(2, der.string(CLIENT[0])),
-            der.field(3, der.name(1, *CLIENT[1])), der.field(4, der.key(1, b"")), der.field(5, model.time_of(BASE - 100)),
-            der.field(7, model.time_of(BASE + 36_000)),
-        ))
+        part = der.enc_ticket_part(0, der.key(ETYPE, SESSION), CLIENT[0], der.name(1, *CLIENT[1]), BASE - 100, BASE + 36_000)
         cipher = self.seals.seal(ETYPE, KEY, model.TICKET_USAGE, bytes(16), part)
-        self.ticket = der.element(0x61, der.sequence(
-            der.field(0, der.integer(5)), der.field(1, der.string(SERVICE[0])), der.field(2, der.name(1, *SERVICE[1])),
-            der.field(3, der.encrypted(ETYPE, cipher, 3)),
-        ))
+        self.ticket = der.ticket(SERVICE[0], der.name(1, *SERVICE[1]), der.encrypted(ETYPE, cipher, 3))
 
     def of(self, at):
         """The request of this microsecond."""
         if at not in self.made:
             seconds, micros = divmod(at, 1_000_000)
-            shown = der.element(0x62, der.sequence(
-                der.field(0, der.integer(5)), der.field(1, der.string(CLIENT[0])), der.field(2, der.name(1, *CLIENT[1])),
-                der.field(4, der.integer(micros)), der.field(5, model.time_of(seconds)),
-            ))
+            shown = der.authenticator(CLIENT[0], der.name(1, *CLIENT[1]), micros, seconds)
             cipher = self.seals.seal(ETYPE, SESSION, model.AUTHENTICATOR_USAGE, at.to_bytes(16, "big"), shown)
-            self.made[at] = der.element(0x6E, der.sequence(
-                der.field(0, der.integer(5)), der.field(1, der.integer(14)), der.field(2, der.element(3, bytes(5))), der.field(3, self.ticket),
-                der.field(4, der.encrypted(ETYPE, cipher)),
-            ))
+            self.made[at] = der.request(0, self.ticket, der.encrypted(ETYPE, cipher))
         return self.made[at]
 
 
 def keytab():
-    texts = b"".join(len(it).to_bytes(2, "big") + it for it in (SERVICE[0], *SERVICE[1]))
-    entry = len(SERVICE[1]).to_bytes(2, "big") + texts + (1).to_bytes(4, "big") + BASE.to_bytes(4, "big") + b"\x03"
-    entry += ETYPE.to_bytes(2, "big") + len(KEY).to_bytes(2, "big") + KEY
-    return b"\x05\x02" + len(entry).to_bytes(4, "big") + entry
+    entry = {"realm": SERVICE[0], "components": SERVICE[1], "name_type": 1, "timestamp": BASE, "kvno": 3, "etype": ETYPE, "key": KEY}
+    return b"\x05\x02" + reference.record_of(entry)
 
 
 def some_moments(draw, around, skew):

@@ -3,7 +3,7 @@ import re
 import subprocess
 import sys
 
-from support import fixture
+from support import der, fixture
 from support.c_programs import KEYED, message
 
 
@@ -18,7 +18,7 @@ def served(*words, lines):
 
 def error_of(code):
     """The fixture's error, but without microseconds."""
-    return fixture.error(code).replace(fixture.field(5, fixture.integer(7)), fixture.field(5, fixture.integer(0))).hex()
+    return fixture.error(code).replace(der.field(5, der.integer(7)), der.field(5, der.integer(0))).hex()
 
 
 def test_requests():

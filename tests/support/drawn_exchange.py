@@ -5,10 +5,9 @@ worked out here, from RFC 4120 (sections 3.2 and 5) and docs/ACCEPTANCE.md alone
 """
 import random
 
-from support import der_rules, exchange, exchange_made, model, msg_rules
+from support import der, der_rules, exchange, exchange_made, fixture, model, msg_rules
 from support.calls import shown as told_bytes
 from support.exchange_made import CONFOUNDER, REPLY_CONFOUNDER, Made, Replied, items_word, name_word, or_none, word_of
-from support.model import der
 
 PROGRAM = "krb_calls_exchange"
 MEMORIES = ("list", "timed")
@@ -100,8 +99,7 @@ def reply_of(seals, part, shown, confounder, choice):
     """The reply to an accepted request."""
     made = Replied(seconds=shown[5], micros=shown[4], subkey=choice[0], number=choice[1])
     cipher = seals.seal(part[1][0], part[1][1], model.REPLY_USAGE, confounder, exchange_made.reply_part(made))
-    return der.element(0x6F, der.sequence(
-        der.field(0, der.integer(5)), der.field(1, der.integer(15)), der.field(2, der.encrypted(part[1][0], cipher))))
+    return der.reply(der.encrypted(part[1][0], cipher))
 
 
 def some_calls(draw, seals, told, sent):
@@ -201,8 +199,7 @@ def some_reply(draw, seals, asked):
     cipher = seals.seal(etype, key, usage, draw.randbytes(16), exchange.bent(draw, plain))
     cipher = exchange.often(draw, cipher, cipher[:-1], b"", cipher[:31])
     told = exchange.often(draw, etype, 18, 39 - etype)
-    return exchange.bent(draw, der.element(exchange.often(draw, 0x6F, 0x7E), der.sequence(
-        der.field(0, der.integer(5)), der.field(1, der.integer(15)), der.field(2, der.encrypted(told, cipher, draw.choice([None, 9]))))))
+    return exchange.bent(draw, der.message(exchange.often(draw, 0x6F, 0x7E), 5, 15, der.encrypted(told, cipher, draw.choice([None, 9]))))
 
 
 def client(draw):
@@ -235,8 +232,8 @@ def clients(draw):
 
 def beginnings():
     """Each beginning of the fixture's request and reply is cut off where it ends."""
-    request, reply = der.request(), der.reply()
-    lines, answers = ["service timed 300 " + der.keytab().hex()], ["service"]
+    request, reply = fixture.request(), fixture.reply()
+    lines, answers = ["service timed 300 " + fixture.keytab().hex()], ["service"]
     for size in range(len(request)):
         lines.append(f"accept 1700000100 5 {word_of(request[:size])}")
         answers.append(f"refused Malformed Truncated at {size}")
@@ -269,10 +266,10 @@ def turned(place):
 
 def each_byte():
     """By the layout of the request, and once more by the model."""
-    request, file = der.request(), exchange_made.keytab(exchange_made.BOTH)
+    request, file = fixture.request(), exchange_made.keytab(exchange_made.BOTH)
     seals = model.Seals()
-    seals.seal(19, der.SERVICE_KEY, 2, exchange_made.TICKET_CONFOUNDER, der.ticket_part())
-    seals.seal(19, der.SESSION_KEY, 11, CONFOUNDER, der.authenticator())
+    seals.seal(19, fixture.SERVICE_KEY, 2, exchange_made.TICKET_CONFOUNDER, fixture.ticket_part())
+    seals.seal(19, fixture.SESSION_KEY, 11, CONFOUNDER, fixture.authenticator())
     lines, answers = [], []
     for place in range(len(request)):
         data = request[:place] + bytes([request[place] ^ 1]) + request[place + 1 :]
@@ -324,7 +321,7 @@ def delivered(draw, packets, plain, replies):
     subkey, number = choice = draw.choice(replies)
     made = Replied(seconds=moment // MICROS, micros=moment % MICROS, subkey=subkey, number=number)
     yield f"reply {REPLY_CONFOUNDER.hex()} {choice_words(choice)}", exchange_made.reply(made).hex()
-    name, key = name_word(2, b"EX", [b"alice"]), f"19/{der.SESSION_KEY.hex()}"
+    name, key = name_word(2, b"EX", [b"alice"]), f"19/{fixture.SESSION_KEY.hex()}"
     agreed = f"agreed {name} {key} {choice_words(own)} {choice_words(choice)}"
     yield f"finish {which} replied", agreed
     yield f"finish {other} replied", agreed if other == which else "refused Mismatch"
@@ -390,7 +387,7 @@ def long_messages():
     lines, answers = asking(FIXTURE)
     subkey = f"18/{bytes(60_000).hex()}"
     lines.append(f"finish 0 {exchange_made.reply(Replied(subkey=subkey)).hex()}")
-    answers.append(f"agreed {name_word(2, b'EX', [b'alice'])} 19/{der.SESSION_KEY.hex()} none none 18/{told_bytes(bytes(60_000))} none")
+    answers.append(f"agreed {name_word(2, b'EX', [b'alice'])} 19/{fixture.SESSION_KEY.hex()} none none 18/{told_bytes(bytes(60_000))} none")
     for realm, components in ((b"E" * 1_000_000, [b"host", b"web"]), (b"EX", [b"h" * 1_000_000, b"web"]), (b"EX", [b"host"] * 100_000)):
         name = name_word(3, realm, components)
         lines.append(f"error Repeat 1700000100 7 {name}")

@@ -5,8 +5,7 @@ entries; names that differ in one part; times at the edges of the skew; flags, a
 """
 import struct
 
-from support import model
-from support.model import der
+from support import der, fixture, model
 
 LINES = 30
 BASE = 1_700_000_000
@@ -55,7 +54,7 @@ def authorization(draw):
     kinds = often(draw, None, [], [1], [1, 1], [1, 2], [2, 1], [-1], [128])
     if kinds is None:
         return None
-    return der.sequence(*(der.sequence(der.field(0, der.integer(kind)), der.field(1, der.octets(b"data"))) for kind in kinds))
+    return der.sequence(*(der.key(kind, b"data") for kind in kinds))
 
 
 def bent(draw, data):
@@ -77,28 +76,19 @@ def some_time(draw, near):
 def ticket_part(draw, client, session):
     etype, key = session
     flags = often(draw, draw.choice([0, 1 << 19, 0x40E80000]), 1 << 24, 0xFFFFFFFF, 0x40E00000)
-    renew, addresses = draw.choice([None, der.time("20380119031407Z")]), draw.choice([None, der.sequence(der.key(2, b"\x7f\0\0\1"))])
-    start = draw.choice([None, model.time_of(some_time(draw, BASE))])
-    fields = [
-        der.field(0, der.element(3, b"\0" + flags.to_bytes(4, "big"))), der.field(1, der.key(etype, key)), der.field(2, der.string(client[0])),
-        der.field(3, der.name(draw.choice([0, 1]), *client[1])), der.field(4, der.key(1, b"")),
-        der.field(5, model.time_of(often(draw, BASE - 100, some_time(draw, BASE)))), *der.present(6, start),
-        der.field(7, model.time_of(often(draw, BASE + 36_000, BASE - 299, BASE - 300, BASE - 301))), *der.present(8, renew), *der.present(9, addresses),
-        *der.present(10, authorization(draw)),
-    ]
-    return der.element(0x63, der.sequence(*fields))
+    renew, addresses = draw.choice([None, 2**31 - 1]), draw.choice([None, der.sequence(der.key(2, b"\x7f\0\0\1"))])
+    start, name = draw.choice([None, some_time(draw, BASE)]), der.name(draw.choice([0, 1]), *client[1])
+    times = often(draw, BASE - 100, some_time(draw, BASE)), often(draw, BASE + 36_000, BASE - 299, BASE - 300, BASE - 301)
+    lists = {"addresses": addresses, "data": authorization(draw)}
+    return der.enc_ticket_part(flags, der.key(etype, key), client[0], name, *times, start=start, renew=renew, **lists)
 
 
 def authenticator(draw, client, seconds, micros):
     etype, key = some_key(draw)
     subkey, number = draw.choice([None, der.key(etype, key)]), draw.choice([None, 0, 2**32 - 1, 2**31, -1, -(2**31)])
     checksum = draw.choice([None, der.key(-3, b"sum")])
-    fields = [
-        der.field(0, der.integer(5)), der.field(1, der.string(client[0])), der.field(2, der.name(draw.choice([0, 1, 7]), *client[1])),
-        *der.present(3, checksum), der.field(4, der.integer(micros)), der.field(5, model.time_of(seconds)), *der.present(6, subkey),
-        *der.present(7, None if number is None else der.integer(number)), *der.present(8, authorization(draw)),
-    ]
-    return der.element(0x62, der.sequence(*fields))
+    name, data = der.name(draw.choice([0, 1, 7]), *client[1]), authorization(draw)
+    return der.authenticator(client[0], name, micros, seconds, checksum=checksum, subkey=subkey, number=number, data=data)
 
 
 def ticket(draw, seals, entries, client, session):
@@ -110,10 +100,8 @@ def ticket(draw, seals, entries, client, session):
     cipher = seals.seal(etype, key, often(draw, 2, 11), some_bytes(draw, 16), bent(draw, ticket_part(draw, client, session)))
     kvno = often(draw, entry["kvno"], None, *KVNOS)
     realm, components = often(draw, (entry["realm"], entry["components"]), *NAMES)
-    return der.element(0x61, der.sequence(
-        der.field(0, der.integer(5)), der.field(1, der.string(realm)), der.field(2, der.name(draw.choice([1, 3]), *components)),
-        der.field(3, der.encrypted(often(draw, etype, 18, 39 - etype), cipher, kvno)),
-    ))
+    name = der.name(draw.choice([1, 3]), *components)
+    return der.ticket(realm, name, der.encrypted(often(draw, etype, 18, 39 - etype), cipher, kvno))
 
 
 def request(draw, seals, entries, now):
@@ -124,10 +112,8 @@ def request(draw, seals, entries, now):
     shown = authenticator(draw, often(draw, client, *CLIENTS), some_time(draw, now // 1_000_000), draw.choice([now % 1_000_000, 0, 999_999]))
     cipher = seals.seal(sealed_as, under, often(draw, 11, 2, 12), some_bytes(draw, 16), bent(draw, shown))
     options = often(draw, draw.choice([0, 0x20000000, 0x1FFFFFFF, 0xBFFFFFFF]), 0x40000000, 0xFFFFFFFF)
-    return bent(draw, der.element(0x6E, der.sequence(
-        der.field(0, der.integer(5)), der.field(1, der.integer(14)), der.field(2, der.element(3, b"\0" + options.to_bytes(4, "big"))),
-        der.field(3, made), der.field(4, der.encrypted(often(draw, sealed_as, 18, 39 - sealed_as), cipher, draw.choice([None, None, 9]))),
-    )))
+    part = der.encrypted(often(draw, sealed_as, 18, 39 - sealed_as), cipher, draw.choice([None, None, 9]))
+    return bent(draw, der.request(options, made, part))
 
 
 def line_of(draw, data, now, confounder):
@@ -156,7 +142,7 @@ def conversation(draw):
 
 
 def principal32(name_type, name):
-    return der.principal(name_type, name[0], *name[1])
+    return fixture.principal(name_type, name[0], *name[1])
 
 
 def cache(draw):
@@ -167,12 +153,11 @@ def cache(draw):
         etype, key = some_key(draw)
         server = draw.choice([NAMED, NAMED, NAMED, NAMES[1], (b"X-CACHECONF:", (b"krb5_ccache_conf_data", b"it"))])
         client = often(draw, default, *CLIENTS[:3])
-        body = der.element(0x61, der.sequence(
-            der.field(0, der.integer(5)), der.field(1, der.string(b"EX")), der.field(2, der.name(3, b"host", b"web")),
-            der.field(3, der.encrypted(often(draw, 19, 18), some_bytes(draw, draw.randint(0, 200)), draw.choice([None, 1])))))
+        part = der.encrypted(often(draw, 19, 18), some_bytes(draw, draw.randint(0, 200)), draw.choice([None, 1]))
+        body = der.ticket(b"EX", fixture.WEB, part)
         times = (BASE - 5, 0, draw.choice([BASE, BASE + 1, BASE - 1, BASE + 9]), 0)
         names = principal32(draw.choice([0, 1, -128]), client), principal32(draw.choice([0, 3]), server)
-        made += der.credential(*names, etype, key, times, bent(draw, often(draw, body, b"", b"yes", body[:-1])))
+        made += fixture.credential(*names, etype, key, times, bent(draw, often(draw, body, b"", b"yes", body[:-1])))
     return made
 
 

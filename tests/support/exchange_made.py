@@ -20,12 +20,12 @@ import functools
 import struct
 from dataclasses import dataclass, fields, replace
 
-from support import der_rules, fixture as der, model
+from support import der, der_rules, fixture, model
 from support.sealing import sealed
 
 sealed = functools.lru_cache(maxsize=None)(sealed)
 
-KEYS = {"service": der.SERVICE_KEY, "session": der.SESSION_KEY}
+KEYS = {"service": fixture.SERVICE_KEY, "session": fixture.SESSION_KEY}
 LENGTHS = {19: 16, 20: 32}
 TICKET_CONFOUNDER, CONFOUNDER, REPLY_CONFOUNDER = (bytes(range(it, it + 16)) for it in (0x10, 0x20, 0x30))
 AUTHTIME, ENDTIME = 1_700_000_000, 1_700_036_000
@@ -64,7 +64,7 @@ class Made(Sent):
     client_type: int = 1
     # The key that seals the ticket, as long as its type asks for, and the one in the ticket, of so many bytes.
     kvno: int = 3
-    service_key: bytes = der.SERVICE_KEY
+    service_key: bytes = fixture.SERVICE_KEY
     service_etype: int = 19
     session_len: int = 16
     # The type that is named for the authenticator, where it isn't that of the key.
@@ -137,18 +137,13 @@ def bent(etype, key, usage, confounder, plain, kept, zeros, sent):
     return sealed(etype, key, usage, confounder, plain[:kept] + bytes(zeros))[:sent]
 
 
-def typed(kind, data):
-    """A key, a checksum, an address or an element of authorization data: they are laid out alike."""
-    return der.key(kind, data)
-
-
 def two(kind, byte):
     """An element of one byte and one of two."""
     return [(kind, bytes([byte])), (kind, bytes([byte, byte]))]
 
 
 def listed(elements):
-    return None if elements is None else der.sequence(*(typed(*it) for it in elements))
+    return None if elements is None else der.sequence(*(der.key(*it) for it in elements))
 
 
 # What a full request and a full reply carry: a key of a type that we don't know, and the checksum.
@@ -177,25 +172,19 @@ def ticket_part(made):
     made = filled(made)
     realm, components = parts_of(made.ticket_client)
     addresses, data, _ = lists_of(made)
-    return der.element(0x63, der.sequence(
-        der.field(0, der.element(3, b"\0" + made.flags.to_bytes(4, "big"))), der.field(1, typed(made.session_etype, stretched(der.SESSION_KEY, made.session_len))),
-        der.field(2, der.string(realm)), der.field(3, der.name(1, *components)), der.field(4, typed(1, b"\xc0" * 3 if made.full else b"")),
-        der.field(5, model.time_of(AUTHTIME)), *der.present(6, None if made.starttime is None else model.time_of(made.starttime)),
-        der.field(7, model.time_of(ENDTIME)), *der.present(8, model.time_of(1_700_100_000) if made.full else None), *der.present(9, listed(addresses)),
-        *der.present(10, listed(data)),
-    ))
+    return der.enc_ticket_part(
+        made.flags, der.key(made.session_etype, stretched(fixture.SESSION_KEY, made.session_len)), realm, der.name(1, *components), AUTHTIME, ENDTIME,
+        transited=der.key(1, b"\xc0" * 3 if made.full else b""), start=made.starttime, renew=1_700_100_000 if made.full else None,
+        addresses=listed(addresses), data=listed(data))
 
 
 def authenticator(made):
     made = filled(made)
     realm, components = parts_of(made.client)
     subkey = chosen_key(made.subkey)
-    return der.element(0x62, der.sequence(
-        der.field(0, der.integer(5)), der.field(1, der.string(realm)), der.field(2, der.name(made.client_type, *components)),
-        *der.present(3, typed(*CHECKSUM) if made.full else None), der.field(4, der.integer(made.micros)), der.field(5, model.time_of(made.seconds)),
-        *der.present(6, subkey and typed(*subkey)), *der.present(7, None if made.number is None else der.integer(made.number)),
-        *der.present(8, listed(lists_of(made)[2])),
-    ))
+    return der.authenticator(
+        realm, der.name(made.client_type, *components), made.micros, made.seconds, checksum=der.key(*CHECKSUM) if made.full else None,
+        subkey=subkey and der.key(*subkey), number=made.number, data=listed(lists_of(made)[2]))
 
 
 def ticket(made):
@@ -203,23 +192,17 @@ def ticket(made):
     cipher = bent(made.service_etype, key, made.ticket_usage, TICKET_CONFOUNDER, ticket_part(made), made.ticket_kept, made.ticket_zeros, made.ticket_sent)
     realm, components = parts_of(made.service)
     etype = made.service_etype if made.told_etype is None else made.told_etype
-    return der.element(0x61, der.sequence(
-        der.field(0, der.integer(5)), der.field(1, der.string(realm)), der.field(2, der.name(3, *components)),
-        der.field(3, der.encrypted(etype, cipher, made.kvno)),
-    ))
+    return der.ticket(realm, der.name(3, *components), der.encrypted(etype, cipher, made.kvno))
 
 
 def session_key(etype):
-    return stretched(der.SESSION_KEY, LENGTHS[etype])
+    return stretched(fixture.SESSION_KEY, LENGTHS[etype])
 
 
 def request(made):
     cipher = bent(made.session_etype, session_key(made.session_etype), made.usage, CONFOUNDER, authenticator(made), made.kept, made.zeros, made.sent)
     etype = made.session_etype if made.sealed_etype is None else made.sealed_etype
-    return der.element(0x6E, der.sequence(
-        der.field(0, der.integer(5)), der.field(1, der.integer(14)), der.field(2, der.element(3, b"\0" + made.options.to_bytes(4, "big"))),
-        der.field(3, ticket(made)), der.field(4, der.encrypted(etype, cipher)),
-    ))
+    return der.request(made.options, ticket(made), der.encrypted(etype, cipher))
 
 
 def items_word(elements):
@@ -262,19 +245,13 @@ def stamp(made):
 
 def reply_part(replied):
     subkey = chosen_key(replied.subkey)
-    return der.element(0x7B, der.sequence(
-        der.field(0, model.time_of(replied.seconds)), der.field(1, der.integer(replied.micros)), *der.present(2, subkey and typed(*subkey)),
-        *der.present(3, None if replied.number is None else der.integer(replied.number)),
-    ))
+    return der.enc_reply_part(replied.seconds, replied.micros, subkey and der.key(*subkey), replied.number)
 
 
 def reply(replied):
     etype, key = replied.session_etype, session_key(replied.session_etype)
     cipher = bent(etype, key, replied.usage, replied.confounder, reply_part(replied), replied.kept, replied.zeros, replied.sent)
-    return der.element(0x6F, der.sequence(
-        der.field(0, der.integer(5)), der.field(1, der.integer(15)),
-        der.field(2, der.encrypted(etype if replied.told_etype is None else replied.told_etype, cipher, replied.kvno)),
-    ))
+    return der.reply(der.encrypted(etype if replied.told_etype is None else replied.told_etype, cipher, replied.kvno))
 
 
 def keytab(keys):
@@ -288,7 +265,7 @@ def keytab(keys):
     return file
 
 
-BOTH = [(3, 19, der.SERVICE_KEY), (3, 20, der.SERVICE_KEY)]
+BOTH = [(3, 19, fixture.SERVICE_KEY), (3, 20, fixture.SERVICE_KEY)]
 
 
 def keytab_of(words):
@@ -323,21 +300,21 @@ CREDENTIALS = {
 
 def credential(held):
     client, server = parts_of(held.client), parts_of(held.server)
-    return der.credential(
-        der.principal(1, client[0], *client[1]), der.principal(3, server[0], *server[1]), held.etype, stretched(der.SESSION_KEY, held.key_len),
-        (AUTHTIME, 0, held.endtime, 0), der.ticket() if held.ticket is None else held.ticket)
+    return fixture.credential(
+        fixture.principal(1, client[0], *client[1]), fixture.principal(3, server[0], *server[1]), held.etype, stretched(fixture.SESSION_KEY, held.key_len),
+        (AUTHTIME, 0, held.endtime, 0), fixture.ticket() if held.ticket is None else held.ticket)
 
 
 def cache(names):
-    return b"\x05\x04\0\0" + der.principal(1, b"EX", b"alice") + b"".join(credential(CREDENTIALS[it]) for it in names)
+    return b"\x05\x04\0\0" + fixture.principal(1, b"EX", b"alice") + b"".join(credential(CREDENTIALS[it]) for it in names)
 
 
 def cache_of(made):
     """The cache of the client of a ticket, whose name is of type 2, with this ticket alone."""
     realm, components = parts_of(made.ticket_client)
-    client = der.principal(2, realm if made.realm is None else made.realm, *components)
-    server, key = der.principal(3, b"EX", b"host", b"web"), stretched(der.SESSION_KEY, made.session_len)
-    return b"\x05\x04\0\0" + client + der.credential(client, server, made.session_etype, key, (AUTHTIME, 0, ENDTIME, 0), ticket(made))
+    client = fixture.principal(2, realm if made.realm is None else made.realm, *components)
+    server, key = fixture.principal(3, b"EX", b"host", b"web"), stretched(fixture.SESSION_KEY, made.session_len)
+    return b"\x05\x04\0\0" + client + fixture.credential(client, server, made.session_etype, key, (AUTHTIME, 0, ENDTIME, 0), ticket(made))
 
 
 def made_of(words):
@@ -354,10 +331,10 @@ def made_of(words):
         "ticket": lambda it: ticket(of_words(Made, it)),
         "request": lambda it: request(of_words(Made, it)),
         "cache": cache,
-        "configured": lambda _: der.configured_cache(),
+        "configured": lambda _: fixture.configured_cache(),
         "cache-of": lambda it: cache_of(of_words(Made, it)),
         "reply": lambda it: reply(of_words(Replied, it)),
-        "error": lambda it: der.error(int(it[0])),
+        "error": lambda it: fixture.error(int(it[0])),
         "stamp": lambda it: stamp(of_words(Made, it)),
     }[what](words)
 

@@ -3,8 +3,7 @@ kind, each beginning of one, and one with each byte changed.
 
 What is expected comes from tests/support/model.py and tests/support/reference.py.
 """
-from support import EXAMPLES, der_rules, model, msg_rules, reference
-from support.model import der
+from support import EXAMPLES, der, der_rules, fixture, model, msg_rules, reference
 
 MICROS = 1_000_000
 # The moment of the fixture's request.
@@ -78,23 +77,19 @@ def pick_cases():
 
 def cache_of(etype):
     """The fixture's cache, with a session key of this type."""
-    client, server = der.principal(1, b"EX", b"alice"), der.principal(3, b"EX", b"host", b"web")
+    client, server = fixture.principal(1, b"EX", b"alice"), fixture.principal(3, b"EX", b"host", b"web")
     times = (1_700_000_000, 0, 1_700_036_000, 0)
-    return b"\x05\x04\x00\x00" + client + der.credential(client, server, etype, KEYS[etype], times, der.ticket())
+    return b"\x05\x04\x00\x00" + client + fixture.credential(client, server, etype, KEYS[etype], times, fixture.ticket())
 
 
-def part(time="20231114221500Z", usec=USEC, subkey=None, number=None):
-    key = None if subkey is None else der.key(*subkey)
-    number = None if number is None else der.integer(number)
-    return der.element(0x7B, der.sequence(
-        der.field(0, der.time(time)), der.field(1, der.integer(usec)), *der.present(2, key), *der.present(3, number),
-    ))
+def part(time=SECONDS, usec=USEC, subkey=None, number=None):
+    return der.enc_reply_part(time, usec, None if subkey is None else der.key(*subkey), number)
 
 
 def reply_of(seals, etype, plain, told_etype=None, usage=12):
     cipher = seals.seal(etype, KEYS[etype], usage, CONFOUNDER, plain)
     sealed = der.encrypted(etype if told_etype is None else told_etype, cipher)
-    return der.element(0x6F, der.sequence(der.field(0, der.integer(5)), der.field(1, der.integer(15)), der.field(2, sealed)))
+    return der.reply(sealed)
 
 
 def refusal(cause):
@@ -141,7 +136,7 @@ def finish_cases():
         for subkey in SUBKEYS:
             for number in NUMBERS:
                 yield finishing(seals, f"subkey {subkey}, number {number}", etype, reply_of(seals, etype, part(subkey=subkey, number=number)))
-        for time, usec in (("20231114221500Z", 4), ("20231114221459Z", 5), ("20231114221501Z", 5), ("20231114221500Z", 999_999)):
+        for time, usec in ((SECONDS, 4), (SECONDS - 1, 5), (SECONDS + 1, 5), (SECONDS, 999_999)):
             yield finishing(seals, f"of {time} and {usec}", etype, reply_of(seals, etype, part(time, usec)))
         yield finishing(seals, "for another use of the key", etype, reply_of(seals, etype, part(), usage=11))
         yield finishing(seals, "of another type", etype, reply_of(seals, etype, part(), told_etype=39 - etype))

@@ -6,8 +6,7 @@ What is expected comes from tests/support/gss_rules.py and tests/support/model.p
 import random
 import re
 
-from support import c_cases, exchange, gss_rules, model
-from support.c_cases import der as fixture
+from support import c_cases, exchange, fixture, gss_rules, model
 from support.gss_rules import IAKERB, KERBEROS, LIMIT, MICROSOFT, NTLM, SPNEGO
 
 SEED = 4559

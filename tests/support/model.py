@@ -3,7 +3,7 @@
 Nothing here is taken from the program's sources. Bytes are read by der_rules and msg_rules, files by reference.py, and sealed by
 sealing.py. What opens is looked up among what was sealed, once its tag is right, so nothing is decrypted.
 """
-from support import der_rules, fixture as der, msg_rules, reference, sealing
+from support import der, der_rules, msg_rules, reference, sealing
 
 KEY_LENGTHS = {19: 16, 20: 32}
 SHORTEST = {19: 32, 20: 40}
@@ -173,30 +173,14 @@ class Service:
 
     def reply(self, part, shown, confounder):
         """The answer to a request that asks for one, without a subkey and a number."""
-        plain = der.element(0x7B, der.sequence(der.field(0, time_of(shown[5])), der.field(1, der.integer(shown[4]))))
+        plain = der.enc_reply_part(shown[5], shown[4])
         cipher = self.seals.seal(part[1][0], part[1][1], REPLY_USAGE, confounder, plain)
-        return der.element(0x6F, der.sequence(der.field(0, der.integer(5)), der.field(1, der.integer(15)), der.field(2, der.encrypted(part[1][0], cipher))))
-
-
-def time_of(seconds):
-    """KerberosTime of the years 0000 to 9999 (the proleptic Gregorian calendar)."""
-    days, left = divmod(seconds, 86_400)
-    # days from 0000-03-01 on, in eras of 400 years
-    era, day = divmod(days + 719_468, 146_097)
-    year = (day - day // 1_460 + day // 36_524 - day // 146_096) // 365
-    day -= 365 * year + year // 4 - year // 100
-    month = (5 * day + 2) // 153
-    day -= (153 * month + 2) // 5
-    year += 400 * era + (month >= 10)
-    return der.time(f"{year:04}{(month + 2) % 12 + 1:02}{day + 1:02}{left // 3600:02}{left // 60 % 60:02}{left % 60:02}Z")
+        return der.reply(der.encrypted(part[1][0], cipher))
 
 
 def error(code, now, realm, components):
     seconds, micros = divmod(now, 1_000_000)
-    return der.element(0x7E, der.sequence(
-        der.field(0, der.integer(5)), der.field(1, der.integer(30)), der.field(4, time_of(seconds)), der.field(5, der.integer(micros)),
-        der.field(6, der.integer(code)), der.field(9, der.string(realm)), der.field(10, der.name(3, *components)),
-    ))
+    return der.error(code, seconds, micros, realm, der.name(3, *components))
 
 
 def answered(service, data, now, confounder=None, named=None):
@@ -243,15 +227,8 @@ def request(seals, cache, service, seconds, micros, confounder, is_mutual, subke
     """The request that a client makes of a cache's bytes, with a subkey as ETYPE/HEX and a number; or Refused."""
     credential = chosen(reference.cache(cache), service, seconds)
     client = credential["client"]
-    plain = der.element(0x62, der.sequence(
-        der.field(0, der.integer(5)), der.field(1, der.string(client["realm"])), der.field(2, der.name(client["name_type"], *client["components"])),
-        der.field(4, der.integer(micros)), der.field(5, time_of(seconds)),
-        *der.present(6, subkey and der.key(int(subkey.split("/")[0]), bytes.fromhex(subkey.split("/")[1]))),
-        *der.present(7, None if number is None else der.integer(number)),
-    ))
+    name = der.name(client["name_type"], *client["components"])
+    key = subkey and der.key(int(subkey.split("/")[0]), bytes.fromhex(subkey.split("/")[1]))
+    plain = der.authenticator(client["realm"], name, micros, seconds, subkey=key, number=number)
     cipher = seals.seal(credential["etype"], credential["key"], AUTHENTICATOR_USAGE, confounder, plain)
-    options = (0x20000000 if is_mutual else 0).to_bytes(4, "big")
-    return der.element(0x6E, der.sequence(
-        der.field(0, der.integer(5)), der.field(1, der.integer(14)), der.field(2, der.element(3, b"\0" + options)),
-        der.field(3, credential["ticket"]), der.field(4, der.encrypted(credential["etype"], cipher)),
-    ))
+    return der.request(0x20000000 if is_mutual else 0, credential["ticket"], der.encrypted(credential["etype"], cipher))

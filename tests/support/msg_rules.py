@@ -17,9 +17,10 @@ of RFC 4120 (sections 5.2, 5.3, 5.5.1, 5.5.2 and 5.9.1), written out from that d
 
 The second, the third and the sixth are worked out here too, and this script fails where they do not hold.
 """
-from support.msg_values import VALUES, element, encrypted, fields as numbered, flags, integer, name, octets, sequence, string, ticket, time, typed
-
+from support import der
+from support.der import encrypted, flags, key, name, octets, sequence, string, ticket, time
 from support.der_rules import LIMIT, PROGRAM, answer, head, packed, read
+from support.msg_values import VALUES
 
 
 def may(shape):
@@ -168,9 +169,9 @@ def lacking(data):
     tag, parts = parts_of(data)
     for number, part in enumerate(parts):
         if part[0] & 0xE0 == 0xA0:
-            yield element(tag, b"".join(parts[:number] + parts[number + 1 :]))
+            yield der.element(tag, b"".join(parts[:number] + parts[number + 1 :]))
         for changed in lacking(part):
-            yield element(tag, b"".join([*parts[:number], changed, *parts[number + 1 :]]))
+            yield der.element(tag, b"".join([*parts[:number], changed, *parts[number + 1 :]]))
 
 
 def of_value(title, word, data):
@@ -194,31 +195,21 @@ def message(kind, many, parts, number=2**32 - 1):
         return name(1, *[b"web"] * many, *[content] * bool(content))
 
     def listed(content):
-        return sequence(*[typed(1, bytes([7] * 2))] * many, *[typed(1, content)] * bool(content))
+        return sequence(*[key(1, bytes([7] * 2))] * many, *[key(1, content)] * bool(content))
 
-    moment = time("20231114221500Z")
-    key, cipher = typed(19, main), encrypted(19, main, 3)
-    shared = ticket(named(), cipher, realm)
-    rows = {
-        "ticket": (None, shared),
-        "enc-ticket": (0x63, [
-            (0, flags(0)), (1, key), (2, string(realm)), (3, named()), (4, typed(1, beside)), (5, moment), (6, moment), (7, moment), (8, moment),
-            (9, listed(one)), (10, listed(two)),
-        ]),
-        "ap-req": (0x6E, [(0, integer(5)), (1, integer(14)), (2, flags(1 << 29)), (3, shared), (4, encrypted(19, beside, 3))]),
-        "authenticator": (0x62, [
-            (0, integer(5)), (1, string(realm)), (2, named()), (3, typed(1, beside)), (4, integer(5)), (5, moment), (6, key),
-            (7, integer(number)), (8, listed(one)),
-        ]),
-        "ap-rep": (0x6F, [(0, integer(5)), (1, integer(15)), (2, cipher)]),
-        "enc-ap-rep": (0x7B, [(0, moment), (1, integer(5)), (2, key), (3, integer(number))]),
-        "krb-error": (0x7E, [
-            (0, integer(5)), (1, integer(30)), (2, moment), (3, integer(5)), (4, moment), (5, integer(5)), (6, integer(37)), (7, string(one)),
-            (8, named(two)), (9, string(realm)), (10, named()), (11, string(beside)), (12, octets(main)),
-        ]),
+    moment, main_key, cipher = time("20231114221500Z"), key(19, main), encrypted(19, main, 3)
+    shared = ticket(realm, named(), cipher)
+    made = {
+        "ticket": lambda: shared,
+        "enc-ticket": lambda: der.message(0x63, flags(0), main_key, string(realm), named(), key(1, beside), *[moment] * 4, listed(one), listed(two)),
+        "ap-req": lambda: der.request(1 << 29, shared, encrypted(19, beside, 3)),
+        "authenticator": lambda: der.message(0x62, 5, string(realm), named(), key(1, beside), 5, moment, main_key, number, listed(one)),
+        "ap-rep": lambda: der.reply(cipher),
+        "enc-ap-rep": lambda: der.message(0x7B, moment, 5, main_key, number),
+        "krb-error": lambda: der.message(0x7E, 5, 30, moment, 5, moment, 5, 37, string(one), named(two), string(realm), named(), string(beside),
+                                         octets(main)),
     }
-    tag, row = rows[kind]
-    return row if tag is None else element(tag, numbered(*row))
+    return made[kind]()
 
 
 def filled(kind, part, size):
@@ -281,7 +272,7 @@ def above_the_limit():
 
 def with_elements_too_many():
     """A list of many elements, each of which has room."""
-    elements = [typed(1, bytes([7] * 1024))] * 1024
+    elements = [key(1, bytes([7] * 1024))] * 1024
     part = message("enc-ticket", 0, [0] * 6)
     values = read(ENC_TICKET_PART, part)[:-2]
     expect(len(part) + len(b"".join(elements)) > LIMIT, True, part)

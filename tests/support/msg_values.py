@@ -1,23 +1,7 @@
 """Messages that no document shows, but four of the project's fixture: put together from RFC 4120's tables, by hand-written DER, without the
 project's code (der.py)."""
 
-from support.der import element, encrypted, field, integer, name, octets, sequence, string, time
-
-
-def fields(*numbered):
-    return sequence(*(field(number, part) for number, part in numbered))
-
-
-def flags(number):
-    return element(0x03, b"\0", number.to_bytes(4, "big"))
-
-
-def typed(number, content):
-    return fields((0, integer(number)), (1, octets(content)))
-
-
-def ticket(sname, part, realm=b"EX"):
-    return element(0x61, fields((0, integer(5)), (1, string(realm)), (2, sname), (3, part)))
+from support.der import encrypted, flags, key, message, name, octets, sequence, string, ticket, time
 
 
 TICKET = bytes.fromhex(
@@ -34,10 +18,10 @@ AUTHENTICATOR = bytes.fromhex(
     "62393037a003020105a1041b024558a2123010a003020101a10930071b05616c696365a403020105a511180f32303233313131343232313530305a"
 )
 ENC_AP_REP = bytes.fromhex("7b1a3018a011180f32303233313131343232313530305aa103020105")
-SHORT_TICKET = ticket(name(2, b"krbtgt", b"EX"), encrypted(20, bytes.fromhex("00ff")))
+SHORT_TICKET = ticket(b"EX", name(2, b"krbtgt", b"EX"), encrypted(20, bytes.fromhex("00ff")))
 # The least whole number of all, and the greatest where there are no negative ones.
 LEAST, MOST = -(2**31), 2**32 - 1
-EDGE_TICKET = ticket(name(LEAST, b""), encrypted(-1, b"", MOST))
+EDGE_TICKET = ticket(b"EX", name(LEAST, b""), encrypted(-1, b"", MOST))
 
 VALUES = [
     ("A ticket for host/web@EX.", "TICKET", TICKET),
@@ -45,54 +29,31 @@ VALUES = [
     ("The client's authenticator.", "AUTHENTICATOR", AUTHENTICATOR),
     ("What is sealed in the reply to it.", "ENC_AP_REP", ENC_AP_REP),
     ("A request with that ticket, mutual-required, and an authenticator of four bytes.", "AP_REQ",
-     element(0x6E, fields(
-         (0, integer(5)), (1, integer(14)), (2, flags(1 << 29)), (3, TICKET),
-         (4, encrypted(19, bytes.fromhex("01020304")))))),
+     message(0x6E, 5, 14, flags(1 << 29), TICKET, encrypted(19, bytes.fromhex("01020304")))),
     ("A reply with the key's version 2^32 - 1.", "AP_REP",
-     element(0x6F, fields(
-         (0, integer(5)), (1, integer(15)), (2, encrypted(20, bytes.fromhex("a1a2a3"), 2**32 - 1))))),
+     message(0x6F, 5, 15, encrypted(20, bytes.fromhex("a1a2a3"), 2**32 - 1))),
     ("What is sealed in a reply, with all fields.", "FULL_ENC_AP_REP",
-     element(0x7B, fields(
-         (0, time("20231114221500Z")), (1, integer(999999)), (2, typed(19, bytes.fromhex("0b0c"))), (3, integer(7))))),
+     message(0x7B, time("20231114221500Z"), 999999, key(19, bytes.fromhex("0b0c")), 7)),
     ("An authenticator with all fields.", "FULL_AUTHENTICATOR",
-     element(0x62, fields(
-         (0, integer(5)), (1, string(b"EX")), (2, name(1, b"alice", b"admin")), (3, typed(32771, bytes.fromhex("aabb"))), (4, integer(0)),
-         (5, time("19700101000000Z")), (6, typed(20, bytes.fromhex("0c"))), (7, integer(128)),
-         (8, sequence(typed(1, bytes.fromhex("3000")), typed(64, b"")))))),
+     message(0x62, 5, string(b"EX"), name(1, b"alice", b"admin"), key(32771, bytes.fromhex("aabb")), 0, time("19700101000000Z"), key(20, bytes.fromhex("0c")), 128, sequence(key(1, bytes.fromhex("3000")), key(64, b"")))),
     ("What is sealed in a ticket, with all fields.", "FULL_ENC_TICKET",
-     element(0x63, fields(
-         (0, flags(1 << 24)), (1, typed(19, bytes.fromhex("0d"))), (2, string(b"EX")), (3, name(1, b"alice")), (4, typed(1, bytes.fromhex("4142"))),
-         (5, time("20231114221320Z")), (6, time("20231114221321Z")), (7, time("20231115081320Z")),
-         (8, time("20231116081320Z")), (9, sequence(typed(2, bytes.fromhex("7f000001")))), (10, sequence(typed(1, bytes.fromhex("3000"))))))),
+     message(0x63, flags(1 << 24), key(19, bytes.fromhex("0d")), string(b"EX"), name(1, b"alice"), key(1, bytes.fromhex("4142")), time("20231114221320Z"), time("20231114221321Z"), time("20231115081320Z"), time("20231116081320Z"), sequence(key(2, bytes.fromhex("7f000001"))), sequence(key(1, bytes.fromhex("3000"))))),
     ("A ticket that tells no version of the key.", "SHORT_TICKET", SHORT_TICKET),
     ("A request that tells no version of a key.", "SHORT_AP_REQ",
-     element(0x6E, fields(
-         (0, integer(5)), (1, integer(14)), (2, flags(0)), (3, SHORT_TICKET), (4, encrypted(20, bytes.fromhex("05")))))),
+     message(0x6E, 5, 14, flags(0), SHORT_TICKET, encrypted(20, bytes.fromhex("05")))),
     ("A ticket with numbers at their edges.", "EDGE_TICKET", EDGE_TICKET),
     ("A request with that ticket, that tells the versions of both keys.", "FULL_AP_REQ",
-     element(0x6E, fields(
-         (0, integer(5)), (1, integer(14)), (2, flags(3 << 29)), (3, EDGE_TICKET), (4, encrypted(LEAST, bytes.fromhex("0708"), MOST))))),
+     message(0x6E, 5, 14, flags(3 << 29), EDGE_TICKET, encrypted(LEAST, bytes.fromhex("0708"), MOST))),
     ("A reply that tells no version of the key.", "SHORT_AP_REP",
-     element(0x6F, fields((0, integer(5)), (1, integer(15)), (2, encrypted(-1, b""))))),
+     message(0x6F, 5, 15, encrypted(-1, b""))),
     ("What is sealed in a reply, with numbers at their edges.", "EDGE_ENC_AP_REP",
-     element(0x7B, fields(
-         (0, time("99991231235959Z")), (1, integer(0)), (2, typed(LEAST, b"")), (3, integer(MOST))))),
+     message(0x7B, time("99991231235959Z"), 0, key(LEAST, b""), MOST)),
     ("An authenticator with numbers at their edges.", "EDGE_AUTHENTICATOR",
-     element(0x62, fields(
-         (0, integer(5)), (1, string(b"")), (2, name(LEAST)), (3, typed(-1, b"")), (4, integer(999999)),
-         (5, time("00000101000000Z")), (6, typed(-129, b"")), (7, integer(MOST)), (8, sequence(typed(-128, b"")))))),
+     message(0x62, 5, string(b""), name(LEAST), key(-1, b""), 999999, time("00000101000000Z"), key(-129, b""), MOST, sequence(key(-128, b"")))),
     ("What is sealed in a ticket, with numbers at their edges.", "EDGE_ENC_TICKET",
-     element(0x63, fields(
-         (0, flags(MOST)), (1, typed(LEAST, b"")), (2, string(b"")), (3, name(-1)), (4, typed(-32769, b"")),
-         (5, time("00000101000000Z")), (7, time("99991231235959Z")), (9, sequence(typed(-32768, b""))),
-         (10, sequence(typed(-1, b"")))))),
+     message(0x63, flags(MOST), key(LEAST, b""), string(b""), name(-1), key(-32769, b""), time("00000101000000Z"), None, time("99991231235959Z"), None, sequence(key(-32768, b"")), sequence(key(-1, b"")))),
     ("An error of the service host/web@EX: the clocks differ too much.", "KRB_ERROR",
-     element(0x7E, fields(
-         (0, integer(5)), (1, integer(30)), (4, time("20231114221500Z")), (5, integer(7)), (6, integer(37)),
-         (9, string(b"EX")), (10, name(3, b"host", b"web"))))),
+     message(0x7E, 5, 30, None, None, time("20231114221500Z"), 7, 37, None, None, string(b"EX"), name(3, b"host", b"web"))),
     ("An error with all fields, and with numbers at their edges.", "FULL_KRB_ERROR",
-     element(0x7E, fields(
-         (0, integer(5)), (1, integer(30)), (2, time("20231114221500Z")), (3, integer(999999)),
-         (4, time("20231114222000Z")), (5, integer(999999)), (6, integer(LEAST)), (7, string(b"EX")), (8, name(-1, b"alice")),
-         (9, string(b"EX")), (10, name(LEAST, b"host", b"web")), (11, string(b"too late")), (12, octets(bytes.fromhex("3000")))))),
+     message(0x7E, 5, 30, time("20231114221500Z"), 999999, time("20231114222000Z"), 999999, LEAST, string(b"EX"), name(-1, b"alice"), string(b"EX"), name(LEAST, b"host", b"web"), string(b"too late"), octets(bytes.fromhex("3000")))),
 ]

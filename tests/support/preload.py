@@ -7,7 +7,7 @@ from pathlib import Path
 
 import pytest
 
-from support import TESTS, drawn_files, fixture, generated, generated_edits, gss_rules, reference
+from support import TESTS, der, drawn_files, fixture, generated, generated_edits, gss_rules, reference
 from support.checks import slug
 from support.generated_exchange import entry
 
@@ -77,7 +77,7 @@ def requested_token():
 
 def finished():
     words = "finish f host/web@EX --time 1700000100 --usec 5 --reply".split()
-    reply = fixture.reply(fixture.key(20, bytes(32)), 7)
+    reply = fixture.reply(der.key(20, bytes(32)), 7)
     return Command([*words, reply.hex()], fixture.cache(), b"", b"agreed alice@EX 19 seq 7 subkey 20\n", OLD)
 
 
