@@ -1,4 +1,5 @@
-"""What all tests share: the built program and libraries, checks within a test, the order of tests, and how many there have to be.
+"""What all tests share: the built program and libraries, checks within a test, the order of tests, and how many there
+have to be.
 
 Fixtures that cost much are made once for all processes of pytest-xdist, and only if a test asks for them.
 """
@@ -18,7 +19,8 @@ LOCK = TOP / "build/.lock"
 
 def pytest_addoption(parser):
     parser.addoption("--seed", type=int, help="the order of the tests: the seed that an earlier run printed")
-    parser.addoption("--case", default="", metavar="WORD", help="of tests that look at many cases, only cases whose names contain WORD")
+    parser.addoption("--case", default="", metavar="WORD",
+                     help="of tests that look at many cases, only cases whose names contain WORD")
     parser.addoption("--inputs", type=int, default=50_000, help="how many files and messages are drawn for fuzzing")
     parser.addoption("--tokens", type=int, default=1_000_000, help="how many tokens are drawn for fuzzing")
     parser.addini("least_tests", "how many tests a run of the whole suite has")
@@ -45,7 +47,8 @@ def pytest_report_header(config):
 
 
 def pytest_collection_modifyitems(config, items):
-    """Shuffles the modules, and the tests of each. Those that take long come first, so that no process is left with one at the end."""
+    """Shuffles the modules, and the tests of each. Those that take long come first, so that no process is left with one
+    at the end."""
     draw, modules = random.Random(config.seed), {}
     for it in items:
         modules.setdefault(it.path, []).append(it)
@@ -121,7 +124,8 @@ def pytest_sessionfinish(session):
         least = int(config.getini(name))
         if count < least:
             TOTALS["failed"] += 1
-            TOTALS[name] = f"FAILED: the whole suite has {least} {name.partition('_')[2]} (pyproject.toml), and {count} ran"
+            what = name.partition("_")[2]
+            TOTALS[name] = f"FAILED: the whole suite has {least} {what} (pyproject.toml), and {count} ran"
             session.exitstatus = pytest.ExitCode.TESTS_FAILED
 
 

@@ -12,12 +12,14 @@ SLOW = 10_000
 
 @pytest.fixture(scope="module")
 def fuzz(archive, tmp_path_factory):
-    return [linked(archive, tmp_path_factory.mktemp("fuzz") / "fuzz", "-g", of_tests("fuzz")), KEYTAB, CACHE, message("request"), message("reply")]
+    return [linked(archive, tmp_path_factory.mktemp("fuzz") / "fuzz", "-g", of_tests("fuzz")), KEYTAB, CACHE,
+            message("request"), message("reply")]
 
 
 @pytest.fixture(scope="module")
 def fuzz_tokens(archive, tmp_path_factory):
-    return [linked(archive, tmp_path_factory.mktemp("fuzz") / "fuzz_tokens", "-g", of_tests("fuzz_tokens")), KEYTAB, message("request")]
+    return [linked(archive, tmp_path_factory.mktemp("fuzz") / "fuzz_tokens", "-g", of_tests("fuzz_tokens")), KEYTAB,
+            message("request")]
 
 
 @pytest.mark.slow

@@ -1,4 +1,5 @@
-"""Programs in C over the library: the exchange that tests share, each fault, memory that is refused, large files, and threads."""
+"""Programs in C over the library: the exchange that tests share, each fault, memory that is refused, large files, and
+threads."""
 import functools
 
 import pytest

@@ -1,6 +1,6 @@
-"""The documents beside what is there: their code is a program's, their commands are run, what they name as proved has these names, and
-their files exist. The manual page of the library and the shells' completions are what their scripts make, and mandoc finds nothing wrong
-with either page.
+"""The documents beside what is there: their code is a program's, their commands are run, what they name as proved has
+these names, and their files exist. The manual page of the library and the shells' completions are what their scripts
+make, and mandoc finds nothing wrong with either page.
 """
 import re
 import subprocess
@@ -15,11 +15,13 @@ EXAMPLE = TOP / "crates/krb_example"
 # How long the README may be.
 LINES = 200
 # Those whose lines are laid out, and whose commands are run.
-LAID_OUT = ("README.md", "CONTRIBUTING.md", "CHANGELOG.md", "docs/KRBTOOL.md", "docs/LIBRARY.md", "docs/OPERATING.md", "docs/PROOFS.md")
+LAID_OUT = ("README.md", "CONTRIBUTING.md", "CHANGELOG.md", "docs/KRBTOOL.md", "docs/LIBRARY.md", "docs/OPERATING.md",
+            "docs/PROOFS.md")
 OF_THE_EXAMPLE = ("README.md", "docs/LIBRARY.md")
 OF_THE_PROGRAM = ("README.md", "docs/KRBTOOL.md")
 # All that link to files.
-LINKING = ("README.md", "CONTRIBUTING.md", "tests/README.md", "bench/README.md", *(f"docs/{it.name}" for it in sorted((TOP / "docs").glob("*.md"))))
+LINKING = ("README.md", "CONTRIBUTING.md", "tests/README.md", "bench/README.md",
+           *(f"docs/{it.name}" for it in sorted((TOP / "docs").glob("*.md"))))
 
 
 def text_of(name):
@@ -50,7 +52,8 @@ def doc_blocks(text):
 def test_crate_examples():
     """Each block of code in the documentation of a crate stands in a function of krb_doc_examples."""
     programs = "".join(it.read_text() for it in (TOP / "crates/krb_doc_examples/src").glob("*.rt"))
-    found = [(path, it) for path in sorted((TOP / "crates").glob("*/src/**/*.rt")) for it in doc_blocks(path.read_text())]
+    found = [(path, it) for path in sorted((TOP / "crates").glob("*/src/**/*.rt"))
+             for it in doc_blocks(path.read_text())]
     assert [str(path.relative_to(TOP)) for path, it in found if textwrap.indent(it, "    ") not in programs] == []
     assert len(found) >= 11
 
@@ -63,10 +66,10 @@ def test_example_output():
 # What stands around a block of C, so that it compiles.
 AROUND = """#include <stdio.h>
 #include "fevstunik.h"
-void example(const uint8_t *keytab, size_t keytab_size, const uint8_t *request, size_t request_size, fevstunik_time start,
-             fevstunik_time now);
-void example(const uint8_t *keytab, size_t keytab_size, const uint8_t *request, size_t request_size, fevstunik_time start,
-             fevstunik_time now)
+void example(const uint8_t *keytab, size_t keytab_size, const uint8_t *request, size_t request_size,
+             fevstunik_time start, fevstunik_time now);
+void example(const uint8_t *keytab, size_t keytab_size, const uint8_t *request, size_t request_size,
+             fevstunik_time start, fevstunik_time now)
 {
 %s}
 """
@@ -76,7 +79,8 @@ def test_c_code():
     """Each block of C of README compiles by the header."""
     assert blocks("README.md", "c")
     for block in blocks("README.md", "c"):
-        words = ["gcc", "-std=c99", "-Wall", "-Wextra", "-Werror", "-pedantic", f"-I{TOP}/include", "-fsyntax-only", "-x", "c", "-"]
+        words = ["gcc", "-std=c99", "-Wall", "-Wextra", "-Werror", "-pedantic", f"-I{TOP}/include", "-fsyntax-only",
+                 "-x", "c", "-"]
         ran = subprocess.run(words, input=AROUND % block, capture_output=True, text=True)
         assert ran.returncode == 0, ran.stderr
 
@@ -99,7 +103,9 @@ def test_options(program):
     words = set(commands)
     for command in commands:
         if command != "help":
-            words |= set(re.findall(r"--[a-z]+", subprocess.run([program, command, "--help"], capture_output=True, text=True).stdout))
+            words |= set(re.findall(r"--[a-z]+",
+                                    subprocess.run([program, command, "--help"], capture_output=True,
+                                                   text=True).stdout))
     assert len(words) >= 12
     assert sorted(it for it in words - {"help", "--help"} if it not in manual or it not in document) == []
 
@@ -115,26 +121,31 @@ def test_manual(tmp_path):
 def test_completions(program, tmp_path):
     """The completions are what their script makes of the program's help (packaging/completion.py makes them)."""
     folder = TOP / "packaging/completion"
-    ran = subprocess.run([sys.executable, TOP / "packaging/completion.py", program, tmp_path], capture_output=True, text=True)
+    ran = subprocess.run([sys.executable, TOP / "packaging/completion.py", program, tmp_path], capture_output=True,
+                         text=True)
     assert ran.returncode == 0, ran.stderr
     made = list(tmp_path.iterdir())
     assert made
-    assert [it.name for it in made if not (folder / it.name).is_file() or (folder / it.name).read_text() != it.read_text()] == []
+    assert [it.name for it in made if not (folder / it.name).is_file()
+            or (folder / it.name).read_text() != it.read_text()] == []
 
 
 # The words of a command line, and what the last one is completed to.
 COMPLETED = {
     "krbtool req": "request", "krbtool list-": "list-keytab list-ccache", "krbtool request f --m": "--mutual",
     "krbtool list-keytab --r": "--readable", "krbtool list-ccache --readable --now -": "",
-    "krbtool pick-key k host/web@EX 19 --k": "--kvno", "krbtool finish --time -": "", "krbtool help fin": "finish", "krbtool none -": "",
+    "krbtool pick-key k host/web@EX 19 --k": "--kvno", "krbtool finish --time -": "", "krbtool help fin": "finish",
+    "krbtool none -": "",
 }
 
 
 @pytest.mark.parametrize("words", COMPLETED)
 def test_completed(words):
     """What bash completes words to."""
-    script = f'. "$1"; COMP_WORDS=({words}); COMP_CWORD=$((${{#COMP_WORDS[@]}} - 1)); _krbtool; echo "${{COMPREPLY[*]}}"'
-    ran = subprocess.run(["bash", "-c", script, "bash", TOP / "packaging/completion/krbtool.bash"], capture_output=True, text=True)
+    script = (f'. "$1"; COMP_WORDS=({words}); COMP_CWORD=$((${{#COMP_WORDS[@]}} - 1)); '
+              '_krbtool; echo "${COMPREPLY[*]}"')
+    ran = subprocess.run(["bash", "-c", script, "bash", TOP / "packaging/completion/krbtool.bash"], capture_output=True,
+                         text=True)
     assert (ran.stdout, ran.stderr) == (f"{COMPLETED[words]}\n", "")
 
 
@@ -147,7 +158,8 @@ def test_mandoc(path):
 
 
 def told(block):
-    """The commands of a block, each with what it says. A line that ends in a backslash or a pipe goes on in the next."""
+    """The commands of a block, each with what it says. A line that ends in a backslash or a pipe goes on in the
+    next."""
     for part in re.split(r"^\$ ", block, flags=re.M)[1:]:
         command, _, said = part.partition("\n")
         while command.endswith(("\\", "|")):
@@ -162,7 +174,8 @@ def test_commands(program, tmp_path, checks, name):
     (tmp_path / "krbtool").symlink_to(program)
     (tmp_path / "examples").symlink_to(TOP / "examples")
     for command, wanted in (it for block in blocks(name, "console") for it in told(block)):
-        ran = subprocess.run(["sh", "-c", command], cwd=tmp_path, stdout=subprocess.PIPE, stderr=subprocess.STDOUT, timeout=60, text=True)
+        ran = subprocess.run(["sh", "-c", command], cwd=tmp_path, stdout=subprocess.PIPE, stderr=subprocess.STDOUT,
+                             timeout=60, text=True)
         checks.equal(command, ran.stdout, wanted)
 
 
@@ -197,7 +210,8 @@ def test_length_of_readme():
 
 
 def names_of(crate):
-    """The names of a crate's calls, clauses, types, variants and fields, and of the files of its definitions that a reader has to know."""
+    """The names of a crate's calls, clauses, types, variants and fields, and of the files of its definitions that a
+    reader has to know."""
     folder = TOP / "crates" / crate
     specs = [it for it in (folder / "specs").rglob("*.antt") if "Inner" not in it.parts]
     sources = [it for it in (folder / "src").rglob("*.rt") if "test" not in it.name]

@@ -1,7 +1,7 @@
 """What tests and crates keep beside the scripts that make it, layout aside.
 
-Answers of the libraries' calls that are copied from a published document, or that were drawn once, are compared with what the second
-implementation computes.
+Answers of the libraries' calls that are copied from a published document, or that were drawn once, are compared with
+what the second implementation computes.
 """
 import contextlib
 import io
@@ -122,17 +122,21 @@ def caches():
 
 
 def exchange():
-    """The requests, replies and the error of the fixture stand among the cases of the exchange, and have the sizes that they had when they were made."""
+    """The requests, replies and the error of the fixture stand among the cases of the exchange, and have the sizes that
+    they had when they were made."""
     made = fixture.made()
     text = "".join((TESTS / f"exchange/{it}.toml").read_text() for it in ("request", "replies"))
-    names = ["configured cache", "request", "mutual request with a subkey and a number", "reply", "reply with a subkey and a number", "error"]
+    names = ["configured cache", "request", "mutual request with a subkey and a number", "reply",
+             "reply with a subkey and a number", "error"]
     missing = [name for name in names if not re.search(rf'["\b ]{made[name].hex()}"', text)]
-    sizes = [len(made[it]) for it in ("ticket part", "ticket", "cache", "configured cache", "request", "reply", "error")]
+    sizes = [len(made[it]) for it in ("ticket part", "ticket", "cache", "configured cache", "request", "reply",
+                                      "error")]
     return f"not there: {missing}" if missing else same(sizes, [119, 214, 352, 178, 348, 87, 73])
 
 
 # A client's call for a request in a context: whether it asks for a reply, its number, its flags and its bindings.
-IN_CONTEXT = re.compile(r"(?:request|initiate) \S+ 1700000100 5 202122232425262728292a2b2c2d2e2f (\w+) none (\w+) (\d+)/([0-9a-f]{32})")
+IN_CONTEXT = re.compile(r"(?:request|initiate) \S+ 1700000100 5 202122232425262728292a2b2c2d2e2f "
+                        r"(\w+) none (\w+) (\d+)/([0-9a-f]{32})")
 
 
 def contexts():
@@ -151,7 +155,8 @@ def contexts():
 
 def example():
     """The files that the example of LIBRARY.md runs on."""
-    found = [(TOP / "crates/krb_example/data" / name).read_bytes() for name in ("service.keytab", "client.ccache", "request")]
+    found = [(TOP / "crates/krb_example/data" / name).read_bytes()
+             for name in ("service.keytab", "client.ccache", "request")]
     return same(found, [fixture.keytab(), fixture.cache(), fixture.request()])
 
 

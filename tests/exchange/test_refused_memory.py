@@ -1,8 +1,9 @@
 """Calls of the libraries that the command doesn't make, with memory refused.
 
-The program of the crate krb_calls_exchange makes each call twice in a run (its arguments are `call CALL`). Of each run one call for memory
-is refused, or one and all after it, until a run meets none (tests/support/refuse.c). The answer is then out of memory and no other, what
-there was before is as it was, and what follows is answered as if the refused call had never been made.
+The program of the crate krb_calls_exchange makes each call twice in a run (its arguments are `call CALL`). Of each run
+one call for memory is refused, or one and all after it, until a run meets none (tests/support/refuse.c). The answer is
+then out of memory and no other, what there was before is as it was, and what follows is answered as if the refused call
+had never been made.
 """
 import os
 import subprocess
@@ -24,7 +25,8 @@ def twice(given):
 
 
 def appended(refused):
-    entry = {"realm": b"EX", "components": [b"host", b"web7"], "name_type": 1, "timestamp": 1_700_000_000, "kvno": 7, "etype": 20, "key": b"\7" * 32}
+    entry = {"realm": b"EX", "components": [b"host", b"web7"], "name_type": 1, "timestamp": 1_700_000_000, "kvno": 7,
+             "etype": 20, "key": b"\7" * 32}
     file, lines = fixture.keytab(), []
     for it in range(2):
         if it not in refused:
@@ -34,7 +36,8 @@ def appended(refused):
 
 
 def taken(calls, refused, held):
-    """The answers to calls, each a request's moment, by a service that has seen what is held; these are refused memory."""
+    """The answers to calls, each a request's moment, by a service that has seen what is held; these are refused
+    memory."""
     lines = []
     for it, moment in enumerate(calls):
         lines.append(REFUSED if it in refused else "Repeat" if moment in held else ACCEPTED)
@@ -80,13 +83,14 @@ CALLS = {
 
 
 def run(room, words, **more):
-    done = subprocess.run([calls.built("krb_calls_exchange"), *words], cwd=room, env={**os.environ, **more}, capture_output=True, timeout=preload.SECONDS)
+    done = subprocess.run([calls.built("krb_calls_exchange"), *words], cwd=room, env={**os.environ, **more},
+                          capture_output=True, timeout=preload.SECONDS)
     return done.returncode, done.stdout.decode().splitlines()
 
 
 def refused_steps(steps, lines_of, status, lines, lasting):
-    """The steps that this run was refused memory in: none where it couldn't make the calls, or not tell of them; or None where the run
-    is wrong."""
+    """The steps that this run was refused memory in: none where it couldn't make the calls, or not tell of them; or
+    None where the run is wrong."""
     for first in range(steps):
         refused = set(range(first, steps if lasting else first + 1))
         wanted = lines_of(refused)
@@ -107,7 +111,8 @@ def swept(room, preloaded, name, steps, lines_of, lasting):
         if not told.exists():
             well = status == 0 and lines == lines_of(set())
             lacking = set() if lasting else set(range(steps)) - met
-            return None if well and not lacking else f"steps {lacking} are refused by no run, and with {number} calls granted: {status} {lines}"
+            wrong = f"steps {lacking} are refused by no run, and with {number} calls granted: {status} {lines}"
+            return None if well and not lacking else wrong
         if not met and passed_over < PASSED_OVER and (status, lines) == (0, lines_of(set())):
             passed_over += 1
             continue

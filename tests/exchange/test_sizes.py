@@ -18,6 +18,10 @@ def begins(text):
     return lambda answer: answer.startswith(text)
 
 
+def ends(first, last):
+    return lambda answer: answer.startswith(first) and answer.endswith(last)
+
+
 def keytabs():
     """Keytabs of 0 to 300 entries are read and written, and each entry is removed and added again."""
     file = b"\5\2"
@@ -25,7 +29,8 @@ def keytabs():
         yield f"keytab read slice {file.hex()}", begins(f"ok {count} ")
         yield f"keytab write {file.hex()}", f"ok {calls.shown(file)}"
         yield f"keytab turned {file.hex()}", "same"
-        entry = {"realm": b"EX", "components": [b"host", b"web%d" % count], "name_type": 1, "timestamp": 0, "kvno": count, "etype": 20, "key": b"\7" * 32}
+        entry = {"realm": b"EX", "components": [b"host", b"web%d" % count], "name_type": 1, "timestamp": 0,
+                 "kvno": count, "etype": 20, "key": b"\7" * 32}
         file += reference.record_of(entry)
 
 
@@ -36,11 +41,13 @@ def caches():
     for count in range(301):
         yield count, file, name_word(3, b"EX", [b"host", b"web%d" % (count - 1)])
         server = fixture.principal(3, b"EX", b"host", b"web%d" % count)
-        file += fixture.credential(client, server, 19, fixture.SESSION_KEY, (1_700_000_000, 0, 1_700_036_000, 0), fixture.ticket())
+        file += fixture.credential(client, server, 19, fixture.SESSION_KEY, (1_700_000_000, 0, 1_700_036_000, 0),
+                                   fixture.ticket())
 
 
 def read_caches():
-    """Each is read, written and searched for the last credential; then a cache of 300 parts is searched, three of them for one server."""
+    """Each is read, written and searched for the last credential; then a cache of 300 parts is searched, three of them
+    for one server."""
     for count, file, name in caches():
         yield f"cache read slice {file.hex()}", begins("ok ")
         yield f"cache write {file.hex()}", f"ok {calls.shown(file)}"
@@ -56,7 +63,8 @@ def asked_caches():
     """A request is made with the last credential of each."""
     for count, file, name in caches():
         yield f"cache {file.hex()}", "cache"
-        yield f"request {name} 1700000100 5 {CONFOUNDER.hex()} plain none none", begins("6e82") if count else "refused NoCredential"
+        line = f"request {name} 1700000100 5 {CONFOUNDER.hex()} plain none none"
+        yield line, begins("6e82") if count else "refused NoCredential"
 
 
 def names():
@@ -78,20 +86,23 @@ def requests(memory):
         yield f"request {SERVICE} 1700000100 {micros} {CONFOUNDER.hex()} mutual none {micros}", begins("6e82")
         yield f"accept 1700000100 1000 made:{micros}", begins("accepted ")
         yield f"reply {CONFOUNDER.hex()} none {micros}", begins("6f")
-        yield f"finish {micros} replied", lambda answer, number=micros: answer.startswith("agreed ") and answer.endswith(f" none {number} none {number}")
+        yield f"finish {micros} replied", ends("agreed ", f" none {micros} none {micros}")
     yield "held", "1000 1700000100 1000"
 
 
 def errors():
     """The error of each code is built, and has that code (field 6 of a KRB-ERROR, RFC 4120, section 5.9.1)."""
     for cause, code in CODES.items():
-        yield f"error {cause} 1700000100 5 {SERVICE}", lambda answer, code=code: answer.startswith("7e") and f"a6030201{code:02x}" in answer
+        has_code = f"a6030201{code:02x}"
+        yield f"error {cause} 1700000100 5 {SERVICE}", lambda it, word=has_code: it.startswith("7e") and word in it
     yield f"error OutOfMemory 1700000100 5 {SERVICE}", lambda answer: not answer.startswith("7e")
 
 
 SWEEPS = {
-    "keytabs": (FILES, keytabs), "caches": (FILES, read_caches), "the last credential of caches": (EXCHANGE, asked_caches), "names": (FILES, names),
-    "requests, list": (EXCHANGE, lambda: requests("list")), "requests, timed": (EXCHANGE, lambda: requests("timed")), "errors": (EXCHANGE, errors),
+    "keytabs": (FILES, keytabs), "caches": (FILES, read_caches),
+    "the last credential of caches": (EXCHANGE, asked_caches), "names": (FILES, names),
+    "requests, list": (EXCHANGE, lambda: requests("list")), "requests, timed": (EXCHANGE, lambda: requests("timed")),
+    "errors": (EXCHANGE, errors),
 }
 
 
@@ -99,7 +110,8 @@ SWEEPS = {
 def test_sizes(name):
     program, trials = SWEEPS[name]
     lines, are_right = zip(*trials())
-    done = subprocess.run([calls.built(program)], input="".join(f"{it}\n" for it in lines), capture_output=True, text=True)
+    done = subprocess.run([calls.built(program)], input="".join(f"{it}\n" for it in lines), capture_output=True,
+                          text=True)
     found = done.stdout.splitlines()
     assert (done.returncode, len(found)) == (0, len(lines))
     for line, answer, right in zip(lines, found, are_right):

@@ -1,5 +1,6 @@
 """The program of the crate krb_calls_files gets files that claim 16 MB by a length or a count and have a few bytes
-(tests/support/drawn_files.py), and no more address space than it needs for a small file, and 512 KiB (setrlimit, as the shell's `ulimit -v`).
+(tests/support/drawn_files.py), and no more address space than it needs for a small file, and 512 KiB (setrlimit, as the
+shell's `ulimit -v`).
 
 The answer is the fault that is there: so nothing was reserved that the bytes don't bear out.
 """
@@ -24,7 +25,8 @@ def answered(lines, limit):
     def limited():
         resource.setrlimit(resource.RLIMIT_AS, (limit, limit))
 
-    ran = subprocess.run([calls.built(drawn_files.PROGRAM)], input=calls.joined([lines]).encode(), capture_output=True, preexec_fn=limited, timeout=SECONDS)
+    ran = subprocess.run([calls.built(drawn_files.PROGRAM)], input=calls.joined([lines]).encode(), capture_output=True,
+                         preexec_fn=limited, timeout=SECONDS)
     return ran.returncode, ran.stdout.decode(errors="replace").splitlines()
 
 
@@ -32,7 +34,8 @@ def small():
     """A small file of each kind, and a reader of each."""
     name = "1/4558/616c696365"
     cache = "0504000000000001000000010000000245580000000561" + "6c696365"
-    yield ["keytab parse 0502", "keytab read piece:100 0502", "entries piece:100 0502", "next"], ["ok 0 .", "ok 0 . given 2 failures 0", "open", "end"]
+    yield ["keytab parse 0502", "keytab read piece:100 0502", "entries piece:100 0502",
+           "next"], ["ok 0 .", "ok 0 . given 2 failures 0", "open", "end"]
     lines = [f"cache parse {cache}", f"cache read piece:100 {cache}", f"credentials piece:100 {cache}", "next"]
     yield lines, [f"ok {name} none 0 .", f"ok {name} none 0 . given 27 failures 0", "open", "end"]
 
@@ -52,6 +55,7 @@ def limit():
     return found
 
 
-@pytest.mark.parametrize("name, lines, answers", [pytest.param(*it[1:], id=slug(it[1])) for it in drawn_files.claim_cases()])
+@pytest.mark.parametrize("name, lines, answers",
+                         [pytest.param(*it[1:], id=slug(it[1])) for it in drawn_files.claim_cases()])
 def test_claimed(limit, name, lines, answers):
     assert answered(lines, limit) == (0, answers)

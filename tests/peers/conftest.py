@@ -1,7 +1,8 @@
-"""Real Kerberos on this machine: KDCs of MIT krb5 and Heimdal on 127.0.0.1, in a folder of their own, and tickets of each way.
+"""Real Kerberos on this machine: KDCs of MIT krb5 and Heimdal on 127.0.0.1, in a folder of their own, and tickets of
+each way.
 
-Session keys come to be of type 19 or 20 by the advice of docs/OPERATING.md, which is read from there. ask.c, serve.c and pick.c are a
-client, a service and what picks a key, of either library.
+Session keys come to be of type 19 or 20 by the advice of docs/OPERATING.md, which is read from there. ask.c, serve.c
+and pick.c are a client, a service and what picks a key, of either library.
 """
 import functools
 
@@ -62,7 +63,8 @@ class World:
     def keytabs(self):
         """Keytabs of the tools of both, by the names of tickets.KEYTABS."""
         assert self.turned and self.wrong_keytab
-        found = [*tickets.keytabs_of_mit(self.mit), *tickets.keytabs_of_heimdal(self.heimdal), *tickets.rotated_keytabs(self.mit, self.heimdal)]
+        found = [*tickets.keytabs_of_mit(self.mit), *tickets.keytabs_of_heimdal(self.heimdal),
+                 *tickets.rotated_keytabs(self.mit, self.heimdal)]
         return {f"{path.stem} of {realm.name}": (realm, path) for realm, path in found}
 
     @functools.cached_property
@@ -70,7 +72,8 @@ class World:
         """Caches of the tools of both, by the names of tickets.CACHES."""
         assert self.turned and self.old_types and self.postdated
         return {f"{stem} of {realm.name}": (realm, realm.folder / f"{stem}.ccache")
-                for realm, stems in ((self.mit, tickets.CACHES_OF_MIT), (self.heimdal, tickets.CACHES_OF_HEIMDAL)) for stem in stems}
+                for realm, stems in ((self.mit, tickets.CACHES_OF_MIT), (self.heimdal, tickets.CACHES_OF_HEIMDAL))
+                for stem in stems}
 
 
 @pytest.fixture(scope="session")

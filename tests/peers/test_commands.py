@@ -1,5 +1,5 @@
-"""`krbtool finish` given the replies of their services; `krbtool pick-key` beside what their tools list and their libraries pick; and
-`krbtool add-keys` beside their tools."""
+"""`krbtool finish` given the replies of their services; `krbtool pick-key` beside what their tools list and their
+libraries pick; and `krbtool add-keys` beside their tools."""
 import pytest
 
 from support import der_rules, msg_rules, tickets
@@ -21,7 +21,8 @@ VERSION = bytes.fromhex("a003020105")
 
 
 class Exchange:
-    """A request of `krbtool request --mutual` at one moment, and the reply of a library's service, with what that says of it."""
+    """A request of `krbtool request --mutual` at one moment, and the reply of a library's service, with what that says
+    of it."""
 
     def __init__(self, peers, library, ticket, words):
         self.peers, self.ticket, self.second = peers, ticket, now()
@@ -81,7 +82,8 @@ def bent(exchange, other):
 
 @pytest.mark.parametrize("ticket", tickets.OF_EACH_TYPE, indirect=True, ids=slug)
 def test_finish(checks, world, peers, ticket):
-    """The replies of their services with each choice of theirs, and some that were bent. The other ticket has another session key."""
+    """The replies of their services with each choice of theirs, and some that were bent. The other ticket has another
+    session key."""
     at = tickets.OF_EACH_TYPE.index(ticket.label)
     other = world.tickets[tickets.OF_EACH_TYPE[(at + 1) % len(tickets.OF_EACH_TYPE)]]
     for library in LIBRARIES:
@@ -123,7 +125,8 @@ def listed_by_mit(realm, path):
 
 
 def chosen(lines, name, etype, kvno):
-    """The line that a ticket's key is in: the first of those with the highest number, or with the wanted one; or why there is none."""
+    """The line that a ticket's key is in: the first of those with the highest number, or with the wanted one; or why
+    there is none."""
     of_name = [line for line in lines if line[2] == name]
     of_key = [line for line in of_name if line[1] == str(etype) and etype in USABLE]
     fitting = [line for line in of_key if kvno in (None, int(line[0]))]
@@ -145,11 +148,13 @@ def picked(peers, path, name, etype, kvno):
 def picked_by(peers, realm, library, path, asked):
     """What krb5_kt_get_entry of a library gives for each that is asked for."""
     lines = "".join(f"{name} {etype} {kvno or 0}\n" for name, etype, kvno in asked)
-    return ran([peers.path("pick", library), f"FILE:{path}"], env=realm.environment("default"), input=lines).splitlines()
+    return ran([peers.path("pick", library), f"FILE:{path}"], env=realm.environment("default"),
+               input=lines).splitlines()
 
 
 def is_clear(lines, name, etype, kvno):
-    """Whether MIT's library takes the highest number: beside one above 240 it takes one below 128 for a larger one that was cut."""
+    """Whether MIT's library takes the highest number: beside one above 240 it takes one below 128 for a larger one that
+    was cut."""
     numbers = [int(line[0]) for line in lines if line[2] == name and line[1] == str(etype)]
     return kvno is not None or not numbers or max(numbers) <= 240 or min(numbers) >= 128
 
@@ -157,7 +162,8 @@ def is_clear(lines, name, etype, kvno):
 def asked_of(lines):
     """Each name of a keytab and one that it hasn't, with each type, without a version number and with each."""
     names, numbers = sorted({line[2] for line in lines}), sorted({int(line[0]) for line in lines})
-    return [(name, etype, kvno) for name in [*names, NOBODY] for etype in (*USABLE, UNUSABLE) for kvno in (None, *numbers, NEVER)]
+    return [(name, etype, kvno) for name in [*names, NOBODY] for etype in (*USABLE, UNUSABLE)
+            for kvno in (None, *numbers, NEVER)]
 
 
 @EACH_KEYTAB
@@ -191,7 +197,8 @@ def keys_of(realm, path):
 @pytest.mark.parametrize("more", [tickets.KEYTABS[0], tickets.KEYTABS[-1]], ids=slug)
 @EACH_KEYTAB
 def test_add_keys(checks, world, peers, keytab, more):
-    """The keys of a keytab added to another, as MIT's `ktutil` puts both into one; no key is there more often than before."""
+    """The keys of a keytab added to another, as MIT's `ktutil` puts both into one; no key is there more often than
+    before."""
     (realm, one), (_, other), heimdal = keytab, world.keytabs[more], world.heimdal
     made, merged = one.with_suffix(f".with-{other.stem}"), one.with_suffix(f".beside-{other.stem}")
     label = f"add-keys: {other.name} to {one.name} of {realm.name}"

@@ -1,4 +1,5 @@
-"""The client and the service of examples/service beside those over MIT krb5, over TCP (tests/support/conversations.py)."""
+"""The client and the service of examples/service beside those over MIT krb5, over TCP
+(tests/support/conversations.py)."""
 import pytest
 
 from support import TOP, conversations

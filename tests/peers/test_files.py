@@ -1,4 +1,5 @@
-"""Keytabs and caches that real tools made, read and written anew by the program, and what the tools say of the latter."""
+"""Keytabs and caches that real tools made, read and written anew by the program, and what the tools say of the
+latter."""
 import re
 from datetime import datetime, timezone
 
@@ -20,29 +21,34 @@ def ktutil_keytab(realm, path):
 
 @pytest.mark.parametrize("keytab", tickets.KEYTABS, indirect=True, ids=slug)
 def test_keytab(checks, world, peers, keytab):
-    """Keytabs that the tools made are listed and counted as MIT's klist does; their converted form is the same to klist, ktutil and
-    Heimdal's ktutil."""
+    """Keytabs that the tools made are listed and counted as MIT's klist does; their converted form is the same to
+    klist, ktutil and Heimdal's ktutil."""
     (realm, path), heimdal = keytab, world.heimdal
     told = list(klist_keytab(realm, path))
     lines = [line for line, _ in told]
     checks.equal(f"file: list-keytab {path.name}", peers.said("list-keytab", path).splitlines(), lines)
     checks.equal(f"file: check-keytab {path.name}", peers.said("check-keytab", path), f"ok {len(lines)}\n")
     made = path.with_suffix(".converted")
-    checks.equal(f"file: convert-keytab {path.name}", peers.said("convert-keytab", path, made), f"wrote {made.stat().st_size}\n")
+    checks.equal(f"file: convert-keytab {path.name}", peers.said("convert-keytab", path, made),
+                 f"wrote {made.stat().st_size}\n")
     checks.equal(f"file: klist of the converted {path.name}", list(klist_keytab(realm, made)), told)
-    checks.equal(f"file: ktutil of the converted {path.name}", ktutil_keytab(realm, made), [[line.split()[0], line.split()[3]] for line in lines])
+    checks.equal(f"file: ktutil of the converted {path.name}", ktutil_keytab(realm, made),
+                 [[line.split()[0], line.split()[3]] for line in lines])
     listed = [heimdal.ktutil(it, "list", "--keys", "--timestamp").splitlines()[1:] for it in (path, made)]
     checks.equal(f"file: Heimdal's ktutil of the converted {path.name}", listed[1], listed[0])
 
 
-FLAG_LETTERS = {1: "F", 2: "f", 3: "P", 4: "p", 5: "D", 6: "d", 7: "i", 8: "R", 9: "I", 11: "H", 10: "A", 12: "T", 13: "O", 16: "a"}
+FLAG_LETTERS = {1: "F", 2: "f", 3: "P", 4: "p", 5: "D", 6: "d", 7: "i", 8: "R", 9: "I", 11: "H", 10: "A", 12: "T",
+                13: "O", 16: "a"}
 
 
 def klist_cache(realm, path):
-    """The default principal, and for each ticket start, end, renewal, flags, type of the session key and service, as klist tells them."""
+    """The default principal, and for each ticket start, end, renewal, flags, type of the session key and service, as
+    klist tells them."""
     text = realm.run("default", "klist", "-e", "-f", "-c", path)
     default = re.search(r"Default principal: (\S+)", text).group(1)
-    form = r"(\S+ \S+)  (\S+ \S+)  (\S+)\n\t(?:renew until (\S+ \S+), )?Flags: (\w*)(?:\n\t|, )Etype \(skey, tkt\): (\S+), "
+    form = (r"(\S+ \S+)  (\S+ \S+)  (\S+)\n\t(?:renew until (\S+ \S+), )?"
+            r"Flags: (\w*)(?:\n\t|, )Etype \(skey, tkt\): (\S+), ")
     tickets = [
         (seconds(start), seconds(end), seconds(renewal) if renewal else 0, flags, NUMBERS[etype], service)
         for start, end, service, renewal, flags, etype in re.findall(form, text)
@@ -68,7 +74,8 @@ def ours_as_klist(text):
 
 @pytest.mark.parametrize("cache", tickets.CACHES, indirect=True, ids=slug)
 def test_cache(checks, peers, cache):
-    """Caches that the tools made are listed as by their format's rules and by klist; their converted form is the same to klist, and is used."""
+    """Caches that the tools made are listed as by their format's rules and by klist; their converted form is the same
+    to klist, and is used."""
     realm, path = cache
     name, data = f"{path.stem} of {realm.name}", path.read_bytes()
     listed = peers.said("list-ccache", path)
@@ -80,11 +87,13 @@ def test_cache(checks, peers, cache):
     checks.equal(f"file: convert-ccache {name}", peers.said("convert-ccache", path, made), f"wrote {len(wanted)}\n")
     checks.equal(f"file: the converted {name}", made.read_bytes(), wanted)
     checks.equal(f"file: klist of the converted {name}", klist_cache(realm, made), klist_cache(realm, path))
-    checks.equal(f"file: Heimdal's klist of the converted {name}", heimdal_klist(realm, made), converted(heimdal_klist(realm, path)))
+    checks.equal(f"file: Heimdal's klist of the converted {name}", heimdal_klist(realm, made),
+                 converted(heimdal_klist(realm, path)))
 
 
 def test_old_cache(checks, world, peers):
-    """A cache that Heimdal wrote with `fcache_version = 3` is of version 0x0503, and its converted form of 0x0504; both give requests."""
+    """A cache that Heimdal wrote with `fcache_version = 3` is of version 0x0503, and its converted form of 0x0504; both
+    give requests."""
     ticket = world.tickets["a cache of version 0x0503, 19"]
     checks.equal("file: the version that Heimdal writes", ticket.cache.read_bytes()[:2], reference.OLD)
     made = ticket.cache.with_suffix(".newer")
@@ -94,7 +103,8 @@ def test_old_cache(checks, world, peers):
     for version, cache in (("0x0503", ticket.cache), ("0x0504", made)):
         line = f"{second} 0 {peers.request(cache, ticket.service, second, 5)}"
         wanted = f"accepted {ticket.client} {ticket.etype} {second} 5 plain"
-        checks.equal(f"file: a request of the cache of version {version}", peers.accept(ticket.keytab, [line]), [wanted])
+        checks.equal(f"file: a request of the cache of version {version}", peers.accept(ticket.keytab, [line]),
+                     [wanted])
 
 
 def converted(lines):
@@ -107,7 +117,8 @@ def heimdal_klist(realm, path):
 
 
 @pytest.mark.parametrize("keytab, kind, name", [
-    ("alice of PEER.TEST", "one", "host/plain.example"), ("alice of HEIM.TEST", "default", "host/web.example")], indirect=["keytab"])
+    ("alice of PEER.TEST", "one", "host/plain.example"), ("alice of HEIM.TEST", "default", "host/web.example")],
+    indirect=["keytab"])
 def test_used(checks, peers, keytab, kind, name):
     """A converted keytab logs a user in, and a converted cache fetches a ticket."""
     realm, path = keytab

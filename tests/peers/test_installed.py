@@ -1,6 +1,7 @@
 """The examples in C and Python over the installed packages, beside MIT krb5's client and service and Heimdal's client.
 
-The packages' files lie in a folder of their own, in which pkg-config, the loader and Python find them, and nowhere else.
+The packages' files lie in a folder of their own, in which pkg-config, the loader and Python find them, and nowhere
+else.
 """
 import shutil
 
@@ -82,7 +83,8 @@ def test_serve(checks, peers, installed, ticket, library):
     checks.equal(name, [accepted, who, refused, cause], ["accepted", ticket.client, "refused", "REPEAT"])
     agreed, told = client.communicate(f"{reply}\n{error}\n", timeout=60)[0].splitlines()
     kind, code, stime, _, server = told.split()
-    checks.equal(f"{name}: what it reads", [agreed, kind, code, server], ["agreed none 0", "error", "34", ticket.service])
+    checks.equal(f"{name}: what it reads", [agreed, kind, code, server],
+                 ["agreed none 0", "error", "34", ticket.service])
     checks.equal(f"{name}: the error's time", second <= int(stime) <= now(), True)
     plain = peers.asked(ticket.realm, library, ticket.cache, ticket.service)
     checks.equal(f"{name}: a plain request", served(installed, ticket, [plain]), [["accepted", ticket.client, "-"]])

@@ -29,12 +29,14 @@ def listed_by_ktutil(path):
 
 def told_by_the_rules(data):
     return [
-        (str(it["kvno"]), reference.principal_text(it["realm"], it["components"]), f"({TYPES[it['etype']]})", f"(0x{it['key'].hex()})")
+        (str(it["kvno"]), reference.principal_text(it["realm"], it["components"]), f"({TYPES[it['etype']]})",
+         f"(0x{it['key'].hex()})")
         for it in reference.keytab(data)
     ]
 
 
-KEYTABS = {**{it.name: it.read_bytes() for it in sorted(EXAMPLES.glob("*.keytab"))}, "fixture": generated.FIXTURE_KEYTAB,
+KEYTABS = {**{it.name: it.read_bytes() for it in sorted(EXAMPLES.glob("*.keytab"))},
+           "fixture": generated.FIXTURE_KEYTAB,
            "holes": generated.HOLED_KEYTAB}
 CACHES = {**{it.name: it.read_bytes() for it in sorted(EXAMPLES.glob("*.ccache"))}, "fixture": generated.FIXTURE_CACHE}
 
@@ -62,7 +64,8 @@ def keys_of(path):
 
 @pytest.mark.parametrize("name, other", product(KEYTABS, repeat=2))
 def test_added_keys(program, tmp_path, name, other):
-    """The keys of a keytab added to another are those that ktutil puts into one from both, and none is there more often than before."""
+    """The keys of a keytab added to another are those that ktutil puts into one from both, and none is there more often
+    than before."""
     one, two, made, merged = (tmp_path / word for word in ("one", "two", "made", "merged"))
     one.write_bytes(KEYTABS[name])
     two.write_bytes(KEYTABS[other])
@@ -95,7 +98,8 @@ def moment(day, clock):
 
 def rows_of(table):
     """The rows of a table, without its head. (No cell has a space.)"""
-    return [line.split() for line in table.splitlines() if not line.startswith(("default ", "offset ", "KVNO ", "KIND "))]
+    return [line.split() for line in table.splitlines()
+            if not line.startswith(("default ", "offset ", "KVNO ", "KIND "))]
 
 
 def klist_keys(path):
@@ -143,7 +147,8 @@ def test_table_of_a_keytab(program, tmp_path, name):
 
 @pytest.mark.parametrize("name", [*CACHES, *(f"flag-{bit}" for bit in range(32))])
 def test_table_of_a_cache(program, tmp_path, name):
-    """The table of a real file, or of a ticket with this flag, has the names, types, flags and times that klist prints."""
+    """The table of a real file, or of a ticket with this flag, has the names, types, flags and times that klist
+    prints."""
     bit = name.removeprefix("flag-")
     (tmp_path / "cache").write_bytes(with_flags(1 << (31 - int(bit))) if bit != name else CACHES[name])
     ours = our_tickets(ran([program, "list-ccache", "--readable", tmp_path / "cache"]))

@@ -1,4 +1,5 @@
-"""krbtool on the stored cases of this folder, and on those that are generated (tests/support/generated.py says which)."""
+"""krbtool on the stored cases of this folder, and on those that are generated (tests/support/generated.py says
+which)."""
 import pytest
 
 from support import generated, krbtool

@@ -1,4 +1,5 @@
-"""Programs that talk with krbtool accept: each waits for the answer to its line before it writes the next. And lines that are long."""
+"""Programs that talk with krbtool accept: each waits for the answer to its line before it writes the next. And lines
+that are long."""
 import select
 import subprocess
 import tomllib
@@ -35,7 +36,8 @@ def test_line_by_line(program, stored):
         ("1700000100 5 -\n", "refused 60 Malformed\n"), (request, accepted), (request, "refused 34 Repeat\n"),
         ("x\n", "bad line\n"), ("1700000100 5 30\n", "refused 40 MessageType\n"),
     ]
-    with subprocess.Popen([program, "accept", keytab], stdin=subprocess.PIPE, stdout=subprocess.PIPE, bufsize=0) as child:
+    with subprocess.Popen([program, "accept", keytab], stdin=subprocess.PIPE, stdout=subprocess.PIPE,
+                          bufsize=0) as child:
         for line, wanted in steps:
             wrong = asked(child, line, wanted)
             if wrong:
@@ -46,10 +48,12 @@ def test_line_by_line(program, stored):
 
 
 def test_long_lines(program, stored):
-    """A line of 4,194,304 bytes is read; one of a byte more is bad, and so is one of 64 MiB; the line after each is answered."""
+    """A line of 4,194,304 bytes is read; one of a byte more is bad, and so is one of 64 MiB; the line after each is
+    answered."""
     fits, over = "1700000100 05 " + "30" * 2_097_145, "1700000100 005 " + "30" * 2_097_145
     assert len(fits) == 4_194_304 and len(over) == 4_194_305
     lines = "\n".join([fits, "1700000100 5 -", over, "1700000100 5 30", "3" * 2**26, "1700000100 5 -"])
-    wanted = "refused 40 MessageType\nrefused 60 Malformed\nbad line\nrefused 40 MessageType\nbad line\nrefused 60 Malformed\n"
+    good, bad = "refused 40 MessageType\n", "refused 60 Malformed\n"
+    wanted = f"{good}{bad}bad line\n{good}bad line\n{bad}"
     ran = subprocess.run([program, "accept", stored[0]], input=lines.encode(), capture_output=True, timeout=2 * SECONDS)
     assert (ran.stdout.decode(), ran.returncode) == (wanted, 1)

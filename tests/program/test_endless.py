@@ -1,7 +1,7 @@
 """Gives each command a file without an end (a named pipe), and counts what the program takes of it.
 
-A file has at most 16,777,216 bytes. An engine takes one byte more, to know that there is one; the program reads pieces of 64 KiB, so it takes
-at most a piece more, and says TooLong.
+A file has at most 16,777,216 bytes. An engine takes one byte more, to know that there is one; the program reads pieces
+of 64 KiB, so it takes at most a piece more, and says TooLong.
 """
 import os
 import struct
@@ -73,7 +73,8 @@ def taken(program, room, head, words):
     os.mkfifo(room / "f")
     pipe = os.open(room / "f", os.O_RDWR | os.O_NONBLOCK)
     try:
-        how = {"cwd": room, "stdin": subprocess.DEVNULL, "stdout": subprocess.PIPE, "stderr": subprocess.PIPE, "text": True}
+        how = {"cwd": room, "stdin": subprocess.DEVNULL, "stdout": subprocess.PIPE, "stderr": subprocess.PIPE,
+               "text": True}
         with subprocess.Popen([program, *words], **how) as child:
             count = written(pipe, child, head)
             wrote, said = child.communicate()
@@ -83,7 +84,8 @@ def taken(program, room, head, words):
         os.remove(room / "f")
 
 
-@pytest.mark.parametrize("head, words", COMMANDS, ids=lambda it: "-".join(map(str, it[:2])) if isinstance(it, list) else "")
+@pytest.mark.parametrize("head, words", COMMANDS,
+                         ids=lambda it: "-".join(map(str, it[:2])) if isinstance(it, list) else "")
 def test_endless(program, tmp_path, head, words):
     """A command takes at most a piece more of a file than it may have."""
     count, found = taken(program, tmp_path, head, words)

@@ -1,4 +1,5 @@
-"""Requests made and answered by the program and by a second client and service (tests/support/model.py), on drawn input."""
+"""Requests made and answered by the program and by a second client and service (tests/support/model.py), on drawn
+input."""
 import random
 import subprocess
 

@@ -1,8 +1,9 @@
 """The program while its reads and writes fail, one after another, by a preloaded library (tests/support/fail.c).
 
-Of each command every read, and every write, fails in turn, alone and with all that come after it; is interrupted by a signal; or moves a
-single byte. A failure is named, with status 3; what was written before it is a beginning of what is written where all goes well, and of
-accept the answers to all whole lines that came. A read or write that is short changes nothing.
+Of each command every read, and every write, fails in turn, alone and with all that come after it; is interrupted by a
+signal; or moves a single byte. A failure is named, with status 3; what was written before it is a beginning of what is
+written where all goes well, and of accept the answers to all whole lines that came. A read or write that is short
+changes nothing.
 """
 import pytest
 
@@ -54,7 +55,8 @@ def is_right(command, call, how, lasting, failed, found):
         return True
     if lasting and call == "write":
         # no fault's line can be written then
-        return found.status == 3 and not found.said and command.wrote.startswith(found.wrote) and command.out.startswith(found.out)
+        begins = command.wrote.startswith(found.wrote) and command.out.startswith(found.out)
+        return found.status == 3 and not found.said and begins
     return is_unread(command, found, failed) if call == "read" else is_unwritten(command, found)
 
 
@@ -74,7 +76,8 @@ def failing(tmp_path_factory):
     return preload.library(tmp_path_factory.mktemp("failing"), "fail")
 
 
-@pytest.mark.parametrize("how, lasting", [("error", False), ("error", True), ("interrupted", False), ("short", False), ("short", True)])
+@pytest.mark.parametrize("how, lasting", [("error", False), ("error", True), ("interrupted", False), ("short", False),
+                                          ("short", True)])
 @pytest.mark.parametrize("call", ["read", "write"])
 @preload.parameters(*preload.SERVICES, ("accept-many-lines", many_lines))
 def test_failing(program, failing, make, call, how, lasting):

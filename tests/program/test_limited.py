@@ -1,7 +1,7 @@
 """The program within less and less address space, in steps (setrlimit, as the shell's `ulimit -v`).
 
-Wherever the program starts at all, a run ends by itself: it does what it should, or says that there was no memory; no signal ends it,
-and nothing wrong is written.
+Wherever the program starts at all, a run ends by itself: it does what it should, or says that there was no memory; no
+signal ends it, and nothing wrong is written.
 """
 import resource
 import struct
@@ -24,14 +24,16 @@ def run(program, room, command, limit):
         resource.setrlimit(resource.RLIMIT_AS, (limit, limit))
 
     (room / "out").write_bytes(preload.OLD)
-    done = subprocess.run([program, *command.words], cwd=room, preexec_fn=limited, input=command.stdin, capture_output=True, timeout=preload.SECONDS)
+    done = subprocess.run([program, *command.words], cwd=room, preexec_fn=limited, input=command.stdin,
+                          capture_output=True, timeout=preload.SECONDS)
     return Found(done.returncode, done.stdout, done.stderr.decode(errors="replace"), (room / "out").read_bytes())
 
 
 def is_named(command, found):
     """Whether a run says that there was no memory, and wrote nothing wrong."""
     said = (*SAID, f"krbtool: {command.words[0]}: OutOfMemory\n")
-    return found.status in (2, 3) and found.said in said and command.wrote.startswith(found.wrote) and found.out in (b"", preload.OLD)
+    begins = command.wrote.startswith(found.wrote) and found.out in (b"", preload.OLD)
+    return found.status in (2, 3) and found.said in said and begins
 
 
 def least(program, room):
@@ -44,7 +46,8 @@ def least(program, room):
 
 
 def file_of(word):
-    """A file that takes some steps more than none: of many records, or for a check, which has one at hand at a time, of a long one."""
+    """A file that takes some steps more than none: of many records, or for a check, which has one at hand at a time, of
+    a long one."""
     record = (EXAMPLES / "service.keytab").read_bytes()[6:]
     cache = (EXAMPLES / "client.ccache").read_bytes()
     if word == "check-keytab":

@@ -1,9 +1,11 @@
-"""The program while its calls for memory are refused, one after another, by a preloaded library (tests/support/refuse.c).
+"""The program while its calls for memory are refused, one after another, by a preloaded library
+(tests/support/refuse.c).
 
-Of each command every call is refused in turn, alone and with all that come after it, until a run meets no refusal. Such a run ends by
-itself, says that there was no memory, and writes nothing that is wrong. (Only std's `collect` passes over a refusal: where room for
-all words at once is refused, it asks again as it goes.) Where accept answers a line with out of memory, its later answers are those
-of a service that never got that line; and where it has no room for a reply or an error, the answer ends without it.
+Of each command every call is refused in turn, alone and with all that come after it, until a run meets no refusal. Such
+a run ends by itself, says that there was no memory, and writes nothing that is wrong. (Only std's `collect` passes over
+a refusal: where room for all words at once is refused, it asks again as it goes.) Where accept answers a line with out
+of memory, its later answers are those of a service that never got that line; and where it has no room for a reply or an
+error, the answer ends without it.
 """
 import pytest
 
@@ -28,7 +30,8 @@ def parts(command):
 
 
 def without_the_refused(program, command, answers):
-    """The answers to the lines that were answered, by a service that gets only those lines that weren't refused memory."""
+    """The answers to the lines that were answered, by a service that gets only those lines that weren't refused
+    memory."""
     lines = command.stdin.splitlines(keepends=True)[:len(answers)]
     taken = [line for line, answer in zip(lines, answers) if answer != REFUSED]
     given = iter(preload.run(program, preload.called(taken, *command.words[2:]))[0].wrote.splitlines(keepends=True))
@@ -43,7 +46,8 @@ def without_tail(answer):
 
 
 def is_answered(program, command, found):
-    """Whether accept answered as it should, where it was refused memory: it says so, or a line lacks what follows it elsewhere."""
+    """Whether accept answered as it should, where it was refused memory: it says so, or a line lacks what follows it
+    elsewhere."""
     answers = found.wrote.splitlines(keepends=True)
     wanted = without_the_refused(program, command, answers)
     if any(answer not in (it, without_tail(it)) for answer, it in zip(answers, wanted)):
@@ -66,7 +70,8 @@ def is_named(program, command, found):
 
 
 def stage_of(program, command, found):
-    """Where in a run memory was refused: at the words (0), in clap (1), in the command (2); or None where the run is none such."""
+    """Where in a run memory was refused: at the words (0), in clap (1), in the command (2); or None where the run is
+    none such."""
     said = (found.said, found.status)
     if found.out == OLD and not found.wrote and said in (WORDS, CLAP):
         return (WORDS, CLAP).index(said)
@@ -74,14 +79,15 @@ def stage_of(program, command, found):
 
 
 def end_of(command, found):
-    """How a run of accept ends: by which fault's line, or with which of its answers other than where there is memory."""
+    """How a run of accept ends: by which fault's line, or with which of its answers other than where there is
+    memory."""
     good, answers = command.wrote.splitlines(), found.wrote.splitlines()
     return found.said or "".join(answer.decode() for answer, it in zip(answers, good) if answer != it)
 
 
 def unmet(command, ends):
-    """Which parts of a command were refused memory by no run in which one call is refused; and which ways to end a service with tails were
-    met by none."""
+    """Which parts of a command were refused memory by no run in which one call is refused; and which ways to end a
+    service with tails were met by none."""
     if command.wrote is None or not command.file:
         return set()
     if command.words[2:] != list(preload.TAILS):
@@ -92,7 +98,8 @@ def unmet(command, ends):
 
 
 def swept(program, command, last, preloaded, lasting):
-    """What is wrong with a run in which a call is refused, or None where each such run is right, up to the last stage."""
+    """What is wrong with a run in which a call is refused, or None where each such run is right, up to the last
+    stage."""
     stage = passed_over = 0
     ends = set()
     for refused in range(1, ALL):
@@ -100,7 +107,8 @@ def swept(program, command, last, preloaded, lasting):
         well = found.is_well(command)
         if not met:
             lacking = set() if lasting else unmet(command, ends)
-            return None if well and stage == last and not lacking else f"no run ends with {lacking}, and where {refused} calls are granted: {found}"
+            wrong = f"no run ends with {lacking}, and where {refused} calls are granted: {found}"
+            return None if well and stage == last and not lacking else wrong
         ends.add(end_of(command, found))
         if well and not lasting and stage == 0 and passed_over < preload.PASSED_OVER:
             passed_over += 1

@@ -1,9 +1,10 @@
-"""A service that is started again and again, by `krbtool accept --started`, beside a second service (tests/support/model.py).
+"""A service that is started again and again, by `krbtool accept --started`, beside a second service
+(tests/support/model.py).
 
-A world is up to five lives of one service with one keytab; the first has no earlier one. Each start is no earlier than any moment that was
-handed in before, and no skew is smaller than the one before. In each life new requests come, of clients whose clocks are off by up to the
-skew, and all requests that were ever sent come again, in another order. Every line has to be answered as by the second service, and no
-request may be accepted twice in a world.
+A world is up to five lives of one service with one keytab; the first has no earlier one. Each start is no earlier than
+any moment that was handed in before, and no skew is smaller than the one before. In each life new requests come, of
+clients whose clocks are off by up to the skew, and all requests that were ever sent come again, in another order. Every
+line has to be answered as by the second service, and no request may be accepted twice in a world.
 """
 import random
 import subprocess
@@ -23,22 +24,30 @@ CLIENT, SERVICE = (b"EX", (b"alice",)), (b"EX", (b"host", b"web"))
 ETYPE, KEY, SESSION = 19, bytes(range(16)), bytes(range(16, 32))
 SKEWS = [0, 1, 2, 10]
 
-# A service of skew 300 that was started at BASE, or had no earlier life (None): calls, each with the service's clock and the request's time
-# in microseconds after BASE, and what each is answered. A request is good from the first microsecond on after BASE and 300 seconds.
-ACCEPTED, STARTED, REPEAT, SKEW, EXPIRED = "accepted", "refused 37 JustStarted", "refused 34 Repeat", "refused 37 Skew", "refused 32 Expired"
+# A service of skew 300 that was started at BASE, or had no earlier life (None): calls, each with the service's clock
+# and the request's time in microseconds after BASE, and what each is answered. A request is good from the first
+# microsecond on after BASE and 300 seconds.
+ACCEPTED, STARTED, REPEAT = "accepted", "refused 37 JustStarted", "refused 34 Repeat"
+SKEW, EXPIRED = "refused 37 Skew", "refused 32 Expired"
 ROWS = [
     ("the client's time is within the skew of the start", 0, [(301_000_000, 100_000_005, STARTED)]),
     ("the client's time is the start and the skew", 0, [(301_000_000, 300_000_000, STARTED)]),
     ("a microsecond later", 0, [(300_000_001, 300_000_001, ACCEPTED)]),
-    ("the service's time is the start and the skew", 0, [(300_000_000, 400_000_000, STARTED), (301_000_000, 400_000_000, REPEAT)]),
+    ("the service's time is the start and the skew", 0,
+     [(300_000_000, 400_000_000, STARTED), (301_000_000, 400_000_000, REPEAT)]),
     ("what is refused so is remembered", 0, [(100_000_000, 390_000_000, STARTED), (300_000_001, 390_000_000, REPEAT)]),
-    ("it is refused so again while the start is near", 0, [(100_000_000, 390_000_000, STARTED), (100_000_001, 390_000_000, STARTED)]),
-    ("the start moves no moment", 0, [(-400_000_000, -400_000_000, STARTED), (-400_000_000, -100_000_000, STARTED), (-400_000_000, -99_999_999, SKEW)]),
+    ("it is refused so again while the start is near", 0,
+     [(100_000_000, 390_000_000, STARTED), (100_000_001, 390_000_000, STARTED)]),
+    ("the start moves no moment", 0, [(-400_000_000, -400_000_000, STARTED), (-400_000_000, -100_000_000, STARTED),
+                                      (-400_000_000, -99_999_999, SKEW)]),
     ("clocks that are off come first", 0, [(100_000_000, 400_000_001, SKEW)]),
-    ("the ticket's end comes after it", 0, [(36_300_000_001, 36_300_000_001, EXPIRED), (36_300_000_001, 36_300_000_001, REPEAT)]),
+    ("the ticket's end comes after it", 0, [(36_300_000_001, 36_300_000_001, EXPIRED),
+                                            (36_300_000_001, 36_300_000_001, REPEAT)]),
     ("the ticket's end and the skew", 0, [(36_300_000_000, 36_300_000_000, ACCEPTED)]),
-    ("a service without an earlier life", None, [(0, 0, ACCEPTED), (300_000_000, 0, REPEAT), (300_000_000, 300_000_000, ACCEPTED)]),
-    ("a service without an earlier life, as soon as the skew allows", None, [(-300_000_000, 0, ACCEPTED), (-300_000_000, 1, SKEW)]),
+    ("a service without an earlier life", None,
+     [(0, 0, ACCEPTED), (300_000_000, 0, REPEAT), (300_000_000, 300_000_000, ACCEPTED)]),
+    ("a service without an earlier life, as soon as the skew allows", None,
+     [(-300_000_000, 0, ACCEPTED), (-300_000_000, 1, SKEW)]),
     ("a service that was started at second 0", -BASE, [(0, 0, ACCEPTED), (0, 0, REPEAT)]),
 ]
 
@@ -48,7 +57,8 @@ class Requests:
 
     def __init__(self):
         self.seals, self.made = model.Seals(), {}
-        part = der.enc_ticket_part(0, der.key(ETYPE, SESSION), CLIENT[0], der.name(1, *CLIENT[1]), BASE - 100, BASE + 36_000)
+        part = der.enc_ticket_part(0, der.key(ETYPE, SESSION), CLIENT[0], der.name(1, *CLIENT[1]), BASE - 100,
+                                   BASE + 36_000)
         cipher = self.seals.seal(ETYPE, KEY, model.TICKET_USAGE, bytes(16), part)
         self.ticket = der.ticket(SERVICE[0], der.name(1, *SERVICE[1]), der.encrypted(ETYPE, cipher, 3))
 
@@ -63,7 +73,8 @@ class Requests:
 
 
 def keytab():
-    entry = {"realm": SERVICE[0], "components": SERVICE[1], "name_type": 1, "timestamp": BASE, "kvno": 3, "etype": ETYPE, "key": KEY}
+    entry = {"realm": SERVICE[0], "components": SERVICE[1], "name_type": 1, "timestamp": BASE, "kvno": 3,
+             "etype": ETYPE, "key": KEY}
     return b"\x05\x02" + reference.record_of(entry)
 
 
@@ -75,7 +86,8 @@ def some_moments(draw, around, skew):
 
 
 def life(draw, sent, around, skew):
-    """The calls of one life, each the service's clock and the request's time. `sent` are the times of all requests before, and those of now."""
+    """The calls of one life, each the service's clock and the request's time. `sent` are the times of all requests
+    before, and those of now."""
     calls = []
     for _ in range(draw.randint(1, 4)):
         now, at = some_moments(draw, around, skew)

@@ -14,7 +14,9 @@ echo "$PWD $*" | sed 's|.*/crates/||; s|.*/.build-[0-9]*|together|; s| --jobs [0
 [ "$1" = lib ] && exit
 if [ "$1" = all ]; then
   cat crates.txt >>"$CALLS"
-  for it in crates/*; do [ -d "$it/src" ] && mkdir -p "$it/out" && touch "$it/out/proved" && echo "== ${{it#crates/}}"; done
+  for it in crates/*; do
+    [ -d "$it/src" ] && mkdir -p "$it/out" && touch "$it/out/proved" && echo "== ${{it#crates/}}"
+  done
   exit
 fi
 mkdir -p out && printf '%s' '{PROGRAM}' >out/krbtool && chmod +x out/krbtool
@@ -30,11 +32,13 @@ def written(path, text, mode=0o644, age=0):
 
 @pytest.fixture
 def room(tmp_path):
-    """A repository of krbtool and a crate below it, whose sources are two minutes old, and one link to another link to its script."""
+    """A repository of krbtool and a crate below it, whose sources are two minutes old, and one link to another link to
+    its script."""
     room = tmp_path
     shutil.copy(TOP / "krbtool", room / "krbtool")
     written(room / "rt/rt", RT, 0o755)
-    for path in ("crates.txt", "crates/krbtool/src/main.rt", "crates/krb_name/src/lib.rt", "crates/krb_name/specs/Lib.antt"):
+    for path in ("crates.txt", "crates/krbtool/src/main.rt", "crates/krb_name/src/lib.rt",
+                 "crates/krb_name/specs/Lib.antt"):
         written(room / path, "krb_name:\nkrbtool: krb_name clap\n", age=120)
     for folder in room.glob("crates/*/s*"):
         os.utime(folder, (folder.stat().st_mtime - 120,) * 2)
@@ -49,7 +53,8 @@ def called(room, script, folder):
     calls = room / "calls"
     calls.write_text("")
     more = {"PATH": f"{room}/rt:{os.environ['PATH']}", "CALLS": str(calls)}
-    ran = subprocess.run([script, "a", "b c"], cwd=folder, env={**os.environ, **more}, stdout=subprocess.PIPE, stderr=subprocess.PIPE, timeout=60, text=True)
+    ran = subprocess.run([script, "a", "b c"], cwd=folder, env={**os.environ, **more}, stdout=subprocess.PIPE,
+                         stderr=subprocess.PIPE, timeout=60, text=True)
     return ran.stdout, calls.read_text().split("\n")[:-1]
 
 
@@ -88,13 +93,15 @@ def test_a_source_that_is_gone(room):
 
 
 def test_crates_side_by_side(room):
-    """Two crates that don't stand on each other are proved at one time, over what was kept of them, and a third that stands on both after them."""
+    """Two crates that don't stand on each other are proved at one time, over what was kept of them, and a third that
+    stands on both after them."""
     names = {"krb_name": "", "krb_aes": "", "krb_ap": "krb_name krb_aes", "krbtool": "krb_ap krb_name"}
     (room / "crates.txt").write_text("".join(f"{name}: {below}\n" for name, below in names.items()))
     for name in names:
         written(room / f"crates/{name}/src/lib.rt", "", age=-120)
     written(room / "crates/krb_aes/out/kept", "")
-    wanted = ["together all check", "krb_name: ", "krb_aes: ", "krb_name lib", "krb_aes lib", "krb_ap lib", "krbtool run -- --help"]
+    wanted = ["together all check", "krb_name: ", "krb_aes: ", "krb_name lib", "krb_aes lib", "krb_ap lib",
+              "krbtool run -- --help"]
     holds(called(room, "./krbtool", room), wanted)
     assert not list(room.glob(".build-*"))
     there = sorted(str(it.relative_to(room / "crates")) for it in room.glob("crates/*/out/*") if it.name != "krbtool")

@@ -6,7 +6,8 @@ import time
 from support import c_cases, der, fixture
 
 import pytest
-from fevstunik import (Acceptor, Code, ContextFlags, CredentialCache, Error, Fault, Key, Keytab, Moment, Refused, TicketFlags, TypedData,
+from fevstunik import (Acceptor, Code, ContextFlags, CredentialCache, Error, Fault, Key, Keytab, Moment, Refused,
+                       TicketFlags, TypedData,
                        check_name, make_request)
 
 
@@ -39,7 +40,8 @@ def test_a_request_is_accepted(service):
     assert (accepted.authtime, accepted.endtime, accepted.flags) == (1_700_000_000, 1_700_036_000, TicketFlags(0))
     assert (accepted.session_key, accepted.subkey, accepted.seq) == (Key(19, fixture.SESSION_KEY), LONG, 4_294_967_295)
     assert (accepted.wants_reply, accepted.client_type, accepted.service_type) == (True, 1, 3)
-    assert accepted.addresses == accepted.authorization == accepted.authenticator_authorization == () and accepted.checksum is None
+    assert accepted.addresses == accepted.authorization == accepted.authenticator_authorization == ()
+    assert accepted.checksum is None
     assert (service.remembered, service.latest) == (1, Moment(AT))
     shown = repr(accepted)
     assert repr(fixture.SESSION_KEY)[2:-1] not in shown and repr(LONG.data)[2:-1] not in shown
@@ -62,10 +64,12 @@ def test_a_context(service, cache):
     flags, bindings = ContextFlags.DELEGATION | ContextFlags.REPLAY, b"tls-server-end-point:" + bytes(32)
     accepted = service.accept(make_request(cache, SERVICE, now=AT, context=flags, bindings=bindings)[0], AT)
     assert accepted.context.flags == ContextFlags.MUTUAL | ContextFlags.REPLAY and accepted.context.delegation is None
-    assert accepted.context.is_bound_to(bindings) and not accepted.context.is_bound_to(bindings[:-1]) and accepted.seq is not None
+    assert accepted.context.is_bound_to(bindings) and not accepted.context.is_bound_to(bindings[:-1])
+    assert accepted.seq is not None
     request = make_request(cache, SERVICE, now=AT + 1, seq=7, wants_reply=False, context=ContextFlags.MUTUAL)[0]
     accepted = service.accept(request, AT + 1)
-    assert (accepted.context.flags, accepted.context.bindings, accepted.seq, accepted.wants_reply) == (0, bytes(16), 7, False)
+    assert (accepted.context.flags, accepted.context.bindings, accepted.seq, accepted.wants_reply) == (0, bytes(16), 7,
+                                                                                                       False)
     assert service.accept(make_request(cache, SERVICE, now=AT + 2)[0], AT + 2).context is None
     request = make_request(cache, SERVICE, now=AT + 4, wants_reply=False, context=ContextFlags(0x8000_1003))[0]
     assert int(service.accept(request, AT + 4).context.flags) == 0x8000_1000
@@ -81,8 +85,10 @@ def test_lists(service):
     assert accepted.checksum == TypedData(-138, bytes(range(0x50, 0x60)))
 
 
-KERBEROS = {"MESSAGE_TYPE": 40, "MALFORMED": 60, "USER_TO_USER": 45, "TICKET_ETYPE": 14, "NOT_US": 35, "NO_KEY": 45, "BAD_KEY_VERSION": 44,
-            "TICKET_INTEGRITY": 31, "SESSION_KEY": 14, "AUTHENTICATOR_INTEGRITY": 31, "BAD_MATCH": 36, "SKEW": 37, "JUST_STARTED": 37,
+KERBEROS = {"MESSAGE_TYPE": 40, "MALFORMED": 60, "USER_TO_USER": 45, "TICKET_ETYPE": 14, "NOT_US": 35, "NO_KEY": 45,
+            "BAD_KEY_VERSION": 44,
+            "TICKET_INTEGRITY": 31, "SESSION_KEY": 14, "AUTHENTICATOR_INTEGRITY": 31, "BAD_MATCH": 36, "SKEW": 37,
+            "JUST_STARTED": 37,
             "REPEAT": 34, "NOT_YET_VALID": 33, "EXPIRED": 32, "TRANSITED": 60, "AUTHORIZATION": 60}
 
 
@@ -90,13 +96,15 @@ KERBEROS = {"MESSAGE_TYPE": 40, "MALFORMED": 60, "USER_TO_USER": 45, "TICKET_ETY
 def test_refused(service, name, request_):
     with pytest.raises(Refused) as raised:
         service.accept(request_, AT)
-    assert (raised.value.cause, raised.value.code, raised.value.kerberos) == (Code[name], Code[name].value, KERBEROS[name])
+    assert (raised.value.cause, raised.value.code, raised.value.kerberos) == (Code[name], Code[name].value,
+                                                                              KERBEROS[name])
     assert raised.value.error(SERVICE, now=Moment(AT, 7)) == fixture.error(KERBEROS[name])
 
 
 def test_malformed_repeat_and_start(service):
     assert fault_of(lambda: service.accept(b"\x6e", AT), Refused) == ("MALFORMED", 110, 60, 1)
-    assert fault_of(lambda: service.accept(fixture.request() + b"x", AT), Refused) == ("MALFORMED", 110, 60, len(fixture.request()))
+    assert fault_of(lambda: service.accept(fixture.request() + b"x", AT), Refused) == ("MALFORMED", 110, 60,
+                                                                                       len(fixture.request()))
     service.accept(fixture.request(), AT)
     assert fault_of(lambda: service.accept(fixture.request(), AT), Refused) == ("REPEAT", 220, 34, 0)
     again = Acceptor(Keytab(fixture.keytab()), SERVICE, 10, started=AT)
@@ -186,7 +194,8 @@ def test_closed(service, cache):
     request, pending = make_request(cache, SERVICE, now=AT)
     accepted = service.accept(request, AT)
     reply = accepted.reply()
-    for handle, call in ((pending, lambda: pending.finish(reply)), (accepted, accepted.reply), (cache, lambda: make_request(cache, SERVICE)),
+    for handle, call in ((pending, lambda: pending.finish(reply)), (accepted, accepted.reply),
+                         (cache, lambda: make_request(cache, SERVICE)),
                          (service, lambda: service.accept(request, AT)), (service, lambda: service.latest)):
         handle.close()
         handle.close()
@@ -195,7 +204,8 @@ def test_closed(service, cache):
 
 
 def test_context_managers():
-    with CredentialCache(fixture.cache()) as cache, Acceptor(Keytab(fixture.keytab()), SERVICE, started=None) as service:
+    with CredentialCache(fixture.cache()) as cache, Acceptor(Keytab(fixture.keytab()), SERVICE,
+                                                             started=None) as service:
         request, pending = make_request(cache, SERVICE, now=AT)
         with pending, service.accept(request, AT) as accepted:
             pending.finish(accepted.reply())

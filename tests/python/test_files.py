@@ -27,7 +27,8 @@ def test_keytab_faults():
     assert fault_of(lambda: Keytab(b"")) == ("FILE_VERSION", 500, 0)
     assert fault_of(lambda: Keytab(b"\x05\x01")) == ("FILE_VERSION", 500, 0)
     assert fault_of(lambda: Keytab(fixture.keytab()[:-1])) == ("FILE_TRUNCATED", 502, 2)
-    assert fault_of(lambda: Keytab(fixture.keytab() + struct.pack(">i", 1) + b"x")) == ("FILE_BAD_ITEM", 503, len(fixture.keytab()))
+    assert fault_of(lambda: Keytab(fixture.keytab() + struct.pack(">i", 1) + b"x")) == ("FILE_BAD_ITEM", 503,
+                                                                                        len(fixture.keytab()))
     assert fault_of(lambda: Keytab(b"\x05\x02" + bytes(LIMIT - 1))) == ("TOO_LONG", 404, 0)
     for strange in ("text", 5, None):
         with pytest.raises(TypeError):
@@ -54,7 +55,8 @@ def test_a_keytab_is_changed():
 
 
 def test_numbers_are_not_cut():
-    for entry in (KeytabEntry("a@EX", Key(19, b""), 2**32), KeytabEntry("a@EX", Key(2**15, b""), 1), KeytabEntry("a@EX", Key(19, b""), 1, -1),
+    for entry in (KeytabEntry("a@EX", Key(19, b""), 2**32), KeytabEntry("a@EX", Key(2**15, b""), 1),
+                  KeytabEntry("a@EX", Key(19, b""), 1, -1),
                   KeytabEntry("a@EX", Key(19, b""), 1, 1, 2**31)):
         with pytest.raises(OverflowError):
             Keytab(b"\x05\x02").added(entry)
@@ -66,7 +68,8 @@ def test_credentials():
     configuration, credential = cache.credentials
     assert configuration.server.endswith("@X-CACHECONF:") and configuration.ticket == b"yes"
     assert credential == Credential(
-        "alice@EX", "host/web@EX", Key(19, fixture.SESSION_KEY), fixture.ticket(), 1_700_000_000, 1_700_000_001, 1_700_036_000, 1_700_600_000,
+        "alice@EX", "host/web@EX", Key(19, fixture.SESSION_KEY), fixture.ticket(), 1_700_000_000, 1_700_000_001,
+        1_700_036_000, 1_700_600_000,
         TicketFlags(0x4061_0000), 1, 3, True)
     assert TicketFlags.FORWARDABLE in credential.flags and TicketFlags.PROXY not in credential.flags
     assert CredentialCache(fixture.old_cache()).owner.clock_offset is None
@@ -75,7 +78,8 @@ def test_credentials():
 def test_cache_faults():
     assert fault_of(lambda: CredentialCache(b"\x05\x02")) == ("FILE_VERSION", 500, 0)
     assert fault_of(lambda: CredentialCache(b"\x05\x04\x00\x05"))[0] == "FILE_HEADER"
-    assert fault_of(lambda: CredentialCache(fixture.cache()[:-1])) == ("FILE_BAD_ITEM", 503, 4 + len(fixture.principal(1, b"EX", b"alice")))
+    assert fault_of(lambda: CredentialCache(fixture.cache()[:-1])) == ("FILE_BAD_ITEM", 503,
+                                                                       4 + len(fixture.principal(1, b"EX", b"alice")))
 
 
 def test_keys_are_not_shown():

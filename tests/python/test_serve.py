@@ -9,7 +9,8 @@ from support.c_programs import KEYED, message
 
 def served(*words, lines):
     """What it answers: the first two words of each line, and the bytes of the third in hex."""
-    command = [sys.executable, "-B", "examples/serve.py", "examples/service.keytab", "host/web@EX", *words, "--at", "1700000100"]
+    command = [sys.executable, "-B", "examples/serve.py", "examples/service.keytab", "host/web@EX", *words, "--at",
+               "1700000100"]
     ran = subprocess.run(command, input="".join(f"{line}\n" for line in lines), capture_output=True, text=True)
     assert ran.stderr == ""
     found = [line.rsplit(" ", 1) for line in ran.stdout.splitlines()]
@@ -24,7 +25,8 @@ def error_of(code):
 def test_requests():
     plain, keyed = message("request"), message(KEYED)
     lines, last = served("--first", lines=[plain, plain, keyed, "30", ""])
-    assert lines == ["accepted alice@EX", "refused REPEAT", "refused REPEAT", "refused MESSAGE_TYPE", "refused MALFORMED"]
+    assert lines == ["accepted alice@EX", "refused REPEAT", "refused REPEAT", "refused MESSAGE_TYPE",
+                     "refused MALFORMED"]
     assert last[:2] == ["-", error_of(34)]
 
 

@@ -53,7 +53,8 @@ def mixed(column):
     """MixColumns of one column (section 5.1.3)."""
     a, b, c, d = column
     every = a ^ b ^ c ^ d
-    return [a ^ every ^ DOUBLES[a ^ b], b ^ every ^ DOUBLES[b ^ c], c ^ every ^ DOUBLES[c ^ d], d ^ every ^ DOUBLES[d ^ a]]
+    return [a ^ every ^ DOUBLES[a ^ b], b ^ every ^ DOUBLES[b ^ c], c ^ every ^ DOUBLES[c ^ d],
+            d ^ every ^ DOUBLES[d ^ a]]
 
 
 def encrypted(key, block):

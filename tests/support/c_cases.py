@@ -1,5 +1,5 @@
-"""Requests and caches that differ from the fixture's in one thing, for tests/c/faults.c and tests/c/library.c: by the standards' rules alone
-(tests/support/fixture.py)."""
+"""Requests and caches that differ from the fixture's in one thing, for tests/c/faults.c and tests/c/library.c: by the
+standards' rules alone (tests/support/fixture.py)."""
 import struct
 
 from support import der, fixture, reference
@@ -21,7 +21,8 @@ def ticket(part=None, etype=19, kvno=3, service=(b"host", b"web"), name_type=3):
 
 def ticket_part(**more):
     """The fixture's, with more fields."""
-    return der.enc_ticket_part(0, der.key(19, fixture.SESSION_KEY), b"EX", fixture.ALICE, fixture.AUTHTIME, fixture.ENDTIME, **more)
+    return der.enc_ticket_part(0, der.key(19, fixture.SESSION_KEY), b"EX", fixture.ALICE, fixture.AUTHTIME,
+                               fixture.ENDTIME, **more)
 
 
 def changed(old, new):
@@ -35,20 +36,22 @@ def with_data(ad_type):
 
 
 def request(of, authenticator=None):
-    cipher = fixture.sealed(19, fixture.SESSION_KEY, 11, bytes(range(0x20, 0x30)), authenticator or fixture.authenticator())
+    cipher = fixture.sealed(19, fixture.SESSION_KEY, 11, bytes(range(0x20, 0x30)),
+                            authenticator or fixture.authenticator())
     return der.request(0, of, der.encrypted(19, cipher))
 
 
 def for_another_service():
-    """A request to a service of one part, in which there is a slash. The types of both names are negative, the ticket has flags, and the
-    sequence number is 0."""
+    """A request to a service of one part, in which there is a slash. The types of both names are negative, the ticket
+    has flags, and the sequence number is 0."""
     part = replaced(fixture.ticket_part(), b"\x03\x05\x00\x00\x00\x00\x00", b"\x03\x05\x00\x40\x61\x00\x00")
     part = replaced(part, der.name(1, b"alice"), der.name(-7, b"alice"))
     return request(ticket(part, service=(b"a/b",), name_type=-3), fixture.authenticator(number=0))
 
 
 def with_lists():
-    """A request with addresses, with authorization data in ticket and authenticator, and with a checksum; one item has no bytes."""
+    """A request with addresses, with authorization data in ticket and authenticator, and with a checksum; one item has
+    no bytes."""
     addresses = der.sequence(der.key(2, bytes([192, 0, 2, 1])), der.key(24, bytes(range(0xF0, 0x100))))
     data = der.sequence(der.key(1, b"first"), der.key(1, b""), der.key(1, b"the third"))
     more = {"checksum": der.key(-138, bytes(range(0x50, 0x60))), "data": der.sequence(der.key(1, b"alone"))}
@@ -92,7 +95,8 @@ def refused():
 
 def keytab_of(entries):
     """The fixture's keytab after as many other entries as make it so many."""
-    others = ({"realm": b"EX", "components": [b"host", b"n%04d" % number], "name_type": 3, "timestamp": 1_700_000_000, "kvno": 3, "etype": 19,
+    others = ({"realm": b"EX", "components": [b"host", b"n%04d" % number], "name_type": 3, "timestamp": 1_700_000_000,
+               "kvno": 3, "etype": 19,
                "key": struct.pack(">QQ", number, 0)} for number in range(entries - 1))
     return fixture.keytab()[:2] + b"".join(map(reference.record_of, others)) + fixture.keytab()[2:]
 
@@ -107,20 +111,24 @@ def cache_with(credentials):
     client, server = client_and_server()
     times, ticket_bytes = (1_700_000_000, 0, 1_700_036_000, 0), fixture.ticket()
     others = [
-        fixture.credential(client, fixture.principal(3, b"EX", b"host", b"n%04d" % number), 19, fixture.SESSION_KEY, times, ticket_bytes)
+        fixture.credential(client, fixture.principal(3, b"EX", b"host", b"n%04d" % number), 19, fixture.SESSION_KEY,
+                           times, ticket_bytes)
         for number in range(credentials - 1)
     ]
-    return b"\x05\x04\x00\x00" + client + b"".join(others) + fixture.credential(client, server, 19, fixture.SESSION_KEY, times, large_ticket())
+    return b"\x05\x04\x00\x00" + client + b"".join(others) + fixture.credential(client, server, 19, fixture.SESSION_KEY,
+                                                                                times, large_ticket())
 
 
 def cache_of_services(count):
-    """A cache with tickets for so many services. Their session keys are few: of both types, some with the same first bytes."""
+    """A cache with tickets for so many services. Their session keys are few: of both types, some with the same first
+    bytes."""
     client, times = client_and_server()[0], (1_700_000_000, 0, 1_700_036_000, 0)
     made = b"\x05\x04\x00\x00" + client
     for number in range(count):
         etype, size = ((19, 16), (20, 32))[number % 2]
         key = bytes((number // 2 % 5 + at) % 256 for at in range(size))
-        made += fixture.credential(client, fixture.principal(3, b"EX", b"host", b"n%04d" % number), etype, key, times, fixture.ticket())
+        made += fixture.credential(client, fixture.principal(3, b"EX", b"host", b"n%04d" % number), etype, key, times,
+                                   fixture.ticket())
     return made
 
 
@@ -131,7 +139,8 @@ CLIENTS = [f"c{number:04d}" for number in range(40)]
 def cache_of(client):
     """The fixture's cache for another client of five letters."""
     part = fixture.ticket_part().replace(b"alice", client.encode())
-    return fixture.cache(fixture.ticket(fixture.sealed(19, fixture.SERVICE_KEY, 2, bytes(range(16)), part))).replace(b"alice", client.encode())
+    return fixture.cache(fixture.ticket(fixture.sealed(19, fixture.SERVICE_KEY, 2, bytes(range(16)),
+                                                       part))).replace(b"alice", client.encode())
 
 
 def client_and_server():
@@ -140,7 +149,8 @@ def client_and_server():
 
 def of_type_18():
     client, server = client_and_server()
-    return b"\x05\x04\x00\x00" + client + fixture.credential(client, server, 18, bytes(32), (0, 0, 1_700_036_000, 0), fixture.ticket())
+    return b"\x05\x04\x00\x00" + client + fixture.credential(client, server, 18, bytes(32), (0, 0, 1_700_036_000, 0),
+                                                             fixture.ticket())
 
 
 def prevented():
@@ -157,7 +167,8 @@ def two_credentials():
     client, server = client_and_server()
     times = (1_700_000_000, 1_700_000_001, 1_700_036_000, 1_700_600_000)
     plain = fixture.credential(client, server, 19, fixture.SESSION_KEY, times, fixture.ticket())
-    return fixture.configured_cache() + replaced(plain, struct.pack(">4IBI", *times, 0, 0), struct.pack(">4IBI", *times, 1, 0x4061_0000))
+    return fixture.configured_cache() + replaced(plain, struct.pack(">4IBI", *times, 0, 0),
+                                                 struct.pack(">4IBI", *times, 1, 0x4061_0000))
 
 
 def lines(code_of, kerberos_of):

@@ -1,12 +1,15 @@
-"""The header of the library for C beside the crate that it is of: codes, structs, prototypes, and what its comments name."""
+"""The header of the library for C beside the crate that it is of: codes, structs, prototypes, and what its comments
+name."""
 import re
 
 from support import TOP
 
 CRATE = TOP / "crates/krb_c"
 HEADER = TOP / "include/fevstunik.h"
-TYPES = {"u8": "uint8_t", "u32": "uint32_t", "i16": "int16_t", "i32": "int32_t", "i64": "int64_t", "usize": "size_t", "bool": "bool",
-         "Handle": "fevstunik_acceptor", "Slot": "fevstunik_accepted", "KeytabHandle": "fevstunik_keytab", "CacheHandle": "fevstunik_cache",
+TYPES = {"u8": "uint8_t", "u32": "uint32_t", "i16": "int16_t", "i32": "int32_t", "i64": "int64_t", "usize": "size_t",
+         "bool": "bool",
+         "Handle": "fevstunik_acceptor", "Slot": "fevstunik_accepted", "KeytabHandle": "fevstunik_keytab",
+         "CacheHandle": "fevstunik_cache",
          "PendingHandle": "fevstunik_pending"}
 HANDLES = {"Handle", "Slot", "KeytabHandle", "CacheHandle", "PendingHandle"}
 
@@ -17,7 +20,8 @@ def without_comments(text):
 
 def inline_functions():
     """The functions that the header has whole, with their bodies."""
-    return dict(re.findall(r"^static inline [\w *]+?(fevstunik_\w+)\([^)]*\)\n(\{.*?^\})", without_comments(HEADER.read_text()), re.M | re.S))
+    return dict(re.findall(r"^static inline [\w *]+?(fevstunik_\w+)\([^)]*\)\n(\{.*?^\})",
+                           without_comments(HEADER.read_text()), re.M | re.S))
 
 
 def header_functions():
@@ -26,7 +30,8 @@ def header_functions():
 
 
 def header_codes():
-    return {name: int(value) for name, value in re.findall(r"\bFEVSTUNIK_(?!LIST_|MECHANISM_)(\w+) = (\d+)", without_comments(HEADER.read_text()))}
+    return {name: int(value) for name, value in re.findall(r"\bFEVSTUNIK_(?!LIST_|MECHANISM_)(\w+) = (\d+)",
+                                                           without_comments(HEADER.read_text()))}
 
 
 def lists():
@@ -37,12 +42,14 @@ def lists():
 
 
 def crate_codes():
-    return {name: int(value) for name, value in re.findall(r"const (\w+): u32 = (\d+);", (CRATE / "src/code.rt").read_text())}
+    return {name: int(value) for name, value in re.findall(r"const (\w+): u32 = (\d+);",
+                                                           (CRATE / "src/code.rt").read_text())}
 
 
 def comments():
     """The header's comment at each function, with what the function returns."""
-    form = r"/\*((?:(?!\*/).)*)\*/\n(fevstunik_answer|size_t|uint32_t|void|static inline const char) \*?(fevstunik_\w+)\("
+    form = (r"/\*((?:(?!\*/).)*)\*/\n"
+            r"(fevstunik_answer|size_t|uint32_t|void|static inline const char) \*?(fevstunik_\w+)\(")
     return {function: (kind, text) for text, kind, function in re.findall(form, HEADER.read_text(), re.S)}
 
 
@@ -51,7 +58,8 @@ def documented():
     numbers = header_codes()
     found = {}
     for function, (kind, text) in comments().items():
-        named = set(re.findall(r"\b(?:FEVSTUNIK)?_([A-Z][A-Z0-9_]*)\b", re.sub(r"\bFEVSTUNIK_(\w+_INIT|LIST_\w+|MECHANISM_\w+)\b", "", text)))
+        named = set(re.findall(r"\b(?:FEVSTUNIK)?_([A-Z][A-Z0-9_]*)\b",
+                               re.sub(r"\bFEVSTUNIK_(\w+_INIT|LIST_\w+|MECHANISM_\w+)\b", "", text)))
         for first, last in re.findall(r"from FEVSTUNIK_(\w+) to[\s*]+FEVSTUNIK_(\w+)", text):
             named |= {name for name, number in numbers.items() if numbers[first] <= number <= numbers[last]}
         if kind == "fevstunik_answer":
@@ -75,10 +83,14 @@ def differs(found, wanted):
 
 
 def names_and_texts():
-    """fevstunik_code_name and fevstunik_code_text answer each code's name, and its comment without the code of RFC 4120."""
-    found = {function: dict(re.findall(r'case FEVSTUNIK_(\w+): return "([^"]*)";', body)) for function, body in inline_functions().items()}
-    said = dict(re.findall(r"\bFEVSTUNIK_(?!LIST_|MECHANISM_)(\w+) = \d+,?\s*/\* (?:\d+: )?(.*?) \*/", HEADER.read_text()))
-    wanted = {"fevstunik_code_name": {name: f"FEVSTUNIK_{name}" for name in header_codes()}, "fevstunik_code_text": said}
+    """fevstunik_code_name and fevstunik_code_text answer each code's name, and its comment without the code of RFC
+    4120."""
+    found = {function: dict(re.findall(r'case FEVSTUNIK_(\w+): return "([^"]*)";', body)) for function,
+             body in inline_functions().items()}
+    said = dict(re.findall(r"\bFEVSTUNIK_(?!LIST_|MECHANISM_)(\w+) = \d+,?\s*/\* (?:\d+: )?(.*?) \*/",
+                           HEADER.read_text()))
+    wanted = {"fevstunik_code_name": {name: f"FEVSTUNIK_{name}" for name in header_codes()},
+              "fevstunik_code_text": said}
     return None if found == wanted and set(said) == set(header_codes()) else f"{found}, not {wanted}"
 
 
@@ -104,7 +116,8 @@ def crate_text():
 
 
 def fields_of(body):
-    """The fields of a struct of the crate: the name, the type, or that of an array's elements, and how many these are."""
+    """The fields of a struct of the crate: the name, the type, or that of an array's elements, and how many these
+    are."""
     found = re.findall(r"^    pub (\w+): (?:(\w+)|\[(\w+); (\d+)\]),$", body, re.M)
     return [(name, of or element, f"[{count}]" if count else "") for name, of, element, count in found]
 
@@ -116,13 +129,14 @@ def structs():
              for name, body in re.findall(form, crate_text(), re.S)}
     form = r"typedef struct (\w+) \{\n(.*?)\n\}"
     header = {(name, tuple(re.findall(r"^    (\w+) (\w+(?:\[\d+\])?);", body, re.M)))
-              for name, body in re.findall(form, without_comments(HEADER.read_text()), re.S) if name not in map(c_type, HANDLES)}
+              for name, body in re.findall(form, without_comments(HEADER.read_text()), re.S)
+              if name not in map(c_type, HANDLES)}
     return differs(header, crate)
 
 
 def c_parameters(name, of, stays):
-    """How C hands in a parameter: a slice as a pointer and a size, a reference as a pointer, and no allocator. A handle is const where a
-    clause says that its value stays."""
+    """How C hands in a parameter: a slice as a pointer and a size, a reference as a pointer, and no allocator. A handle
+    is const where a clause says that its value stays."""
     if of == "Global":
         return []
     at = re.sub(r"^&(mut )?", "", of)
@@ -135,11 +149,14 @@ def c_parameters(name, of, stays):
 def prototypes():
     """The header's prototypes are those of the crate's exports."""
     crate = set()
-    for name, words, answer, clauses in re.findall(r'pub extern "C" fn (\w+)\((.*?)\)(?: -> (\w+))?\n(.*?)^\{$', crate_text(), re.S | re.M):
+    for name, words, answer, clauses in re.findall(r'pub extern "C" fn (\w+)\((.*?)\)(?: -> (\w+))?\n(.*?)^\{$',
+                                                   crate_text(), re.S | re.M):
         stays = re.findall(r"ensures stays \{ (\w+)\.new\.value ≡ \1\.old\.value \}", clauses)
-        parameters = [it for name_of, of in re.findall(r"(\w+): ([^,]+?)(?:,|\s*$)", words) for it in c_parameters(name_of, of, name_of in stays)]
+        parameters = [it for name_of, of in re.findall(r"(\w+): ([^,]+?)(?:,|\s*$)", words)
+                      for it in c_parameters(name_of, of, name_of in stays)]
         crate.add(f"{c_type(answer) if answer else 'void'} {name}({', '.join(parameters) or 'void'})")
-    header = re.findall(r"^((?:fevstunik_answer|size_t|uint32_t|void) fevstunik_\w+\([^;]*\));", without_comments(HEADER.read_text()), re.M)
+    header = re.findall(r"^((?:fevstunik_answer|size_t|uint32_t|void) fevstunik_\w+\([^;]*\));",
+                        without_comments(HEADER.read_text()), re.M)
     return differs({" ".join(it.split()) for it in header}, crate)
 
 
@@ -152,5 +169,6 @@ CHECKS = {
     "the header's structs are the crate's": structs,
     "the header's prototypes are the crate's": prototypes,
     "each function has an example in the header": examples,
-    "each code is one that a function answers": lambda: differs(set().union(*documented().values()), set(header_codes())),
+    "each code is one that a function answers": lambda: differs(set().union(*documented().values()),
+                                                                set(header_codes())),
 }

@@ -12,7 +12,8 @@ from support.c_header import HEADER, documented, header_codes
 
 STRICT = ["-Wall", "-Wextra", "-Werror", "-pedantic"]
 # Looks for errors and for leaks; its status is 9 then.
-VALGRIND = ["valgrind", "-q", "--error-exitcode=9", "--leak-check=full", "--show-leak-kinds=all", "--errors-for-leak-kinds=all"]
+VALGRIND = ["valgrind", "-q", "--error-exitcode=9", "--leak-check=full", "--show-leak-kinds=all",
+            "--errors-for-leak-kinds=all"]
 KEYTAB, CACHE = TOP / "examples/service.keytab", TOP / "examples/client.ccache"
 # The name of the fixture's request that asks for all.
 KEYED = "mutual request with a subkey and a number"
@@ -20,7 +21,8 @@ KEYED = "mutual request with a subkey and a number"
 
 def run(*words, **more):
     try:
-        return subprocess.run([str(word) for word in words], capture_output=True, text=True, cwd=more.pop("cwd", TOP), **more)
+        return subprocess.run([str(word) for word in words], capture_output=True, text=True, cwd=more.pop("cwd", TOP),
+                              **more)
     except FileNotFoundError as error:
         pytest.fail(str(error))
 
@@ -52,7 +54,8 @@ def of_tests(name):
 
 
 def watch(room):
-    """A header that notes what each function answers, and lets the program tell it at its end: lines `answered FUNCTION CODE`."""
+    """A header that notes what each function answers, and lets the program tell it at its end: lines `answered FUNCTION
+    CODE`."""
     names = sorted(documented())
     listed = ", ".join(f'"{name}"' for name in names)
     calls = "".join(f"#define {name}(...) noted({index}, {name}(__VA_ARGS__))\n" for index, name in enumerate(names))
@@ -109,4 +112,5 @@ def current_cache(now):
     times = [time.strftime("%Y%m%d%H%M%SZ", time.gmtime(at)).encode() for at in (now, now + 36_000)]
     part = fixture.ticket_part().replace(b"20231114221320Z", times[0]).replace(b"20231115081320Z", times[1])
     cache = fixture.cache(fixture.ticket(fixture.sealed(19, fixture.SERVICE_KEY, 2, bytes(16), part)))
-    return cache.replace(struct.pack(">4I", 1_700_000_000, 0, 1_700_036_000, 0), struct.pack(">4I", now, 0, now + 36_000, 0))
+    return cache.replace(struct.pack(">4I", 1_700_000_000, 0, 1_700_036_000, 0),
+                         struct.pack(">4I", now, 0, now + 36_000, 0))

@@ -1,4 +1,5 @@
-"""Lines for tests/c/tokens.c: tokens of GSS-API by the second model (tests/support/gss_rules.py), and what each call answers."""
+"""Lines for tests/c/tokens.c: tokens of GSS-API by the second model (tests/support/gss_rules.py), and what each call
+answers."""
 import random
 import re
 import struct
@@ -49,7 +50,8 @@ def answering(number, negotiated, kind, message):
         return inner
     state = b"\0" if kind == b"\x02\x00" else b"\2"
     fields = (0xA0, 0x0A, state), (0xA1, 0x06, NAMES[negotiated]), (0xA2, 0x04, inner)
-    return element(0xA1, element(0x30, b"".join(element(outer, element(tag, content)) for outer, tag, content in fields)))
+    return element(0xA1, element(0x30, b"".join(element(outer, element(tag, content)) for outer, tag,
+                                                content in fields)))
 
 
 def answered(text):
@@ -87,7 +89,8 @@ def drawn_answer(rng):
     inner = gss_rules.kerberos(name, message, rng.choice((b"\2\0", b"\2\0", b"\3\0", b"\1\0", b"\2")))
     if rng.random() < 0.3:
         return inner
-    parts = [(0xA0, 0x0A, rng.choice((b"\0", b"\2", b"\1"))), (0xA1, 0x06, rng.choice((KERBEROS, KERBEROS, MICROSOFT, gss_rules.NTLM, gss_rules.IAKERB,
+    parts = [(0xA0, 0x0A, rng.choice((b"\0", b"\2", b"\1"))),
+             (0xA1, 0x06, rng.choice((KERBEROS, KERBEROS, MICROSOFT, gss_rules.NTLM, gss_rules.IAKERB,
              gss_rules.SPNEGO, b"\x2a"))), (0xA2, 0x04, inner), (0xA3, 0x04, b"mic")]
     kept = [it for it, share in zip(parts, (0.8, 0.95, 0.9, 0.3)) if rng.random() < share]
     return element(0xA1, element(0x30, b"".join(element(outer, element(tag, content)) for outer, tag, content in kept)))
@@ -119,7 +122,8 @@ def contexts(codes):
     front = struct.pack("<I", 16) + bound
     for flags in (0, 0x3e, 0xfffffffe):
         for more in (b"", b"more"):
-            yield f"context 0 {flags} 0 {digits(front + struct.pack('<I', flags) + more)} {digits(bound)} - {digits(more)}"
+            checksum = front + struct.pack("<I", flags) + more
+            yield f"context 0 {flags} 0 {digits(checksum)} {digits(bound)} - {digits(more)}"
     for message in (b"", b"credentials"):
         checksum = front + struct.pack("<IHH", 0x3f, 1, len(message)) + message
         for more in (b"", b"more"):

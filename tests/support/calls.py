@@ -1,6 +1,7 @@
 """Makes calls of the libraries by the programs of the crates krb_calls_*, and compares what they answer.
 
-Such a program reads one call a line and answers one line for each; its crate's documentation says which calls. The cases of a file
+Such a program reads one call a line and answers one line for each; its crate's documentation says which calls. The
+cases of a file
 tests/*/*.toml that names a program:
 
     program = "krb_calls_wire"     the program that makes the calls
@@ -9,14 +10,14 @@ tests/*/*.toml that names a program:
     lines   a call, or a list of calls; what an earlier line of the case made is there for the later ones
     answers what is answered: a text, or a list
 
-A case begins with nothing made: the line `new` goes before it, and is answered `new`. Bytes are hexadecimal digits, `-` where there are
-none, `HEX*N` for HEX N times, several such joined by `+`; `@PATH` is a file of the repository. In an answer, a word of bytes of more than
-1,024 bytes stands as `#LENGTH:SHA256` (in a case it is written like the bytes of a call). Of the program krb_calls_exchange a text in
-braces stands for what exchange_made.py makes of it.
+A case begins with nothing made: the line `new` goes before it, and is answered `new`. Bytes are hexadecimal digits, `-`
+where there are none, `HEX*N` for HEX N times, several such joined by `+`; `@PATH` is a file of the repository. In an
+answer, a word of bytes of more than 1,024 bytes stands as `#LENGTH:SHA256` (in a case it is written like the bytes of a
+call). Of the program krb_calls_exchange a text in braces stands for what exchange_made.py makes of it.
 
-A case of that program may have `calls` in place of lines: what follows `accept` in the line of a request. Each of them, made to a fresh
-service over the keytab `keytab` (if there is none, the fixture's for both types) with a skew of 300 s, has the answer of the same place;
-with both memories, by `accept` one after another, and by `serve` all at once.
+A case of that program may have `calls` in place of lines: what follows `accept` in the line of a request. Each of them,
+made to a fresh service over the keytab `keytab` (if there is none, the fixture's for both types) with a skew of 300 s,
+has the answer of the same place; with both memories, by `accept` one after another, and by `serve` all at once.
 """
 import hashlib
 import re
@@ -96,7 +97,8 @@ def forms(case):
     for memory in ("list", "timed"):
         service = f"service {memory} 300 {case.get('keytab', '{keytab}')}"
         yield f", {memory}, accept", [service, *(f"accept {it}" for it in calls)], ["service", *answers]
-        yield f", {memory}, serve", [service, " ".join(["serve", *calls])], ["service", " | ".join([str(len(answers)), *answers])]
+        yield f", {memory}, serve", [service, " ".join(["serve", *calls])], ["service",
+                                                                             " | ".join([str(len(answers)), *answers])]
 
 
 def stored(folder="*"):
@@ -156,19 +158,23 @@ def compared(program, cases):
         if wrong:
             yield name, f"{wrong[0][:300]}: {wrong[1][:600]}, not {wrong[2][:600]}"
         else:
-            yield name, None if len(found) == len(right) else f"the program ended before its answers, with status {ran.returncode}"
+            ended = f"the program ended before its answers, with status {ran.returncode}"
+            yield name, None if len(found) == len(right) else ended
     ended_well = ran.returncode == 0 and not ran.stderr and at == len(answers)
-    yield f"{program} ends well", None if ended_well else f"status {ran.returncode}, {ran.stderr[:300]!r}, {len(answers) - at} lines too many"
+    wrong = f"status {ran.returncode}, {ran.stderr[:300]!r}, {len(answers) - at} lines too many"
+    yield f"{program} ends well", None if ended_well else wrong
 
 
 def answered(cases, word=""):
-    """Makes the calls of the cases whose names contain the word: the name of each, and what is wrong with the answers, or None."""
+    """Makes the calls of the cases whose names contain the word: the name of each, and what is wrong with the answers,
+    or None."""
     for program, found in by_program(it for it in cases if word in it[1]).items():
         yield from compared(program, found)
 
 
 def lay_out():
-    """Writes crates/PROGRAM/stdin and stdout of the stored cases, on which `rt ci` runs each program as both compilers build it."""
+    """Writes crates/PROGRAM/stdin and stdout of the stored cases, on which `rt ci` runs each program as both compilers
+    build it."""
     for program, cases in by_program(stored()).items():
         (TOP / f"crates/{program}/stdin").write_text(joined(lines for _, lines, _ in cases))
         (TOP / f"crates/{program}/stdout").write_text(joined(right for _, _, right in cases))

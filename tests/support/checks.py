@@ -1,4 +1,5 @@
-"""Checks within one test: a test that looks at many things goes on after the first that is wrong, and names them all."""
+"""Checks within one test: a test that looks at many things goes on after the first that is wrong, and names them
+all."""
 import re
 
 
@@ -8,7 +9,8 @@ def slug(name):
 
 
 class Checks:
-    """What was looked at. A check is a name and what is wrong, or None. Of names that don't contain `word`, nothing is said."""
+    """What was looked at. A check is a name and what is wrong, or None. Of names that don't contain `word`, nothing is
+    said."""
 
     def __init__(self, word=""):
         self.word, self.count, self.wrong = word, 0, []
@@ -33,4 +35,5 @@ class Checks:
             told = "\n".join(self.wrong[:20])
             raise AssertionError(f"{len(self.wrong)} of {self.count} checks are wrong:\n{told}{more}")
         if not self.count:
-            raise AssertionError(f"nothing was checked whose name contains {self.word!r}" if self.word else "nothing was checked")
+            raise AssertionError(f"nothing was checked whose name contains {self.word!r}" if self.word
+                                 else "nothing was checked")

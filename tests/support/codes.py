@@ -20,7 +20,8 @@ def both(key, *parts):
 
 
 def drawn():
-    """Cases of calls: keys of each length about that of a block, and a text cut at each two places (RFC 4231, section 4.3)."""
+    """Cases of calls: keys of each length about that of a block, and a text cut at each two places (RFC 4231, section
+    4.3)."""
     for size in (*range(3), *range(60, 70), *range(120, 140), 1000):
         yield "krb_calls_wire", f"codes: a key of {size} bytes", *both(bytes(i % 256 for i in range(size)), GREETING)
     for end in range(len(NOTHING) + 1):

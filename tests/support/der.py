@@ -1,4 +1,5 @@
-"""Writes DER (X.690), and the messages of RFC 4120 (section 5), by these documents alone, without the project's code."""
+"""Writes DER (X.690), and the messages of RFC 4120 (section 5), by these documents alone, without the project's
+code."""
 
 
 def element(tag, *parts):
@@ -89,10 +90,12 @@ def optional_time(seconds):
     return None if seconds is None else time_of(seconds)
 
 
-def enc_ticket_part(bits, session_key, realm, client, authtime, endtime, *, transited=None, start=None, renew=None, addresses=None, data=None):
+def enc_ticket_part(bits, session_key, realm, client, authtime, endtime, *, transited=None, start=None, renew=None,
+                    addresses=None, data=None):
     """What is sealed in a ticket. Times are in seconds."""
     times = [optional_time(it) for it in (authtime, start, endtime, renew)]
-    return message(0x63, flags(bits), session_key, string(realm), client, transited or key(1, b""), *times, addresses, data)
+    return message(0x63, flags(bits), session_key, string(realm), client, transited or key(1, b""), *times, addresses,
+                   data)
 
 
 def authenticator(realm, client, micros, seconds, *, checksum=None, subkey=None, number=None, data=None):

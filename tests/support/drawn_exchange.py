@@ -1,7 +1,8 @@
-"""Calls of krb_calls_exchange that are drawn with a stored seed, and what a second service, client and memory answer (model.py).
+"""Calls of krb_calls_exchange that are drawn with a stored seed, and what a second service, client and memory answer
+(model.py).
 
-Keytabs, tickets, authenticators, caches and moments come from exchange.py; what is said of an accepted request, of a reply and of a memory is
-worked out here, from RFC 4120 (sections 3.2 and 5) and docs/ACCEPTANCE.md alone.
+Keytabs, tickets, authenticators, caches and moments come from exchange.py; what is said of an accepted request, of a
+reply and of a memory is worked out here, from RFC 4120 (sections 3.2 and 5) and docs/ACCEPTANCE.md alone.
 """
 import random
 
@@ -20,10 +21,13 @@ SKEW = 300_000_000
 FIXTURE = Made()
 # What is answered to requests, and to what a client asks for and is sent.
 SERVICE_ANSWERS = [
-    "MessageType", "Malformed", "UserToUser", "TicketEtype", "NotUs", "NoKey", "BadKeyVersion", "TicketIntegrity", "SessionKey",
-    "AuthenticatorIntegrity", "BadMatch", "Skew", "JustStarted", "Repeat", "NotYetValid", "Expired", "Transited", "Authorization", "accepted",
+    "MessageType", "Malformed", "UserToUser", "TicketEtype", "NotUs", "NoKey", "BadKeyVersion", "TicketIntegrity",
+    "SessionKey",
+    "AuthenticatorIntegrity", "BadMatch", "Skew", "JustStarted", "Repeat", "NotYetValid", "Expired", "Transited",
+    "Authorization", "accepted",
 ]
-CLIENT_ANSWERS = ["NoCredential", "NoUsableKey", "Expired", "BadTicket", "MessageType", "Malformed", "Integrity", "Mismatch", "agreed"]
+CLIENT_ANSWERS = ["NoCredential", "NoUsableKey", "Expired", "BadTicket", "MessageType", "Malformed", "Integrity",
+                  "Mismatch", "agreed"]
 MICROS = 1_000_000
 
 
@@ -52,8 +56,10 @@ def elements(fields):
 def accepted(request, part, shown):
     """What is answered to an accepted request, of its fields, its ticket's and its authenticator's."""
     return " ".join([
-        "accepted", name_word(part[3][0], part[2], part[3][1]), name_word(request[3][2][0], request[3][1], request[3][2][1]), pair(part[1]),
-        str(part[0]), str(part[5]), or_none(part.get(6)), str(part[7]), elements(part.get(9)), elements(part.get(10)), str(shown[5]), str(shown[4]),
+        "accepted", name_word(part[3][0], part[2], part[3][1]),
+        name_word(request[3][2][0], request[3][1], request[3][2][1]), pair(part[1]),
+        str(part[0]), str(part[5]), or_none(part.get(6)), str(part[7]), elements(part.get(9)), elements(part.get(10)),
+        str(shown[5]), str(shown[4]),
         pair(shown.get(6)), or_none(shown.get(7)), pair(shown.get(3)), elements(shown.get(8)),
         "mutual" if model.bit(request[2], model.MUTUAL) else "plain",
     ])
@@ -106,7 +112,8 @@ def some_calls(draw, seals, told, sent):
     """Requests and moments, some of them repeated."""
     for _ in range(draw.choice([1, 1, 1, 1, 4])):
         now = MICROS * (BASE + draw.choice([0, 0, 1, 2, 300, -300])) + draw.choice([0, 5, 999_999])
-        data = draw.choice(sent) if sent and draw.random() < 0.2 else exchange.request(draw, seals, told.service.entries, now)
+        data = draw.choice(sent) if sent and draw.random() < 0.2 else exchange.request(draw, seals,
+                                                                                       told.service.entries, now)
         sent.append(data)
         yield data, now
 
@@ -165,7 +172,8 @@ def services(draw):
     for number in range(SERVICES):
         both = conversation(draw)
         for which, memory in enumerate(MEMORIES):
-            yield f"service {number}, {memory}", *([it if isinstance(it, str) else it[which] for it in texts] for texts in both)
+            yield f"service {number}, {memory}", *([it if isinstance(it, str) else it[which] for it in texts]
+                                                   for texts in both)
 
 
 def finished(seals, asked, choice, data):
@@ -193,13 +201,16 @@ def some_reply(draw, seals, asked):
     credential, moment = asked
     etype, key = credential["etype"], credential["key"]
     moment = exchange.often(draw, moment, moment + 1, moment - 1, moment + MICROS)
-    choice = draw.choice([some_choice(draw), (f"{draw.choice([18, -1])}/{draw.randbytes(5).hex()}", draw.choice([9, -1, -(2**31), -(2**31) - 1]))])
-    plain = exchange_made.reply_part(Replied(seconds=moment // MICROS, micros=moment % MICROS, subkey=choice[0], number=choice[1]))
+    choice = draw.choice([some_choice(draw), (f"{draw.choice([18, -1])}/{draw.randbytes(5).hex()}",
+                                              draw.choice([9, -1, -(2**31), -(2**31) - 1]))])
+    plain = exchange_made.reply_part(Replied(seconds=moment // MICROS, micros=moment % MICROS, subkey=choice[0],
+                                             number=choice[1]))
     usage = exchange.often(draw, model.REPLY_USAGE, model.AUTHENTICATOR_USAGE, model.TICKET_USAGE)
     cipher = seals.seal(etype, key, usage, draw.randbytes(16), exchange.bent(draw, plain))
     cipher = exchange.often(draw, cipher, cipher[:-1], b"", cipher[:31])
     told = exchange.often(draw, etype, 18, 39 - etype)
-    return exchange.bent(draw, der.message(exchange.often(draw, 0x6F, 0x7E), 5, 15, der.encrypted(told, cipher, draw.choice([None, 9]))))
+    return exchange.bent(draw, der.message(exchange.often(draw, 0x6F, 0x7E), 5, 15,
+                                           der.encrypted(told, cipher, draw.choice([None, 9]))))
 
 
 def client(draw):
@@ -210,7 +221,8 @@ def client(draw):
     for _ in range(3):
         confounder, is_mutual, choice = draw.randbytes(16), draw.random() < 0.5, some_choice(draw)
         service = name_word(draw.choice([0, 1, 3]), *exchange.NAMED)
-        lines.append(f"request {service} {BASE} {micros} {confounder.hex()} {'mutual' if is_mutual else 'plain'} {choice_words(choice)}")
+        how = "mutual" if is_mutual else "plain"
+        lines.append(f"request {service} {BASE} {micros} {confounder.hex()} {how} {choice_words(choice)}")
         try:
             asked = model.chosen(model.reference.cache(file), name, BASE), MICROS * BASE + micros
         except model.Refused as refusal:
@@ -247,18 +259,21 @@ def beginnings():
 
 def asking(made):
     """A client that made a request of its cache."""
-    request = exchange_made.request(Made(seconds=made.seconds, micros=made.micros, options=1 << 31 - model.MUTUAL, client_type=2))
+    request = exchange_made.request(Made(seconds=made.seconds, micros=made.micros, options=1 << 31 - model.MUTUAL,
+                                         client_type=2))
     line = f"request {name_word(1, *exchange.NAMED)} {made.seconds} {made.micros} {CONFOUNDER.hex()} mutual none none"
     return [f"cache {exchange_made.cache_of(made).hex()}", line], ["cache", request.hex()]
 
 
 def turned(place):
-    """What is answered where the lowest bit of this byte of the fixture's request is turned, by hand from the request's layout."""
+    """What is answered where the lowest bit of this byte of the fixture's request is turned, by hand from the request's
+    layout."""
     if place in (*range(23, 27), 55):
         # options that aren't looked at, and the type of the service's name
         return "accepted"
     causes = {
-        "MessageType": [0], "TicketEtype": [81], "NotUs": [45, 46, *range(62, 66), *range(68, 71)], "BadKeyVersion": [86],
+        "MessageType": [0], "TicketEtype": [81], "NotUs": [45, 46, *range(62, 66), *range(68, 71)],
+        "BadKeyVersion": [86],
         "TicketIntegrity": range(93, 244), "AuthenticatorIntegrity": [252, *range(257, 348)],
     }
     return next((f"refused {cause}" for cause, places in causes.items() if place in places), "refused Malformed")
@@ -305,8 +320,10 @@ def some_moment(draw):
 def packet(draw):
     """A request: its moment, its client's choice, the line that makes it, what it is and what a service says of it."""
     moment, choice = some_moment(draw), some_choice(draw)
-    made = Made(seconds=moment // MICROS, micros=moment % MICROS, options=1 << 31 - model.MUTUAL, client_type=2, subkey=choice[0], number=choice[1])
-    line = f"request {name_word(1, *exchange.NAMED)} {time_words(moment)} {CONFOUNDER.hex()} mutual {choice_words(choice)}"
+    made = Made(seconds=moment // MICROS, micros=moment % MICROS, options=1 << 31 - model.MUTUAL, client_type=2,
+                subkey=choice[0], number=choice[1])
+    name = name_word(1, *exchange.NAMED)
+    line = f"request {name} {time_words(moment)} {CONFOUNDER.hex()} mutual {choice_words(choice)}"
     return moment, choice, line, exchange_made.request(made).hex(), exchange_made.accepted(made)
 
 
@@ -383,17 +400,21 @@ def many_calls():
 
 
 def long_messages():
-    """A reply with a long subkey is taken, errors with long names are built, and of long names there are the bytes of a tuple."""
+    """A reply with a long subkey is taken, errors with long names are built, and of long names there are the bytes of a
+    tuple."""
     lines, answers = asking(FIXTURE)
     subkey = f"18/{bytes(60_000).hex()}"
     lines.append(f"finish 0 {exchange_made.reply(Replied(subkey=subkey)).hex()}")
-    answers.append(f"agreed {name_word(2, b'EX', [b'alice'])} 19/{fixture.SESSION_KEY.hex()} none none 18/{told_bytes(bytes(60_000))} none")
-    for realm, components in ((b"E" * 1_000_000, [b"host", b"web"]), (b"EX", [b"h" * 1_000_000, b"web"]), (b"EX", [b"host"] * 100_000)):
+    client, key = name_word(2, b"EX", [b"alice"]), fixture.SESSION_KEY.hex()
+    answers.append(f"agreed {client} 19/{key} none none 18/{told_bytes(bytes(60_000))} none")
+    for realm, components in ((b"E" * 1_000_000, [b"host", b"web"]), (b"EX", [b"h" * 1_000_000, b"web"]),
+                              (b"EX", [b"host"] * 100_000)):
         name = name_word(3, realm, components)
         lines.append(f"error Repeat 1700000100 7 {name}")
         answers.append(told_bytes(model.error(model.CODES["Repeat"], MICROS * 1_700_000_100 + 7, realm, components)))
         lines.append(f"tuple bytes {name} {ALICE} 1700000100 5")
-        answers.append(told_bytes(exchange_made.stamp_bytes((realm, components), (b"EX", [b"alice"]), 1_700_000_100, 5)))
+        answers.append(told_bytes(exchange_made.stamp_bytes((realm, components), (b"EX", [b"alice"]), 1_700_000_100,
+                                                            5)))
     yield "long messages and names", lines, answers
 
 
@@ -403,12 +424,14 @@ def memory_calls(draw, memory):
     names = [name_word(0, realm, components)[2:] for realm, components in (*exchange.NAMES[:3], *exchange.CLIENTS)]
     for _ in range(MEMORY_CALLS):
         tuple_of = draw.choice(names), draw.choice(names), MICROS * draw.randrange(60) + draw.choice([0, 1, 999_999])
-        words = f"{draw.choice([0, 1, 3])}/{tuple_of[0]} {draw.choice([0, 1, 3])}/{tuple_of[1]} {time_words(tuple_of[2])}"
+        service, client = (f"{draw.choice([0, 1, 3])}/{it}" for it in tuple_of[:2])
+        words = f"{service} {client} {time_words(tuple_of[2])}"
         call = draw.choice(["remember", "remember", "contains", "contains", "len", "latest", "advance"])
         if call == "remember":
             held.add(tuple_of)
         if call == "advance":
-            moment, skew = MICROS * draw.randrange(-5, 60) + draw.choice([0, 1, 999_999]), draw.choice([0, 1, 10, 86_400])
+            moment, skew = MICROS * draw.randrange(-5,
+                                                   60) + draw.choice([0, 1, 999_999]), draw.choice([0, 1, 10, 86_400])
             latest = moment if latest is None else max(latest, moment)
             held = {it for it in held if memory == "list" or it[2] >= latest - MICROS * skew}
             words = f"{time_words(moment)} {skew}"

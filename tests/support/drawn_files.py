@@ -1,8 +1,9 @@
 """Draws cases of keytabs, credential caches and names, for the calls of crates/krb_calls_files (calls.py runs them).
 
-What is answered is worked out here: of whole files by tests/support/reference.py, of readers by a second walk over a source that gives a few
-bytes a read. Nothing is taken from the program's sources. Fields are asked of a source one after another; the numbers after a
-session key's bytes, up to the flags, at once, and an encryption type that stands twice, too.
+What is answered is worked out here: of whole files by tests/support/reference.py, of readers by a second walk over a
+source that gives a few bytes a read. Nothing is taken from the program's sources. Fields are asked of a source one
+after another; the numbers after a session key's bytes, up to the flags, at once, and an encryption type that stands
+twice, too.
 """
 import hashlib
 import random
@@ -390,7 +391,8 @@ def file_case(kind, name, file, piece, found, written):
 
 
 def keytab_case(name, file, piece=4_096):
-    return file_case("keytab", name, file, piece, keytab_shown(file.data), lambda data: f"ok {shown(reference.convert_keytab(data))}")
+    return file_case("keytab", name, file, piece, keytab_shown(file.data),
+                     lambda data: f"ok {shown(reference.convert_keytab(data))}")
 
 
 def written_cache(data):
@@ -433,7 +435,8 @@ def keytabs_of_sizes():
         file = Spelled(b"\5\2") + record(Spelled(b"EX"), count, b"host", run_of(7, count))
         yield keytab_case(f"a keytab with a name of {count} components", file)
         words = entry_words("4558", f"686f7374^{count}" if count else ".", f"07*{count}" if count else "-")
-        yield PROGRAM, f"an entry of {count} components is added", [f"keytab add 0502 {words}"], [f"ok {shown(file.data)}"]
+        name = f"an entry of {count} components is added"
+        yield PROGRAM, name, [f"keytab add 0502 {words}"], [f"ok {shown(file.data)}"]
     one = record(Spelled(b"EX"), 2, b"host", run_of(7, 2))
     words = entry_words("4558", "686f7374^2", "0707")
     for count in range(301):
@@ -478,7 +481,8 @@ def list32(count, kind, text):
 
 
 def sized(size):
-    """The bytes of a credential whose names, lists, key and tickets have so many components, elements and bytes, and its word."""
+    """The bytes of a credential whose names, lists, key and tickets have so many components, elements and bytes, and
+    its word."""
     name = name32(1, Spelled(b"EX"), size, b"host")
     item = list32(size, 2, b"\x7f\0\0\1")
     numbers = struct.pack(">4IBI", 1, 2, 3, 4, 0, 5)
@@ -538,7 +542,8 @@ def unreal_ticket():
 def full_credential(again=b""):
     """A credential in which each field has a value of its own; with these bytes after its encryption type."""
     client, server = fixture.principal(3, b"EX", b"host", b"web"), fixture.principal(1, b"EX", b"alice")
-    lists = struct.pack(">IHI", 1, 2, 4) + b"\x7f\0\0\1" + struct.pack(">IHI", 2, 1, 2) + b"ab" + struct.pack(">HI", 65_535, 0)
+    lists = struct.pack(">IHI", 1, 2, 4) + b"\x7f\0\0\1" + struct.pack(">IHI", 2, 1, 2) + b"ab" + struct.pack(">HI",
+                                                                                                              65_535, 0)
     numbers = struct.pack(">4IBI", 1, 2, 3, 4, 1, 0x4061_0000)
     key = struct.pack(">h", -3) + again + fixture.data(b"\x09")
     return client + server + key + numbers + lists + fixture.data(b"t") + fixture.data(b"uv")
@@ -551,11 +556,13 @@ def full_cache():
 def bare_credential(again=b""):
     """A credential without addresses, authorization data and a second ticket."""
     client = fixture.principal(1, b"EX", b"alice")
-    return fixture.credential(client, fixture.principal(2, b"EX", b"krbtgt", b"EX"), 20, b"\x07\x08", (5, 6, 7, 8), b"tu", again)
+    return fixture.credential(client, fixture.principal(2, b"EX", b"krbtgt", b"EX"), 20, b"\x07\x08", (5, 6, 7, 8),
+                              b"tu", again)
 
 
 def two_credentials():
-    """Caches of both versions with two credentials, of which the first has all fields, or none of the lists and the second ticket."""
+    """Caches of both versions with two credentials, of which the first has all fields, or none of the lists and the
+    second ticket."""
     default = fixture.principal(1, b"EX", b"alice")
     for version, start, again in (("0x0504", b"\5\4\0\0", b""), ("0x0503", b"\5\3", b"\0\x11")):
         full, bare = full_credential(again), bare_credential(again)
@@ -564,7 +571,8 @@ def two_credentials():
 
 
 def old_caches():
-    """Beginnings of caches of version 0x0503, one with each byte another, and sources that fail; and of caches with two credentials."""
+    """Beginnings of caches of version 0x0503, one with each byte another, and sources that fail; and of caches with two
+    credentials."""
     files = dict(two_credentials())
     files["the client's cache of 0x0503"] = fixture.old_cache(unreal_ticket())
     for word, whole in files.items():
@@ -581,9 +589,11 @@ def old_caches():
             yield cache_case(f"{value} at {at} of a cache of 0x0503, as a whole", file)
     for piece in (7, 50):
         for failing in range(1, 41):
-            yield from each_call(credential_case, f"a cache of 0x0503 of whose reads {failing} fails", Spelled(whole), piece, failing)
+            yield from each_call(credential_case, f"a cache of 0x0503 of whose reads {failing} fails", Spelled(whole),
+                                 piece, failing)
     for again in (b"\0\0", b"\0\x12", b"\x13\0", b"\xff\xff"):
-        yield cache_case(f"a second encryption type of {again.hex()}", Spelled(fixture.old_cache(unreal_ticket(), again)))
+        yield cache_case(f"a second encryption type of {again.hex()}",
+                         Spelled(fixture.old_cache(unreal_ticket(), again)))
     for length in (LIMIT, LIMIT + 1):
         size = length - 18
         file = Spelled(b"\5\3" + struct.pack(">iIII", 1, 1, 0, size)) + run_of(7, size)
@@ -601,21 +611,25 @@ def drawn_name(draw):
 
 
 def drawn_list(draw):
-    items = [struct.pack(">H", draw.randrange(2**16)) + fixture.data(drawn_text(draw, 6)) for _ in range(draw.randrange(3))]
+    items = [struct.pack(">H", draw.randrange(2**16)) + fixture.data(drawn_text(draw, 6))
+             for _ in range(draw.randrange(3))]
     return struct.pack(">I", len(items)) + b"".join(items)
 
 
 def drawn_cache(draw, is_old):
     """The bytes of a cache of either version."""
-    fields = b"".join(struct.pack(">H", 2 + draw.randrange(9)) + data16(drawn_text(draw, 6)) for _ in range(draw.randrange(3)))
+    fields = b"".join(struct.pack(">H", 2 + draw.randrange(9)) + data16(drawn_text(draw, 6))
+                      for _ in range(draw.randrange(3)))
     if draw.randrange(2):
         fields += struct.pack(">HH", 1, 8) + draw.randbytes(8)
     found = b"\5\3" if is_old else b"\5\4" + data16(fields)
     found += drawn_name(draw)
     for _ in range(draw.randrange(4)):
-        found += drawn_name(draw) + drawn_name(draw) + draw.randbytes(4 if is_old else 2) + fixture.data(drawn_text(draw, 20))
+        found += drawn_name(draw) + drawn_name(draw) + draw.randbytes(4 if is_old
+                                                                      else 2) + fixture.data(drawn_text(draw, 20))
         found += draw.randbytes(16) + bytes([draw.randrange(2)]) + draw.randbytes(4)
-        found += drawn_list(draw) + drawn_list(draw) + fixture.data(drawn_text(draw, 20)) + fixture.data(drawn_text(draw, 6))
+        found += drawn_list(draw) + drawn_list(draw) + fixture.data(drawn_text(draw,
+                                                                               20)) + fixture.data(drawn_text(draw, 6))
     return found
 
 
@@ -642,7 +656,8 @@ def other_caches():
             yield cache_case(f"{length} bytes of the {word} cache, as a whole", file, 50)
     for length in range(len(files["ticket"]) + 1):
         for piece in (1, 2, 3):
-            yield credential_case(f"{length} bytes of the ticket cache, {piece} a read", Spelled(files["ticket"][:length]), piece)
+            yield credential_case(f"{length} bytes of the ticket cache, {piece} a read",
+                                  Spelled(files["ticket"][:length]), piece)
     whole = files["full"]
     for at in range(len(whole)):
         for value in (0, 1, 2, 0xFF):
@@ -651,7 +666,8 @@ def other_caches():
             yield cache_case(f"{value} at {at}, as a whole", file)
     for piece in (7, 50):
         for failing in range(1, 41):
-            yield from each_call(credential_case, f"a cache of whose reads {failing} fails", Spelled(files["ticket"]), piece, failing)
+            yield from each_call(credential_case, f"a cache of whose reads {failing} fails", Spelled(files["ticket"]),
+                                 piece, failing)
     empty = sized_cache(1, 0)[0].data
     for at in range(len(empty) - 3):
         yield cache_case(f"a count of 4294967295 at {at}", Spelled(empty[:at] + b"\xff" * 4 + empty[at + 4 :]))
@@ -663,9 +679,11 @@ def other_caches():
 def credential_of(**parts):
     """The bytes of a credential whose parts are these or small ones."""
     name = name32(1, Spelled(b"EX"), 1, b"host")
-    told = {"client": name, "server": name, "key": Spelled(), "addresses": list32(0, 0, b""), "authdata": list32(0, 0, b""),
+    told = {"client": name, "server": name, "key": Spelled(), "addresses": list32(0, 0, b""),
+            "authdata": list32(0, 0, b""),
             "ticket": Spelled(), "second": Spelled(), **parts}
-    front = told["client"] + told["server"] + struct.pack(">h", 19) + data32(told["key"]) + struct.pack(">4IBI", 1, 2, 3, 4, 0, 5)
+    front = told["client"] + told["server"] + struct.pack(">h", 19) + data32(told["key"]) + struct.pack(">4IBI", 1, 2,
+                                                                                                        3, 4, 0, 5)
     return front + told["addresses"] + told["authdata"] + data32(told["ticket"]) + data32(told["second"])
 
 
@@ -680,7 +698,8 @@ def large_caches():
     long, text = run_of(0x61, 60_000), b"\x61" * 60_000
     yield "a realm of 60000 bytes", cache_of(credential_of(), default=name32(1, long, 1, b"host"))
     yield "a component of 60000 bytes", cache_of(credential_of(), default=name32(1, long, 1, text))
-    yield "names of 60000 bytes", cache_of(credential_of(client=name32(1, long, 2, text), server=name32(1, long, 1, text)))
+    yield "names of 60000 bytes", cache_of(credential_of(client=name32(1, long, 2, text),
+                                                         server=name32(1, long, 1, text)))
     for part in ("key", "ticket", "second"):
         yield f"a {part} of 60000 bytes", cache_of(credential_of(**{part: long}))
     for part in ("addresses", "authdata"):
@@ -751,14 +770,15 @@ def edits_of_large_files():
     entries = ALICE + Spelled(one).times(20_000)
     yield edited_case("an entry is added to a file of 1 MB", entries, one, words)
     gone = removed(entries.data, 19_999)
-    yield PROGRAM, "an entry of a file of 1 MB is removed", [f"keytab remove 19999 {entries.word}"], [f"ok {shown(gone)}"]
+    name = "an entry of a file of 1 MB is removed"
+    yield PROGRAM, name, [f"keytab remove 19999 {entries.word}"], [f"ok {shown(gone)}"]
     for key in (65_209, 65_208):
         yield edited_case(f"an entry is added to a file of {16_711_958 + key} bytes", full_keytab(key), one, words)
 
 
 def full_keytab(key):
-    """A keytab of one entry, with 255 components of 65535 bytes and a key of so many, without a version number of 32 bits. It has
-    16711958 bytes and those of the key."""
+    """A keytab of one entry, with 255 components of 65535 bytes and a key of so many, without a version number of 32
+    bits. It has 16711958 bytes and those of the key."""
     item = Spelled(b"\xff\xff") + run_of(0x61, 65_535)
     file = Spelled(b"\5\2" + struct.pack(">I", 16_711_952 + key) + b"\0\xff\0\0")
     for _ in range(255):
@@ -806,11 +826,13 @@ def many_items():
     """Very many entries and credentials: each is shown as it is alone."""
     one, start = record(Spelled(b"EX"), 2, b"host", Spelled(KEY)), Spelled(b"\5\2")
     found = f"ok {MOST} {list_shown([entry_shown(reference.keytab(start.data + one.data)[0])] * MOST, ' ')}"
-    yield file_case("keytab", f"a keytab of {MOST} entries", start + one.times(MOST), 65_536, found, lambda data: f"ok {shown(data)}")
+    yield file_case("keytab", f"a keytab of {MOST} entries", start + one.times(MOST), 65_536, found,
+                    lambda data: f"ok {shown(data)}")
     one, start = Spelled(credential_of().data), cache_of()
     _, default, credentials = reference.cache(start.data + one.data)
     found = f"ok {name_shown(default)} none {MOST} {list_shown([kind_shown(credentials[0])] * MOST, ' ')}"
-    yield file_case("cache", f"a cache of {MOST} credentials", start + one.times(MOST), 65_536, found, lambda data: f"ok {shown(data)}")
+    yield file_case("cache", f"a cache of {MOST} credentials", start + one.times(MOST), 65_536, found,
+                    lambda data: f"ok {shown(data)}")
 
 
 def wide_records():
@@ -852,13 +874,15 @@ def long_words():
         lines.append(f"components {call} 686f7374^1000")
         answers.append(f"1000 false {items}")
     elements = list_shown(["2/7f000001"] * 1_000)
-    yield PROGRAM, "long strings and lists", [*lines, "cache list 2/7f000001^1000"], [*answers, f"1000 false {elements}"]
+    yield PROGRAM, "long strings and lists", [*lines, "cache list 2/7f000001^1000"], [*answers,
+                                                                                      f"1000 false {elements}"]
     for realm, components in ((b"a" * 1_000_000, [b"b"]), (b"EX", [b"a" * 1_000_000]), (b"EX", [b"host"] * 20_000)):
         text = reference.principal_text(realm, components)
         name = {"name_type": 3, "realm": realm, "components": components}
         word = f"3/{realm.hex()}/{','.join(it.hex() for it in components)}"
         lines = [f"name text {word}", f"name read 3 ={text}", f"name clone {word}"]
-        yield PROGRAM, f"a name of {len(text)} letters", lines, [shown(text.encode()), name_shown(name), name_shown(name)]
+        yield PROGRAM, f"a name of {len(text)} letters", lines, [shown(text.encode()), name_shown(name),
+                                                                 name_shown(name)]
 
 
 # Lengths and counts that the bytes don't bear out.
@@ -877,12 +901,13 @@ def claims():
     numbers, item = struct.pack(">4IBI", 1, 2, 3, 4, 0, 5), struct.pack(">HI", 2, 2) + b"ab"
     yield "a header", b"\5\4\xff\xff" + small
     yield "a field of a header", b"\5\4\0\x08\0\2\xff\xff" + small
-    yield "the components of the default principal", front + struct.pack(">i", 1) + CLAIMED + fixture.data(b"EX") + fixture.data(b"a")
+    claiming, short = struct.pack(">i", 1) + CLAIMED, fixture.data(b"EX") + fixture.data(b"a")
+    yield "the components of the default principal", front + claiming + short
     yield "the realm of the default principal", front + struct.pack(">iI", 1, 1) + CLAIMED + b"EX"
-    yield "a component of the default principal", front + struct.pack(">iI", 1, 2) + fixture.data(b"EX") + fixture.data(b"a") + CLAIMED + b"b"
+    yield "a component of the default principal", front + struct.pack(">iI", 1, 2) + short + CLAIMED + b"b"
     begun = front + name
-    yield "the components of a client", begun + struct.pack(">i", 1) + CLAIMED + fixture.data(b"EX") + fixture.data(b"a")
-    yield "the components of a server", begun + name + struct.pack(">i", 1) + CLAIMED + fixture.data(b"EX") + fixture.data(b"a")
+    yield "the components of a client", begun + claiming + short
+    yield "the components of a server", begun + name + claiming + short
     begun += name + name + key
     yield "a session key", begun + CLAIMED + small
     begun += fixture.data(b"") + numbers
@@ -912,7 +937,9 @@ def names():
         text = reference.principal_text(b"EX", [b"web"] * count)
         told = f"={text}" if len(text) <= 1024 else shown(text.encode())
         name = name_shown({"name_type": 1, "realm": b"EX", "components": [b"web"] * count})
-        yield PROGRAM, f"a name of {count} components", [f"name text 1/4558/776562^{count}", f"name read 1 ={text}"], [told, name]
+        yield PROGRAM, f"a name of {count} components", [f"name text 1/4558/776562^{count}",
+                                                         f"name read 1 ={text}"], [told, name]
 
 
-PARTS = (names, keytabs_of_sizes, other_keytabs, caches_of_sizes, other_caches, old_caches, drawn_caches, sizes, claim_cases)
+PARTS = (names, keytabs_of_sizes, other_keytabs, caches_of_sizes, other_caches, old_caches, drawn_caches, sizes,
+         claim_cases)

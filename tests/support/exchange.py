@@ -1,7 +1,8 @@
 """Draws keytabs, requests and caches, with what a second client and service answer (model.py).
 
-Keytabs, tickets, authenticators, caches and moments are drawn so that each cause comes often: keys of other types, lengths, versions and
-entries; names that differ in one part; times at the edges of the skew; flags, authorization data and usages; messages bent byte by byte.
+Keytabs, tickets, authenticators, caches and moments are drawn so that each cause comes often: keys of other types,
+lengths, versions and entries; names that differ in one part; times at the edges of the skew; flags, authorization data
+and usages; messages bent byte by byte.
 """
 import struct
 
@@ -9,8 +10,10 @@ from support import der, fixture, model
 
 LINES = 30
 BASE = 1_700_000_000
-CLIENTS = [(b"EX", (b"alice",)), (b"EX", (b"bob",)), (b"OTHER", (b"alice",)), (b"EX", (b"alice", b"admin")), (b"EX", (b"a/b", b"\xff")), (b"", ())]
-NAMES = [(b"EX", (b"host", b"web")), (b"EX", (b"host", b"mail")), (b"OTHER", (b"host", b"web")), (b"EX", (b"host/web",)), (b"EX", (b"host",))]
+CLIENTS = [(b"EX", (b"alice",)), (b"EX", (b"bob",)), (b"OTHER", (b"alice",)), (b"EX", (b"alice", b"admin")),
+           (b"EX", (b"a/b", b"\xff")), (b"", ())]
+NAMES = [(b"EX", (b"host", b"web")), (b"EX", (b"host", b"mail")), (b"OTHER", (b"host", b"web")),
+         (b"EX", (b"host/web",)), (b"EX", (b"host",))]
 NAMED = (b"EX", (b"host", b"web"))
 KVNOS = [1, 2, 3, 255, 256, 300, 70_000]
 
@@ -27,7 +30,8 @@ def some_bytes(draw, count):
 def some_key(draw):
     """A type and a key, usually one that is usable."""
     etype = draw.choice([19, 20])
-    return often(draw, etype, 17, 18, 39 - etype, -1), some_bytes(draw, often(draw, model.KEY_LENGTHS[etype], 0, 15, 17, 31, 33))
+    return often(draw, etype, 17, 18, 39 - etype,
+                 -1), some_bytes(draw, often(draw, model.KEY_LENGTHS[etype], 0, 15, 17, 31, 33))
 
 
 def principal16(name):
@@ -41,7 +45,8 @@ def keytab(draw):
     for _ in range(draw.randint(1, 6)):
         etype, key = some_key(draw)
         kvno = draw.choice(KVNOS)
-        entry = principal16(often(draw, NAMES[0], *NAMES)) + struct.pack(">iIBhH", draw.choice([0, 1, 3]), BASE, kvno % 256, etype, len(key)) + key
+        entry = principal16(often(draw, NAMES[0], *NAMES)) + struct.pack(">iIBhH", draw.choice([0, 1, 3]), BASE,
+                                                                         kvno % 256, etype, len(key)) + key
         entry += draw.choice([b"", struct.pack(">I", kvno), struct.pack(">I", 0), struct.pack(">I", kvno) + b"rest"])
         made += struct.pack(">i", len(entry)) + entry
         if draw.random() < 0.2:
@@ -65,7 +70,8 @@ def bent(draw, data):
     at = draw.randrange(len(data))
     if how < 0.03:
         return data[:at] + bytes([data[at] ^ 1 << draw.randrange(8)]) + data[at + 1:]
-    return draw.choice([data[:at], data + b"\0", data[:1] + b"\x81" + data[1:], data[:at] + data[at + 1:], data[1:], b""])
+    return draw.choice([data[:at], data + b"\0", data[:1] + b"\x81" + data[1:], data[:at] + data[at + 1:], data[1:],
+                        b""])
 
 
 def some_time(draw, near):
@@ -78,7 +84,8 @@ def ticket_part(draw, client, session):
     flags = often(draw, draw.choice([0, 1 << 19, 0x40E80000]), 1 << 24, 0xFFFFFFFF, 0x40E00000)
     renew, addresses = draw.choice([None, 2**31 - 1]), draw.choice([None, der.sequence(der.key(2, b"\x7f\0\0\1"))])
     start, name = draw.choice([None, some_time(draw, BASE)]), der.name(draw.choice([0, 1]), *client[1])
-    times = often(draw, BASE - 100, some_time(draw, BASE)), often(draw, BASE + 36_000, BASE - 299, BASE - 300, BASE - 301)
+    times = often(draw, BASE - 100, some_time(draw, BASE)), often(draw, BASE + 36_000, BASE - 299, BASE - 300,
+                                                                  BASE - 301)
     lists = {"addresses": addresses, "data": authorization(draw)}
     return der.enc_ticket_part(flags, der.key(etype, key), client[0], name, *times, start=start, renew=renew, **lists)
 
@@ -88,16 +95,19 @@ def authenticator(draw, client, seconds, micros):
     subkey, number = draw.choice([None, der.key(etype, key)]), draw.choice([None, 0, 2**32 - 1, 2**31, -1, -(2**31)])
     checksum = draw.choice([None, der.key(-3, b"sum")])
     name, data = der.name(draw.choice([0, 1, 7]), *client[1]), authorization(draw)
-    return der.authenticator(client[0], name, micros, seconds, checksum=checksum, subkey=subkey, number=number, data=data)
+    return der.authenticator(client[0], name, micros, seconds, checksum=checksum, subkey=subkey, number=number,
+                             data=data)
 
 
 def ticket(draw, seals, entries, client, session):
     """A ticket under a key of the keytab, or nearly."""
     entry = draw.choice(entries)
-    usable = [it for it in entries if model.is_usable(it["etype"], it["key"])] or [{**entry, "etype": 19, "key": bytes(16)}]
+    usable = [it for it in entries if model.is_usable(it["etype"], it["key"])] or [{**entry, "etype": 19,
+                                                                                    "key": bytes(16)}]
     entry = often(draw, draw.choice(usable), *usable)
     etype, key = entry["etype"], often(draw, entry["key"], bytes(len(entry["key"])))
-    cipher = seals.seal(etype, key, often(draw, 2, 11), some_bytes(draw, 16), bent(draw, ticket_part(draw, client, session)))
+    cipher = seals.seal(etype, key, often(draw, 2, 11), some_bytes(draw, 16),
+                        bent(draw, ticket_part(draw, client, session)))
     kvno = often(draw, entry["kvno"], None, *KVNOS)
     realm, components = often(draw, (entry["realm"], entry["components"]), *NAMES)
     name = der.name(draw.choice([1, 3]), *components)
@@ -109,7 +119,8 @@ def request(draw, seals, entries, now):
     etype, key = some_key(draw)
     made = ticket(draw, seals, entries, client, (etype, key))
     sealed_as, under = (etype, key) if model.is_usable(etype, key) else (19, bytes(16))
-    shown = authenticator(draw, often(draw, client, *CLIENTS), some_time(draw, now // 1_000_000), draw.choice([now % 1_000_000, 0, 999_999]))
+    shown = authenticator(draw, often(draw, client, *CLIENTS), some_time(draw, now // 1_000_000),
+                          draw.choice([now % 1_000_000, 0, 999_999]))
     cipher = seals.seal(sealed_as, under, often(draw, 11, 2, 12), some_bytes(draw, 16), bent(draw, shown))
     options = often(draw, draw.choice([0, 0x20000000, 0x1FFFFFFF, 0xBFFFFFFF]), 0x40000000, 0xFFFFFFFF)
     part = der.encrypted(often(draw, sealed_as, 18, 39 - sealed_as), cipher, draw.choice([None, None, 9]))
@@ -165,7 +176,8 @@ def asked(draw):
     """A cache, the command's words, and the answer of a second client: standard output, standard error and status."""
     seals, file = model.Seals(), cache(draw)
     micros, confounder, is_mutual = draw.choice([0, 1, 999_999]), some_bytes(draw, 16), draw.random() < 0.5
-    words = ["request", "f", "host/web@EX", "--time", str(BASE), "--usec", str(micros), "--confounder", confounder.hex(), *(["--mutual"] if is_mutual else [])]
+    words = ["request", "f", "host/web@EX", "--time", str(BASE), "--usec", str(micros), "--confounder",
+             confounder.hex(), *(["--mutual"] if is_mutual else [])]
     name = {"realm": NAMED[0], "components": list(NAMED[1])}
     try:
         made = model.request(seals, file, name, BASE, micros, confounder, is_mutual)

@@ -1,20 +1,23 @@
-"""Messages and files that differ from the fixture's in what a text says, made by the standards' rules alone (fixture.py, model.py).
+"""Messages and files that differ from the fixture's in what a text says, made by the standards' rules alone
+(fixture.py, model.py).
 
-The cases of the program krb_calls_exchange (calls.py) name them in braces, `{WHAT WORD ..}`, words being mostly NAME=VALUE:
+The cases of the program krb_calls_exchange (calls.py) name them in braces, `{WHAT WORD ..}`, words being mostly
+NAME=VALUE:
 
     {keytab [KVNO:ETYPE:KEY ..]}     keys of host/web@EX; without a word, the fixture's key for both types
     {name TYPE TEXT}                 a name as the program reads it
     {ticket ..}, {request ..}        of what differs from the fixture: the fields of Made
     {cache [CREDENTIAL ..]}          alice@EX's cache with the credentials of these names (CREDENTIALS)
-    {cache-of ..}                    the cache of the ticket's client, with the one ticket of what differs; of Made, and `realm` its realm
-    {accepted ..}                    what a service answers to the request
+    {cache-of ..}                    the cache of the ticket's client, with the one ticket of what differs; of Made, and
+    `realm` its realm {accepted ..}                    what a service answers to the request
     {stamp ..}                       the bytes of what it remembers of the request
     {reply ..}                       of what differs from the fixture's reply: the fields of Replied
     {error CODE}                     the fixture's error with this code
     {cut LENGTH WHAT ..}             the first bytes of this
     {turned PLACE:BITS WHAT ..}      this with these bits of a byte turned
 
-KEY and VALUE of bytes are hexadecimal digits, or `service` and `session` for the fixture's keys, or HEX*N for HEX N times.
+KEY and VALUE of bytes are hexadecimal digits, or `service` and `session` for the fixture's keys, or HEX*N for HEX N
+times.
 """
 import functools
 import struct
@@ -42,7 +45,8 @@ class Sent:
     session_etype: int = 19
     told_etype: int = None
     kvno: int = None
-    # How what is sealed is bent: how many bytes of its plain text are kept, how many zeros stand after them, and how many bytes of it are sent.
+    # How what is sealed is bent: how many bytes of its plain text are kept, how many zeros stand after them, and how
+    # many bytes of it are sent.
     kept: int = ALL
     zeros: int = 0
     sent: int = ALL
@@ -158,7 +162,8 @@ def chosen_key(text):
 
 def filled(made):
     """With the choices of a full request."""
-    return replace(made, flags=1 << 31 - model.TRANSITED_CHECKED, starttime=AUTHTIME + 1, subkey=OTHER_KEY, number=HIGHEST) if made.full else made
+    return replace(made, flags=1 << 31 - model.TRANSITED_CHECKED, starttime=AUTHTIME + 1, subkey=OTHER_KEY,
+                   number=HIGHEST) if made.full else made
 
 
 def lists_of(made):
@@ -173,8 +178,10 @@ def ticket_part(made):
     realm, components = parts_of(made.ticket_client)
     addresses, data, _ = lists_of(made)
     return der.enc_ticket_part(
-        made.flags, der.key(made.session_etype, stretched(fixture.SESSION_KEY, made.session_len)), realm, der.name(1, *components), AUTHTIME, ENDTIME,
-        transited=der.key(1, b"\xc0" * 3 if made.full else b""), start=made.starttime, renew=1_700_100_000 if made.full else None,
+        made.flags, der.key(made.session_etype, stretched(fixture.SESSION_KEY, made.session_len)), realm,
+        der.name(1, *components), AUTHTIME, ENDTIME,
+        transited=der.key(1, b"\xc0" * 3 if made.full else b""), start=made.starttime,
+        renew=1_700_100_000 if made.full else None,
         addresses=listed(addresses), data=listed(data))
 
 
@@ -183,13 +190,15 @@ def authenticator(made):
     realm, components = parts_of(made.client)
     subkey = chosen_key(made.subkey)
     return der.authenticator(
-        realm, der.name(made.client_type, *components), made.micros, made.seconds, checksum=der.key(*CHECKSUM) if made.full else None,
+        realm, der.name(made.client_type, *components), made.micros, made.seconds,
+        checksum=der.key(*CHECKSUM) if made.full else None,
         subkey=subkey and der.key(*subkey), number=made.number, data=listed(lists_of(made)[2]))
 
 
 def ticket(made):
     key = stretched(made.service_key, LENGTHS[made.service_etype])
-    cipher = bent(made.service_etype, key, made.ticket_usage, TICKET_CONFOUNDER, ticket_part(made), made.ticket_kept, made.ticket_zeros, made.ticket_sent)
+    cipher = bent(made.service_etype, key, made.ticket_usage, TICKET_CONFOUNDER, ticket_part(made), made.ticket_kept,
+                  made.ticket_zeros, made.ticket_sent)
     realm, components = parts_of(made.service)
     etype = made.service_etype if made.told_etype is None else made.told_etype
     return der.ticket(realm, der.name(3, *components), der.encrypted(etype, cipher, made.kvno))
@@ -200,7 +209,8 @@ def session_key(etype):
 
 
 def request(made):
-    cipher = bent(made.session_etype, session_key(made.session_etype), made.usage, CONFOUNDER, authenticator(made), made.kept, made.zeros, made.sent)
+    cipher = bent(made.session_etype, session_key(made.session_etype), made.usage, CONFOUNDER, authenticator(made),
+                  made.kept, made.zeros, made.sent)
     etype = made.session_etype if made.sealed_etype is None else made.sealed_etype
     return der.request(made.options, ticket(made), der.encrypted(etype, cipher))
 
@@ -220,9 +230,12 @@ def accepted(made):
     is_mutual = made.options >> 31 - model.MUTUAL & 1
     return " ".join([
         "accepted", name_word(1, *parts_of(made.ticket_client)), name_word(3, *parts_of(made.service)),
-        f"{made.session_etype}/{session_key(made.session_etype).hex()}", str(made.flags), str(AUTHTIME), or_none(made.starttime),
-        str(ENDTIME), items_word(addresses), items_word(ticket_data), str(made.seconds), str(made.micros), or_none(made.subkey), or_none(made.number),
-        f"{CHECKSUM[0]}/{CHECKSUM[1].hex()}" if made.full else "none", items_word(data), "mutual" if is_mutual else "plain",
+        f"{made.session_etype}/{session_key(made.session_etype).hex()}", str(made.flags), str(AUTHTIME),
+        or_none(made.starttime),
+        str(ENDTIME), items_word(addresses), items_word(ticket_data), str(made.seconds), str(made.micros),
+        or_none(made.subkey), or_none(made.number),
+        f"{CHECKSUM[0]}/{CHECKSUM[1].hex()}" if made.full else "none", items_word(data),
+        "mutual" if is_mutual else "plain",
     ])
 
 
@@ -250,7 +263,8 @@ def reply_part(replied):
 
 def reply(replied):
     etype, key = replied.session_etype, session_key(replied.session_etype)
-    cipher = bent(etype, key, replied.usage, replied.confounder, reply_part(replied), replied.kept, replied.zeros, replied.sent)
+    cipher = bent(etype, key, replied.usage, replied.confounder, reply_part(replied), replied.kept, replied.zeros,
+                  replied.sent)
     return der.reply(der.encrypted(etype if replied.told_etype is None else replied.told_etype, cipher, replied.kvno))
 
 
@@ -269,7 +283,8 @@ BOTH = [(3, 19, fixture.SERVICE_KEY), (3, 20, fixture.SERVICE_KEY)]
 
 
 def keytab_of(words):
-    return keytab([(int(kvno), int(etype), bytes_of(key)) for kvno, etype, key in (it.split(":") for it in words)] or BOTH)
+    return keytab([(int(kvno), int(etype), bytes_of(key)) for kvno, etype, key in (it.split(":") for it in words)]
+                  or BOTH)
 
 
 @dataclass(frozen=True)
@@ -301,12 +316,14 @@ CREDENTIALS = {
 def credential(held):
     client, server = parts_of(held.client), parts_of(held.server)
     return fixture.credential(
-        fixture.principal(1, client[0], *client[1]), fixture.principal(3, server[0], *server[1]), held.etype, stretched(fixture.SESSION_KEY, held.key_len),
+        fixture.principal(1, client[0], *client[1]), fixture.principal(3, server[0], *server[1]), held.etype,
+        stretched(fixture.SESSION_KEY, held.key_len),
         (AUTHTIME, 0, held.endtime, 0), fixture.ticket() if held.ticket is None else held.ticket)
 
 
 def cache(names):
-    return b"\x05\x04\0\0" + fixture.principal(1, b"EX", b"alice") + b"".join(credential(CREDENTIALS[it]) for it in names)
+    return b"\x05\x04\0\0" + fixture.principal(1, b"EX",
+                                               b"alice") + b"".join(credential(CREDENTIALS[it]) for it in names)
 
 
 def cache_of(made):
@@ -314,7 +331,8 @@ def cache_of(made):
     realm, components = parts_of(made.ticket_client)
     client = fixture.principal(2, realm if made.realm is None else made.realm, *components)
     server, key = fixture.principal(3, b"EX", b"host", b"web"), stretched(fixture.SESSION_KEY, made.session_len)
-    return b"\x05\x04\0\0" + client + fixture.credential(client, server, made.session_etype, key, (AUTHTIME, 0, ENDTIME, 0), ticket(made))
+    return b"\x05\x04\0\0" + client + fixture.credential(client, server, made.session_etype, key,
+                                                         (AUTHTIME, 0, ENDTIME, 0), ticket(made))
 
 
 def made_of(words):

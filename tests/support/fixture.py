@@ -1,4 +1,5 @@
-"""Makes the small exchange that tests share: a ticket, a credential cache, requests, replies and an error, by the standards' rules alone.
+"""Makes the small exchange that tests share: a ticket, a credential cache, requests, replies and an error, by the
+standards' rules alone.
 
 DER is written by der.py, and sealing is that of sealing.py.
 """
@@ -37,7 +38,8 @@ def credential(client, server, etype, key, times, ticket_bytes, second_etype=b""
 
 
 def keytab():
-    name_of_service = struct.pack(">H", 2) + b"".join(struct.pack(">H", len(it)) + it for it in (b"EX", b"host", b"web"))
+    name_of_service = struct.pack(">H", 2) + b"".join(struct.pack(">H", len(it)) + it
+                                                      for it in (b"EX", b"host", b"web"))
     entry = name_of_service + struct.pack(">iIBhH", 3, 1_700_000_000, 3, 19, 16) + SERVICE_KEY + struct.pack(">I", 3)
     return b"\x05\x02" + struct.pack(">i", len(entry)) + entry
 
@@ -60,11 +62,13 @@ def configured_cache():
     client = principal(1, b"EX", b"alice")
     server = principal(0, b"X-CACHECONF:", b"krb5_ccache_conf_data", b"fast_avail")
     header = bytes.fromhex("00010008fffffffe00000007" "00020003aabbcc")
-    return b"\x05\x04" + struct.pack(">H", len(header)) + header + client + credential(client, server, 0, b"", (0, 0, 0, 0), b"yes")
+    return b"\x05\x04" + struct.pack(">H", len(header)) + header + client + credential(client, server, 0, b"",
+                                                                                       (0, 0, 0, 0), b"yes")
 
 
 def context(is_mutual, flags=0, bindings=bytes(16)):
-    """The checksum of a client of GSS-API (RFC 4121, section 4.1.1): delegation (1) is never set, and mutual (2) if it asks for a reply."""
+    """The checksum of a client of GSS-API (RFC 4121, section 4.1.1): delegation (1) is never set, and mutual (2) if it
+    asks for a reply."""
     flags = flags & ~3 | (2 if is_mutual else 0)
     return der.key(0x8003, struct.pack("<I16sI", 16, bindings, flags))
 

@@ -1,7 +1,9 @@
-"""Cases that are made and not stored: each beginning of a file, each file with one byte changed, files at the limit, each way of closing
-the standard streams, a service that was started long ago, and files of as many items, and with as long names, as there may be.
+"""Cases that are made and not stored: each beginning of a file, each file with one byte changed, files at the limit,
+each way of closing the standard streams, a service that was started long ago, and files of as many items, and with as
+long names, as there may be.
 
-What is expected comes from tests/support/reference.py and tests/support/readable.py. A case is made when it is asked for.
+What is expected comes from tests/support/reference.py and tests/support/readable.py. A case is made when it is asked
+for.
 """
 import struct
 import tomllib
@@ -39,7 +41,8 @@ def expected(command, data):
 
 
 def on_bytes(word, name, data, command):
-    return {"name": f"{word}: {name}", "args": [*word.split(), "f"], "files": {"f": bytes(data)}, **expected(command, data)}
+    return {"name": f"{word}: {name}", "args": [*word.split(), "f"], "files": {"f": bytes(data)},
+            **expected(command, data)}
 
 
 def converting(word, name, data, command):
@@ -73,7 +76,8 @@ def full_keytabs():
         many, one = b"\x05\x02" + record * count, reference.record_of(*reference.keytab(b"\x05\x02" + record))
         made = b"\x05\x02" + one * count
         yield on_bytes("check-keytab", f"a full file of records with {name}", many, lambda data: f"ok {count}\n")
-        yield converting("convert-keytab", f"a full file of records with {name}", many, lambda data: reference.within_limit(made))
+        yield converting("convert-keytab", f"a full file of records with {name}", many,
+                         lambda data: reference.within_limit(made))
 
 
 def checked_keytabs(real):
@@ -133,7 +137,8 @@ def full_caches():
 
 def cache_cases():
     real = {path.name: path.read_bytes() for path in sorted(EXAMPLES.glob("*.ccache"))}
-    small = {"fixture": FIXTURE_CACHE, "old fixture": OLD_CACHE, "configured": CONFIGURED_CACHE, **dict(drawn_files.two_credentials())}
+    small = {"fixture": FIXTURE_CACHE, "old fixture": OLD_CACHE, "configured": CONFIGURED_CACHE,
+             **dict(drawn_files.two_credentials())}
     for name, data in {**real, **small}.items():
         yield from beginnings("list-ccache", name, data, reference.list_ccache)
         yield on_bytes("list-ccache --readable", name, data, cache_table_at(None))
@@ -163,8 +168,10 @@ COMMANDS = {
 
 
 def without(streams, case):
-    """The case with these standard streams closed: nothing is written there, and a line that can't be printed has its own fault."""
-    case = {**case, "name": f"{case['name']}, without stream {' and '.join(map(str, streams))}", "closed": list(streams)}
+    """The case with these standard streams closed: nothing is written there, and a line that can't be printed has its
+    own fault."""
+    case = {**case, "name": f"{case['name']}, without stream {' and '.join(map(str, streams))}",
+            "closed": list(streams)}
     if 1 in streams and case.get("stdout"):
         case = {**case, "stdout": "", "stderr": "krbtool: output: Write\n", "status": 3}
     return {**case, "stderr": ""} if 2 in streams else case
@@ -181,12 +188,14 @@ def stream_cases():
 
 
 def mode_cases():
-    """A new OUT is its owner's alone, also where FILE is faulty; one that is there keeps its mode. Under each usual umask."""
+    """A new OUT is its owner's alone, also where FILE is faulty; one that is there keeps its mode. Under each usual
+    umask."""
     for word in ("convert-keytab", "convert-ccache"):
         data, command = COMMANDS[word]
         for umask in ("000", "022", "077"):
             for name, file in (("a good file", data), ("a faulty file", data[:20])):
-                case = {**converting(word, f"{name}, umask {umask}, a new OUT", file, command), "umask": umask, "modes": {"out": "600"}}
+                case = {**converting(word, f"{name}, umask {umask}, a new OUT", file, command), "umask": umask,
+                        "modes": {"out": "600"}}
                 yield {**case, "files": {"f": file}}
                 there = {"files": {"f": file, "out": data + data}, "modes": {"out": "640"}}
                 yield {**case, "name": f"{word}: {name}, umask {umask}, an OUT that is there", **there}
@@ -194,7 +203,8 @@ def mode_cases():
 
 def request_cases():
     """The longest request that there may be, and one that is a byte longer."""
-    words = ["request", "f", "host/web@EX", "--time=1700000100", "--usec=5", f"--confounder={bytes(range(0x20, 0x30)).hex()}"]
+    words = ["request", "f", "host/web@EX", "--time=1700000100", "--usec=5",
+             f"--confounder={bytes(range(0x20, 0x30)).hex()}"]
     some = MESSAGE_LIMIT - 1000
     size = some + MESSAGE_LIMIT - len(fixture.request(of=fixture.ticket(bytes(some))))
     for more, name in (0, "of as many bytes as there may be"), (1, "of a byte more"):
@@ -206,12 +216,14 @@ def request_cases():
 
 
 def started_cases():
-    """The stored cases of `accept` again, for a service that was started so long ago that it answers as one without an earlier life."""
+    """The stored cases of `accept` again, for a service that was started so long ago that it answers as one without an
+    earlier life."""
     with open(TESTS / "program/accept.toml", "rb") as file:
         for case in tomllib.load(file)["case"]:
             words = case["args"]
             if case.get("status") != 2 and "--help" not in words:
-                yield {**case, "name": f"{case['name']}, started long ago", "args": [words[0], "--started=0", *words[1:]]}
+                yield {**case, "name": f"{case['name']}, started long ago",
+                       "args": [words[0], "--started=0", *words[1:]]}
 
 
 # The cases, each part with its name. The larger ones are run in several pieces.
@@ -236,4 +248,5 @@ def pieces():
     """Each piece of each part: its name and a function that makes its cases."""
     for name, (cases, count) in PARTS.items():
         for at in range(count):
-            yield f"{name}-{at + 1}-of-{count}" if count > 1 else name, lambda cases=cases, at=at, count=count: islice(cases(), at, None, count)
+            piece = f"{name}-{at + 1}-of-{count}" if count > 1 else name
+            yield piece, lambda cases=cases, at=at, count=count: islice(cases(), at, None, count)

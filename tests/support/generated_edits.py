@@ -1,5 +1,5 @@
-"""Cases of `remove-key` and `add-keys` that are made and not stored: each entry of each keytab and one past the last; the keys of each
-keytab added to each; and each beginning of a keytab.
+"""Cases of `remove-key` and `add-keys` that are made and not stored: each entry of each keytab and one past the last;
+the keys of each keytab added to each; and each beginning of a keytab.
 
 What is expected comes from tests/support/reference.py, and from the edits of tests/support/drawn_files.py.
 """
@@ -37,10 +37,12 @@ def remove_cases():
         for index in range(len(reference.keytab(data)) + 1):
             yield removing(name, data, index)
         for index in (0, 1):
-            yield from (removing(f"{name}, its first {size} bytes", data[:size], index) for size in range(0, len(data), 1 + len(data) // 100))
+            yield from (removing(f"{name}, its first {size} bytes", data[:size], index)
+                        for size in range(0, len(data), 1 + len(data) // 100))
     many = keytab_of([entry([b"host", b"web"], 1 + at % 1000, 19, bytes(16)) for at in range(100_000)])
     yield from (removing("100,000 entries", many, index) for index in (0, 50_000, 99_999, 100_000))
-    limit = b"\x05\x02" + many[2:56] + (-(reference.LIMIT - 60) & 0xFFFFFFFF).to_bytes(4, "big") + b"\xaa" * (reference.LIMIT - 60)
+    limit = b"\x05\x02" + many[2:56] + (-(reference.LIMIT - 60) & 0xFFFFFFFF).to_bytes(4,
+                                                                                       "big") + b"\xaa" * (reference.LIMIT - 60)
     yield removing("a file at the limit", limit, 0)
     yield removing("a byte past the limit", limit + b"\0", 0)
 
@@ -87,7 +89,8 @@ def with_a_rest(size):
 
 def add_cases():
     drawn = dict(keytabs())
-    emptied = {f"{name} with a hole": drawn_files.removed(data, 0) for name, data in drawn.items() if reference.keytab(data)}
+    emptied = {f"{name} with a hole": drawn_files.removed(data, 0) for name,
+               data in drawn.items() if reference.keytab(data)}
     for name, data in (drawn | emptied).items():
         for other, keys in drawn.items():
             yield adding(f"{other} to {name}", data, keys)
@@ -101,5 +104,7 @@ def add_cases():
     room = len(reference.record_of(key))
     yield adding("up to the limit", with_a_rest(reference.LIMIT - room), keytab_of([key]))
     yield adding("a byte past the limit", with_a_rest(reference.LIMIT + 1 - room), keytab_of([key]))
-    yield adding("the second of two is past the limit", with_a_rest(reference.LIMIT - room), keytab_of([key, {**key, "kvno": 3}]))
-    yield adding("one that is there already, at the limit", with_a_rest(reference.LIMIT), keytab_of([{**key, "kvno": 1}]))
+    yield adding("the second of two is past the limit", with_a_rest(reference.LIMIT - room),
+                 keytab_of([key, {**key, "kvno": 3}]))
+    yield adding("one that is there already, at the limit", with_a_rest(reference.LIMIT),
+                 keytab_of([{**key, "kvno": 1}]))

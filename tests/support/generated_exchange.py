@@ -1,5 +1,5 @@
-"""Cases of `pick-key` and `finish` that are made and not stored: each name, type and version number of each keytab; and replies of each
-kind, each beginning of one, and one with each byte changed.
+"""Cases of `pick-key` and `finish` that are made and not stored: each name, type and version number of each keytab; and
+replies of each kind, each beginning of one, and one with each byte changed.
 
 What is expected comes from tests/support/model.py and tests/support/reference.py.
 """
@@ -37,7 +37,8 @@ def versions_of(entries):
 
 
 def entry(components, kvno, etype, key):
-    return {"realm": b"EX", "components": components, "name_type": 1, "timestamp": kvno, "kvno": kvno, "etype": etype, "key": key}
+    return {"realm": b"EX", "components": components, "name_type": 1, "timestamp": kvno, "kvno": kvno, "etype": etype,
+            "key": key}
 
 
 def keytab_of(entries):
@@ -48,11 +49,13 @@ def keytabs():
     yield from ((path.name, path.read_bytes()) for path in sorted(EXAMPLES.glob("*.keytab")))
     one, other = [b"host", b"web"], [b"host/web"]
     yield "versions in no order", keytab_of([
-        entry(one, 2, 19, bytes(16)), entry(one, 256, 19, b"\1" * 16), entry(one, 256, 19, b"\2" * 16), entry(one, 255, 20, bytes(32)),
+        entry(one, 2, 19, bytes(16)), entry(one, 256, 19, b"\1" * 16), entry(one, 256, 19, b"\2" * 16),
+        entry(one, 255, 20, bytes(32)),
         entry(other, 300, 19, bytes(16)), entry(one, 1, 19, bytes(16)),
     ])
     yield "keys that aren't usable", keytab_of([
-        entry(one, 9, 19, bytes(32)), entry(one, 8, 20, bytes(16)), entry(one, 7, 18, bytes(32)), entry(one, 6, 19, b""),
+        entry(one, 9, 19, bytes(32)), entry(one, 8, 20, bytes(16)), entry(one, 7, 18, bytes(32)),
+        entry(one, 6, 19, b""),
         entry(other, 5, 20, bytes(32)), entry(one, 1, 19, bytes(16)),
     ])
     yield "no entries", b"\x05\x02"
@@ -61,7 +64,8 @@ def keytabs():
 def pick_cases():
     for name, data in keytabs():
         entries = reference.keytab(data)
-        names = {(it["realm"], tuple(it["components"])) for it in entries if it["components"]} | {(b"EX", (b"nobody",)), (b"ex", (b"host", b"web"))}
+        names = {(it["realm"], tuple(it["components"]))
+                 for it in entries if it["components"]} | {(b"EX", (b"nobody",)), (b"ex", (b"host", b"web"))}
         for whose in sorted(names):
             for etype in (18, 19, 20):
                 yield from (picking(name, data, whose, etype, kvno) for kvno in versions_of(entries))
@@ -79,7 +83,8 @@ def cache_of(etype):
     """The fixture's cache, with a session key of this type."""
     client, server = fixture.principal(1, b"EX", b"alice"), fixture.principal(3, b"EX", b"host", b"web")
     times = (1_700_000_000, 0, 1_700_036_000, 0)
-    return b"\x05\x04\x00\x00" + client + fixture.credential(client, server, etype, KEYS[etype], times, fixture.ticket())
+    return b"\x05\x04\x00\x00" + client + fixture.credential(client, server, etype, KEYS[etype], times,
+                                                             fixture.ticket())
 
 
 def part(time=SECONDS, usec=USEC, subkey=None, number=None):
@@ -123,7 +128,8 @@ def finished(seals, etype, data):
 
 def finishing(seals, name, etype, data):
     words = ["finish", "f", "host/web@EX", f"--time={SECONDS}", f"--usec={USEC}", f"--reply={data.hex()}"]
-    return {"name": f"finish: {name}, type {etype}", "args": words, "files": {"f": cache_of(etype)}, **finished(seals, etype, data)}
+    return {"name": f"finish: {name}, type {etype}", "args": words, "files": {"f": cache_of(etype)},
+            **finished(seals, etype, data)}
 
 
 SUBKEYS = (None, (19, bytes(16)), (20, bytes(32)), (23, b"abc"), (-1, b""), (-0x80000000, b"k"))
@@ -135,7 +141,8 @@ def finish_cases():
     for etype in KEYS:
         for subkey in SUBKEYS:
             for number in NUMBERS:
-                yield finishing(seals, f"subkey {subkey}, number {number}", etype, reply_of(seals, etype, part(subkey=subkey, number=number)))
+                yield finishing(seals, f"subkey {subkey}, number {number}", etype,
+                                reply_of(seals, etype, part(subkey=subkey, number=number)))
         for time, usec in ((SECONDS, 4), (SECONDS - 1, 5), (SECONDS + 1, 5), (SECONDS, 999_999)):
             yield finishing(seals, f"of {time} and {usec}", etype, reply_of(seals, etype, part(time, usec)))
         yield finishing(seals, "for another use of the key", etype, reply_of(seals, etype, part(), usage=11))

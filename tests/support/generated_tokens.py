@@ -1,5 +1,5 @@
-"""Cases of `accept --tokens` and `request --token` that are made and not stored: drawn tokens of drawn requests, each beginning of a token,
-one with each byte changed, each cause of a refusal, and the longest tokens.
+"""Cases of `accept --tokens` and `request --token` that are made and not stored: drawn tokens of drawn requests, each
+beginning of a token, one with each byte changed, each cause of a refusal, and the longest tokens.
 
 What is expected comes from tests/support/gss_rules.py and tests/support/model.py.
 """
@@ -110,8 +110,10 @@ TOKENS = {
     "a token of Kerberos": gss_rules.kerberos(KERBEROS, REQUEST),
     "a token by Microsoft's name": gss_rules.kerberos(MICROSOFT, REQUEST),
     "a negotiation": gss_rules.negotiation([KERBEROS], gss_rules.kerberos(KERBEROS, REQUEST)),
-    "a negotiation of Windows": gss_rules.negotiation([MICROSOFT, KERBEROS, NTLM], gss_rules.kerberos(KERBEROS, REQUEST)),
-    "a negotiation with all fields": gss_rules.negotiation([MICROSOFT], gss_rules.kerberos(MICROSOFT, REQUEST), b"\x01\x02", b"mic"),
+    "a negotiation of Windows": gss_rules.negotiation([MICROSOFT, KERBEROS, NTLM],
+                                                      gss_rules.kerberos(KERBEROS, REQUEST)),
+    "a negotiation with all fields": gss_rules.negotiation([MICROSOFT], gss_rules.kerberos(MICROSOFT, REQUEST),
+                                                           b"\x01\x02", b"mic"),
 }
 
 
@@ -124,7 +126,8 @@ def told(name, tokens, confounder=CONFOUNDER, named=NAMED):
     """The fixture's service is sent these tokens."""
     service, now = fixture_service(), 1_000_000 * MOMENT[0] + MOMENT[1]
     answers = [answered(service, token, now, confounder, named) for token in tokens]
-    return accepting(name, fixture.keytab(), [fixture_line(it, confounder) for it in tokens], answers, *(WORDS if named else ()))
+    return accepting(name, fixture.keytab(), [fixture_line(it, confounder) for it in tokens], answers,
+                     *(WORDS if named else ()))
 
 
 def changes(token):
@@ -145,7 +148,8 @@ def fixture_cases():
 def refused_cases():
     """Each cause, in each wrapping: the error is in the client's."""
     for front, around in (("bare Kerberos", lambda it: gss_rules.kerberos(KERBEROS, it)),
-                          ("negotiated Microsoft Kerberos", lambda it: gss_rules.negotiation([MICROSOFT], gss_rules.kerberos(KERBEROS, it)))):
+                          ("negotiated Microsoft Kerberos",
+                           lambda it: gss_rules.negotiation([MICROSOFT], gss_rules.kerberos(KERBEROS, it)))):
         for cause, request in c_cases.refused():
             name = cause.title().replace("_", "")
             code = model.CODES[name]
@@ -158,13 +162,15 @@ def long_cases():
     """A request with 100,000 bytes of authorization data, and tokens of as many bytes as there may be."""
     large = c_cases.request(c_cases.large_ticket())
     for name, around in (("bare", lambda it: gss_rules.kerberos(KERBEROS, it)),
-                         ("negotiated", lambda it: gss_rules.negotiation([KERBEROS], gss_rules.kerberos(KERBEROS, it)))):
+                         ("negotiated", lambda it: gss_rules.negotiation([KERBEROS],
+                                                                         gss_rules.kerberos(KERBEROS, it)))):
         accepted = f"accepted alice@EX 19 {MOMENT[0]} {MOMENT[1]} plain\n"
         yield accepting(f"a large ticket, {name}", fixture.keytab(), [fixture_line(around(large))], [accepted])
         most = longest(around)
         tokens = [around(b"m" * (most + more)) for more in (0, 1)]
         answers = ["refused 40 MessageType\n", "bad token TooLong at 0\n"]
-        yield accepting(f"the longest token, {name}, and a longer one", fixture.keytab(), map(fixture_line, tokens), answers)
+        yield accepting(f"the longest token, {name}, and a longer one", fixture.keytab(), map(fixture_line, tokens),
+                        answers)
 
 
 # ---------------------------------------------------------------- request
@@ -181,12 +187,14 @@ def in_token(options=0, of=None):
 
 
 def request_cases():
-    words = ["request", "f", "host/web@EX", f"--time={MOMENT[0]}", f"--usec={MOMENT[1]}", f"--confounder={bytes(range(0x20, 0x30)).hex()}"]
+    words = ["request", "f", "host/web@EX", f"--time={MOMENT[0]}", f"--usec={MOMENT[1]}",
+             f"--confounder={bytes(range(0x20, 0x30)).hex()}"]
     some = LIMIT - 1000
     for kind, around in (("gss", lambda it: gss_rules.kerberos(KERBEROS, it)),
                          ("spnego", lambda it: gss_rules.negotiation([KERBEROS], gss_rules.kerberos(KERBEROS, it)))):
         for options, more in ((0, ()), (0x20000000, ("--mutual",))):
-            yield {"name": f"request: {kind} {' '.join(more)}", "args": [*words, *more, "--token", kind], "files": {"f": fixture.cache()},
+            yield {"name": f"request: {kind} {' '.join(more)}", "args": [*words, *more, "--token", kind],
+                   "files": {"f": fixture.cache()},
                    "stdout": around(in_token(options)).hex() + "\n"}
         size = some + longest(around) - len(in_token(of=fixture.ticket(bytes(some))))
         for more, name in (0, "of as many bytes as there may be"), (1, "of a byte more"):
@@ -194,7 +202,8 @@ def request_cases():
             token = around(in_token(of=ticket))
             assert (len(token) > LIMIT) == bool(more)
             wanted = {"stderr": "krbtool: request: TooLong\n", "status": 1} if more else {"stdout": token.hex() + "\n"}
-            yield {"name": f"request: {kind}, {name}", "args": [*words, f"--token={kind}"], "files": {"f": fixture.cache(ticket)}, **wanted}
+            yield {"name": f"request: {kind}, {name}", "args": [*words, f"--token={kind}"],
+                   "files": {"f": fixture.cache(ticket)}, **wanted}
 
 
 def drawn_cases():

@@ -1,7 +1,7 @@
 """Tokens of GSS-API (RFC 2743, section 3.1; RFC 4121, section 4.1; RFC 4178, section 4.2), and which fault a token has.
 
-The model knows DER by itself. It draws tokens as clients send them and bends them in structure; `drawn` gives the cases. It also
-writes requests and answers in their wrapping, and checksums of authenticators (RFC 4121, section 4.1.1).
+The model knows DER by itself. It draws tokens as clients send them and bends them in structure; `drawn` gives the
+cases. It also writes requests and answers in their wrapping, and checksums of authenticators (RFC 4121, section 4.1.1).
 """
 import hashlib
 import random
@@ -192,8 +192,10 @@ def straight_answer(rng):
         return inner
     oid = rng.choice((KERBEROS, KERBEROS, MICROSOFT, MICROSOFT, NTLM, IAKERB))
     fields = b""
-    for outer, tag, content in ((0xA0, 0x0A, rng.choice((b"\0", b"\1", b"\2", None, b"", b"\0\0"))), (0xA1, 0x06, rng.choice((oid,) * 9 + (None,))),
-                                (0xA2, 0x04, rng.choice((inner,) * 9 + (None,))), (0xA3, 0x04, rng.choice((None, None, b"mic")))):
+    for outer, tag, content in ((0xA0, 0x0A, rng.choice((b"\0", b"\1", b"\2", None, b"", b"\0\0"))),
+                                (0xA1, 0x06, rng.choice((oid,) * 9 + (None,))),
+                                (0xA2, 0x04, rng.choice((inner,) * 9 + (None,))),
+                                (0xA3, 0x04, rng.choice((None, None, b"mic")))):
         if content is not None:
             fields += element(outer, element(tag, content))
     return element(0xA1, element(0x30, fields))
@@ -210,14 +212,16 @@ def answer(text):
 def straight(rng):
     """A token as some client may send it."""
     message = b"\x6e" + rng.randbytes(rng.choice((0, 1, 5, 100, 120, 130, 250, 300)))
-    inner = kerberos(rng.choice((KERBEROS, KERBEROS, MICROSOFT, NTLM, SPNEGO)), message, rng.choice((b"\x01\x00",) * 5 + (b"\x02\x00", b"\x01\x01", b"\x01", b"")))
+    inner = kerberos(rng.choice((KERBEROS, KERBEROS, MICROSOFT, NTLM, SPNEGO)), message,
+                     rng.choice((b"\x01\x00",) * 5 + (b"\x02\x00", b"\x01\x01", b"\x01", b"")))
     if rng.random() < 0.3:
         return inner
     names = [rng.choice((KERBEROS, MICROSOFT, KERBEROS, NTLM, IAKERB, SPNEGO, rng.randbytes(4), b""))]
     names += [rng.choice((KERBEROS, MICROSOFT, NTLM)) for _ in range(rng.choice((0, 1, 3)))]
     flags = rng.choice((None, None, b"\x01\x02", b"\x00" * 5))
     mic = rng.choice((None, None, b"", b"mic"))
-    return negotiation(names[: rng.choice((0, 1, 9, 9, 9, 9))], rng.choice((inner, inner, inner, None, b"NTLMSSP\0")), flags, mic)
+    return negotiation(names[: rng.choice((0, 1, 9, 9, 9, 9))], rng.choice((inner, inner, inner, None, b"NTLMSSP\0")),
+                       flags, mic)
 
 
 def bent(rng, text):
@@ -233,7 +237,8 @@ def bent(rng, text):
     elif how == 3:
         text += rng.randbytes(rng.choice((1, 2, 9)))
     elif how == 4:
-        text[at:at + 1] = rng.choice((b"\x80", b"\x81", b"\x85", b"\x81\x05", b"\x82\x00\x05", b"\x84\x00\x00\x00\x05", b"\x00", b"\xa1", b"\xa3"))
+        text[at:at + 1] = rng.choice((b"\x80", b"\x81", b"\x85", b"\x81\x05", b"\x82\x00\x05", b"\x84\x00\x00\x00\x05",
+                                      b"\x00", b"\xa1", b"\xa3"))
     else:
         del text[at]
     return bytes(text)
@@ -252,7 +257,9 @@ def large():
 
 def response(name, token, state):
     """A NegTokenResp of negState, supportedMech and responseToken."""
-    fields = element(0xA0, element(0x0A, bytes([state]))) + element(0xA1, element(0x06, name)) + element(0xA2, element(0x04, token))
+    fields = element(0xA0, element(0x0A, bytes([state]))) + element(0xA1,
+                                                                    element(0x06, name)) + element(0xA2,
+                                                                                                   element(0x04, token))
     return element(0xA1, element(0x30, fields))
 
 
@@ -275,7 +282,8 @@ def too_long():
     for words, around in (("request bare Kerberos", lambda it: kerberos(KERBEROS, it)),
                           ("request Kerberos Microsoft", lambda it: negotiation([KERBEROS], kerberos(MICROSOFT, it))),
                           ("answer bare Kerberos reply", lambda it: kerberos(KERBEROS, it, b"\x02\x00")),
-                          ("answer Microsoft Kerberos error", lambda it: response(MICROSOFT, kerberos(KERBEROS, it, b"\x03\x00"), 2))):
+                          ("answer Microsoft Kerberos error",
+                           lambda it: response(MICROSOFT, kerberos(KERBEROS, it, b"\x03\x00"), 2))):
         most = next(count for count in range(LIMIT, 0, -1) if len(around(bytes(count))) <= LIMIT)
         token = around(b"m" * most)
         shown = f"#{len(token)}:{hashlib.sha256(token).hexdigest()}"
@@ -310,7 +318,8 @@ def checksum_answer(text):
         if len(rest) < 4 + size:
             return "refused the checksum is cut off"
         shown, rest = rest[4 : 4 + size].hex() or "-", rest[4 + size :]
-    return " ".join([str(flags), text[4:20].hex(), shown, rest.hex() or "-", *(name for bit, name in FLAGS.items() if flags & bit)])
+    return " ".join([str(flags), text[4:20].hex(), shown, rest.hex() or "-",
+                     *(name for bit, name in FLAGS.items() if flags & bit)])
 
 
 def checksums(rng):
@@ -319,7 +328,8 @@ def checksums(rng):
     bindings = rng.choice((bytes(16), rng.randbytes(16)))
     message = rng.randbytes(rng.choice((0, 1, 5, 255, 256, 400))) if rng.random() < 0.5 else None
     extensions = rng.randbytes(rng.choice((0, 0, 1, 9)))
-    words = f"encode {flags} {bindings.hex()} {'none' if message is None else message.hex() or '-'} {extensions.hex() or '-'}"
+    told = "none" if message is None else message.hex() or "-"
+    words = f"encode {flags} {bindings.hex()} {told} {extensions.hex() or '-'}"
     agrees = (message is not None) == bool(flags % 2)
     text = checksum_bytes(flags, bindings, message, extensions)
     yield words, text.hex() if agrees else "refused the flag doesn't agree with the delegation"
@@ -329,7 +339,8 @@ def checksums(rng):
         yield f"checksum {other.hex() or '-'}", checksum_answer(other)
     wanted = rng.choice((bindings, bytes(16), bindings[:15] + b"\x01"))
     read = checksum_answer(text)
-    yield f"bindings {text.hex()} {wanted.hex()}", read if read.startswith("refused") else str(wanted == bindings).lower()
+    yield f"bindings {text.hex()} {wanted.hex()}", read if read.startswith("refused") else str(wanted
+                                                                                               == bindings).lower()
 
 
 def drawn():
@@ -354,8 +365,8 @@ def drawn_calls():
         yield f"answer {number}", [f"answered {text.hex()}"], [answered(text)]
     for number in range(CASES // 10):
         line, token = wrapped(rng)
-        back = answer(token) if line.startswith("request") else answered(token)
-        yield f"wrapped {number}", [line, f"{'open' if line.startswith('request') else 'answered'} {token.hex()}"], [token.hex(), back]
+        call, back = ("open", answer(token)) if line.startswith("request") else ("answered", answered(token))
+        yield f"wrapped {number}", [line, f"{call} {token.hex()}"], [token.hex(), back]
         both = list(checksums(rng))
         yield f"checksum {number}", [line for line, _ in both], [it for _, it in both]
     for name, line, answer_is in too_long():

@@ -13,7 +13,8 @@ A case is a table [[case]] of a TOML file:
     closed  the standard streams that are closed: a list of 0, 1 and 2
     descriptors  how many files it may have open, the standard streams included
     status  its exit status (0 where left out)
-    stdout  what it must write on standard output, whole; or stdout_begins, its beginning, and stdout_holds, texts that it must hold
+    stdout  what it must write on standard output, whole; or stdout_begins, its beginning, and stdout_holds, texts that
+    it must hold
     stderr  what it must write on standard error, whole; or stderr_begins, its beginning
     after   files that must lie there afterwards, as hex digits or "@PATH"
     modes   their modes, in octal digits
@@ -30,8 +31,8 @@ from pathlib import Path
 
 from support import TESTS, TOP
 
-WORDS = """name args files folders links umask stdin output closed descriptors status stdout stdout_begins stdout_holds stderr
-    stderr_begins after modes gone"""
+WORDS = """name args files folders links umask stdin output closed descriptors status stdout stdout_begins stdout_holds
+    stderr stderr_begins after modes gone"""
 KEYS = set(WORDS.split())
 
 
@@ -111,7 +112,8 @@ def run(program, case):
             command = ["sh", "-c", f'exec {closing}; {limit}exec "$@"', "sh", *command]
         umask = int(case.get("umask", "022"), 8)
         try:
-            ran = subprocess.run(command, cwd=room, input=given, stdout=out, stderr=subprocess.PIPE, timeout=60, umask=umask)
+            ran = subprocess.run(command, cwd=room, input=given, stdout=out, stderr=subprocess.PIPE, timeout=60,
+                                 umask=umask)
         except subprocess.TimeoutExpired:
             return "it did not end within 60 seconds"
         ran.stdout = ran.stdout or b""
@@ -119,8 +121,8 @@ def run(program, case):
 
 
 def in_turn(function, items):
-    """What the function gives of each item, in their order; a few items are made before they run. Some run side by side, if no other process
-    of pytest-xdist does."""
+    """What the function gives of each item, in their order; a few items are made before they run. Some run side by
+    side, if no other process of pytest-xdist does."""
     jobs, running = 1 if "PYTEST_XDIST_WORKER" in os.environ else os.cpu_count(), deque()
     with ThreadPoolExecutor(max_workers=jobs) as pool:
         for item in items:

@@ -1,15 +1,18 @@
-"""A second service and a second client, written from RFC 4120 (sections 3.2 and 5), RFC 8009 and docs/ACCEPTANCE.md alone.
+"""A second service and a second client, written from RFC 4120 (sections 3.2 and 5), RFC 8009 and docs/ACCEPTANCE.md
+alone.
 
-Nothing here is taken from the program's sources. Bytes are read by der_rules and msg_rules, files by reference.py, and sealed by
-sealing.py. What opens is looked up among what was sealed, once its tag is right, so nothing is decrypted.
+Nothing here is taken from the program's sources. Bytes are read by der_rules and msg_rules, files by reference.py, and
+sealed by sealing.py. What opens is looked up among what was sealed, once its tag is right, so nothing is decrypted.
 """
 from support import der, der_rules, msg_rules, reference, sealing
 
 KEY_LENGTHS = {19: 16, 20: 32}
 SHORTEST = {19: 32, 20: 40}
 CODES = {
-    "MessageType": 40, "Malformed": 60, "UserToUser": 45, "TicketEtype": 14, "NotUs": 35, "NoKey": 45, "BadKeyVersion": 44,
-    "TicketIntegrity": 31, "SessionKey": 14, "AuthenticatorIntegrity": 31, "BadMatch": 36, "Skew": 37, "JustStarted": 37, "Repeat": 34, "NotYetValid": 33,
+    "MessageType": 40, "Malformed": 60, "UserToUser": 45, "TicketEtype": 14, "NotUs": 35, "NoKey": 45,
+    "BadKeyVersion": 44,
+    "TicketIntegrity": 31, "SessionKey": 14, "AuthenticatorIntegrity": 31, "BadMatch": 36, "Skew": 37,
+    "JustStarted": 37, "Repeat": 34, "NotYetValid": 33,
     "Expired": 32, "Transited": 60, "Authorization": 60,
 }
 TICKET_USAGE, AUTHENTICATOR_USAGE, REPLY_USAGE = 2, 11, 12
@@ -23,7 +26,8 @@ class Refused(Exception):
 
 
 def value_at(shape, data, at, end):
-    """What an element that is good by the rules holds: a number, bytes, a dictionary of fields or a list. And where what follows begins."""
+    """What an element that is good by the rules holds: a number, bytes, a dictionary of fields or a list. And where
+    what follows begins."""
     if isinstance(shape, str):
         start, after = der_rules.head(data, at, end, der_rules.TAGS[shape])
         if shape in ("octets", "string"):
@@ -131,7 +135,8 @@ class Service:
             raise Refused("SessionKey")
         if request[4][0] != etype:
             raise Refused("AuthenticatorIntegrity")
-        shown = self.part(msg_rules.AUTHENTICATOR, etype, key, AUTHENTICATOR_USAGE, request[4][2], "AuthenticatorIntegrity")
+        shown = self.part(msg_rules.AUTHENTICATOR, etype, key, AUTHENTICATOR_USAGE, request[4][2],
+                          "AuthenticatorIntegrity")
         if (part[2], part[3][1]) != (shown[1], shown[2][1]):
             raise Refused("BadMatch")
         return request, part, shown
@@ -200,7 +205,8 @@ def answered(service, data, now, confounder=None, named=None):
 def chosen(cache, service, seconds):
     """The credential that a request is made of; or Refused."""
     _, default, credentials = cache
-    found = [it for it in credentials if same(it["client"], default) and same(it["server"], service) and not is_configuration(it)]
+    found = [it for it in credentials if same(it["client"], default) and same(it["server"], service)
+             and not is_configuration(it)]
     if not found:
         raise Refused("NoCredential")
     found = [it for it in found if is_usable(it["etype"], it["key"])]

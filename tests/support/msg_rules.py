@@ -1,18 +1,24 @@
 #!/usr/bin/env python3
 """What a strict reader of Kerberos messages answers, and what a writer writes.
 
-The messages are those of tests/support/msg_values.py, and der_rules reads them, by the rules at its head. The shapes below are the tables
-of RFC 4120 (sections 5.2, 5.3, 5.5.1, 5.5.2 and 5.9.1), written out from that document alone. The cases:
+The messages are those of tests/support/msg_values.py, and der_rules reads them, by the rules at its head. The shapes
+below are the tables of RFC 4120 (sections 5.2, 5.3, 5.5.1, 5.5.2 and 5.9.1), written out from that document alone. The
+cases:
 
-* Each message as it stands is read, with all its fields; copied and written again, it is the same bytes; and so is one made of its fields.
+* Each message as it stands is read, with all its fields; copied and written again, it is the same bytes; and so is one
+made of its fields.
 * Each beginning of it that is not the whole is Truncated at its end.
 * With a zero byte after it, it is Trailing at its end.
-* With one byte changed by xor 01 or xor 80, it is either a message still, with its fields, or has the fault that the rules tell.
-* Without one of its fields, or of the fields of its parts, the same; of each type a message without optional fields is taken.
+* With one byte changed by xor 01 or xor 80, it is either a message still, with its fields, or has the fault that the
+rules tell.
+* Without one of its fields, or of the fields of its parts, the same; of each type a message without optional fields is
+taken.
 * As each other type it has the wrong tag.
-* Messages whose sequence numbers stand as negative numbers are read, and written again without them; beyond either end of the range
+* Messages whose sequence numbers stand as negative numbers are read, and written again without them; beyond either end
+of the range
   they are refused.
-* Messages with many components and elements, and with a part of many bytes, are written, read, copied and written again: none is refused
+* Messages with many components and elements, and with a part of many bytes, are written, read, copied and written
+again: none is refused
   because memory runs out, which no contract can say. Those at the limit are written, those above it refused.
 
 The second, the third and the sixth are worked out here too, and this script fails where they do not hold.
@@ -55,9 +61,11 @@ TRANSITED_ENCODING = fields("int32", "octets")
 # Section 5.3: tkt-vno, realm, sname, enc-part.
 TICKET = application(1, "five", "string", PRINCIPAL_NAME, ENCRYPTED_DATA)
 
-# Section 5.3: flags, key, crealm, cname, transited, authtime, starttime, endtime, renew-till, caddr, authorization-data.
+# Section 5.3: flags, key, crealm, cname, transited, authtime, starttime, endtime, renew-till, caddr,
+# authorization-data.
 ENC_TICKET_PART = application(
-    3, "flags", ENCRYPTION_KEY, "string", PRINCIPAL_NAME, TRANSITED_ENCODING, "time", may("time"), "time", may("time"), may(HOST_ADDRESSES),
+    3, "flags", ENCRYPTION_KEY, "string", PRINCIPAL_NAME, TRANSITED_ENCODING, "time", may("time"), "time", may("time"),
+    may(HOST_ADDRESSES),
     may(AUTHORIZATION_DATA),
 )
 
@@ -66,7 +74,8 @@ AP_REQ = application(14, "five", "fourteen", "flags", TICKET, ENCRYPTED_DATA)
 
 # Section 5.5.1: authenticator-vno, crealm, cname, cksum, cusec, ctime, subkey, seq-number, authorization-data.
 AUTHENTICATOR = application(
-    2, "five", "string", PRINCIPAL_NAME, may(CHECKSUM), "microseconds", "time", may(ENCRYPTION_KEY), may("seq_number"), may(AUTHORIZATION_DATA),
+    2, "five", "string", PRINCIPAL_NAME, may(CHECKSUM), "microseconds", "time", may(ENCRYPTION_KEY), may("seq_number"),
+    may(AUTHORIZATION_DATA),
 )
 
 # Section 5.5.2: pvno, msg-type, enc-part.
@@ -77,7 +86,8 @@ ENC_AP_REP_PART = application(27, "time", "microseconds", may(ENCRYPTION_KEY), m
 
 # Section 5.9.1: pvno, msg-type, ctime, cusec, stime, susec, error-code, crealm, cname, realm, sname, e-text, e-data.
 KRB_ERROR = application(
-    30, "five", "thirty", may("time"), may("microseconds"), "time", "microseconds", "int32", may("string"), may(PRINCIPAL_NAME), "string",
+    30, "five", "thirty", may("time"), may("microseconds"), "time", "microseconds", "int32", may("string"),
+    may(PRINCIPAL_NAME), "string",
     PRINCIPAL_NAME, may("string"), may("octets"),
 )
 
@@ -187,8 +197,9 @@ def of_value(title, word, data):
 
 
 def message(kind, many, parts, number=2**32 - 1):
-    """A message whose names have so many components and lists so many elements, and with parts of so many bytes: a realm, a last component
-    of a name, what is sealed or a key, what stands beside it, a last element of a list, and one of a second list. A sequence number is this one."""
+    """A message whose names have so many components and lists so many elements, and with parts of so many bytes: a
+    realm, a last component of a name, what is sealed or a key, what stands beside it, a last element of a list, and one
+    of a second list. A sequence number is this one."""
     realm, last, main, beside, one, two = (b"\x07" * it for it in parts)
 
     def named(content=last):
@@ -201,12 +212,15 @@ def message(kind, many, parts, number=2**32 - 1):
     shared = ticket(realm, named(), cipher)
     made = {
         "ticket": lambda: shared,
-        "enc-ticket": lambda: der.message(0x63, flags(0), main_key, string(realm), named(), key(1, beside), *[moment] * 4, listed(one), listed(two)),
+        "enc-ticket": lambda: der.message(0x63, flags(0), main_key, string(realm), named(), key(1, beside),
+                                          *[moment] * 4, listed(one), listed(two)),
         "ap-req": lambda: der.request(1 << 29, shared, encrypted(19, beside, 3)),
-        "authenticator": lambda: der.message(0x62, 5, string(realm), named(), key(1, beside), 5, moment, main_key, number, listed(one)),
+        "authenticator": lambda: der.message(0x62, 5, string(realm), named(), key(1, beside), 5, moment, main_key,
+                                             number, listed(one)),
         "ap-rep": lambda: der.reply(cipher),
         "enc-ap-rep": lambda: der.message(0x7B, moment, 5, main_key, number),
-        "krb-error": lambda: der.message(0x7E, 5, 30, moment, 5, moment, 5, 37, string(one), named(two), string(realm), named(), string(beside),
+        "krb-error": lambda: der.message(0x7E, 5, 30, moment, 5, moment, 5, 37, string(one), named(two), string(realm),
+                                         named(), string(beside),
                                          octets(main)),
     }
     return made[kind]()
@@ -276,11 +290,13 @@ def with_elements_too_many():
     part = message("enc-ticket", 0, [0] * 6)
     values = read(ENC_TICKET_PART, part)[:-2]
     expect(len(part) + len(b"".join(elements)) > LIMIT, True, part)
-    yield "a list of too many elements", [" ".join(["msg write enc-ticket", *values, "[", *["1 07*1024"] * 1024, "]"])], ["TooLong"]
+    yield "a list of too many elements", [" ".join(["msg write enc-ticket", *values, "[", *["1 07*1024"] * 1024,
+                                                    "]"])], ["TooLong"]
 
 
 def too_long(kind, parts):
-    """The line that writes a message above the limit. Its fields are those of a short one, but for the part that is long."""
+    """The line that writes a message above the limit. Its fields are those of a short one, but for the part that is
+    long."""
     short = " ".join(read(TYPES[kind], message(kind, 2, [*parts[:2], 3, *parts[3:]])))
     return f"msg write {kind} " + short.replace(" 070707", f" 07*{parts[2]}"), "TooLong"
 

@@ -1,5 +1,5 @@
-"""Messages that no document shows, but four of the project's fixture: put together from RFC 4120's tables, by hand-written DER, without the
-project's code (der.py)."""
+"""Messages that no document shows, but four of the project's fixture: put together from RFC 4120's tables, by
+hand-written DER, without the project's code (der.py)."""
 
 from support.der import encrypted, flags, key, message, name, octets, sequence, string, ticket, time
 
@@ -35,9 +35,14 @@ VALUES = [
     ("What is sealed in a reply, with all fields.", "FULL_ENC_AP_REP",
      message(0x7B, time("20231114221500Z"), 999999, key(19, bytes.fromhex("0b0c")), 7)),
     ("An authenticator with all fields.", "FULL_AUTHENTICATOR",
-     message(0x62, 5, string(b"EX"), name(1, b"alice", b"admin"), key(32771, bytes.fromhex("aabb")), 0, time("19700101000000Z"), key(20, bytes.fromhex("0c")), 128, sequence(key(1, bytes.fromhex("3000")), key(64, b"")))),
+     message(0x62, 5, string(b"EX"), name(1, b"alice", b"admin"), key(32771, bytes.fromhex("aabb")), 0,
+             time("19700101000000Z"), key(20, bytes.fromhex("0c")), 128,
+             sequence(key(1, bytes.fromhex("3000")), key(64, b"")))),
     ("What is sealed in a ticket, with all fields.", "FULL_ENC_TICKET",
-     message(0x63, flags(1 << 24), key(19, bytes.fromhex("0d")), string(b"EX"), name(1, b"alice"), key(1, bytes.fromhex("4142")), time("20231114221320Z"), time("20231114221321Z"), time("20231115081320Z"), time("20231116081320Z"), sequence(key(2, bytes.fromhex("7f000001"))), sequence(key(1, bytes.fromhex("3000"))))),
+     message(0x63, flags(1 << 24), key(19, bytes.fromhex("0d")), string(b"EX"), name(1, b"alice"),
+             key(1, bytes.fromhex("4142")), time("20231114221320Z"), time("20231114221321Z"), time("20231115081320Z"),
+             time("20231116081320Z"), sequence(key(2, bytes.fromhex("7f000001"))),
+             sequence(key(1, bytes.fromhex("3000"))))),
     ("A ticket that tells no version of the key.", "SHORT_TICKET", SHORT_TICKET),
     ("A request that tells no version of a key.", "SHORT_AP_REQ",
      message(0x6E, 5, 14, flags(0), SHORT_TICKET, encrypted(20, bytes.fromhex("05")))),
@@ -49,11 +54,16 @@ VALUES = [
     ("What is sealed in a reply, with numbers at their edges.", "EDGE_ENC_AP_REP",
      message(0x7B, time("99991231235959Z"), 0, key(LEAST, b""), MOST)),
     ("An authenticator with numbers at their edges.", "EDGE_AUTHENTICATOR",
-     message(0x62, 5, string(b""), name(LEAST), key(-1, b""), 999999, time("00000101000000Z"), key(-129, b""), MOST, sequence(key(-128, b"")))),
+     message(0x62, 5, string(b""), name(LEAST), key(-1, b""), 999999, time("00000101000000Z"), key(-129, b""), MOST,
+             sequence(key(-128, b"")))),
     ("What is sealed in a ticket, with numbers at their edges.", "EDGE_ENC_TICKET",
-     message(0x63, flags(MOST), key(LEAST, b""), string(b""), name(-1), key(-32769, b""), time("00000101000000Z"), None, time("99991231235959Z"), None, sequence(key(-32768, b"")), sequence(key(-1, b"")))),
+     message(0x63, flags(MOST), key(LEAST, b""), string(b""), name(-1), key(-32769, b""), time("00000101000000Z"), None,
+             time("99991231235959Z"), None, sequence(key(-32768, b"")), sequence(key(-1, b"")))),
     ("An error of the service host/web@EX: the clocks differ too much.", "KRB_ERROR",
-     message(0x7E, 5, 30, None, None, time("20231114221500Z"), 7, 37, None, None, string(b"EX"), name(3, b"host", b"web"))),
+     message(0x7E, 5, 30, None, None, time("20231114221500Z"), 7, 37, None, None, string(b"EX"),
+             name(3, b"host", b"web"))),
     ("An error with all fields, and with numbers at their edges.", "FULL_KRB_ERROR",
-     message(0x7E, 5, 30, time("20231114221500Z"), 999999, time("20231114222000Z"), 999999, LEAST, string(b"EX"), name(-1, b"alice"), string(b"EX"), name(LEAST, b"host", b"web"), string(b"too late"), octets(bytes.fromhex("3000")))),
+     message(0x7E, 5, 30, time("20231114221500Z"), 999999, time("20231114222000Z"), 999999, LEAST, string(b"EX"),
+             name(-1, b"alice"), string(b"EX"), name(LEAST, b"host", b"web"), string(b"too late"),
+             octets(bytes.fromhex("3000")))),
 ]

@@ -7,7 +7,7 @@ from pathlib import Path
 
 import pytest
 
-from support import TESTS, der, drawn_files, fixture, generated, generated_edits, gss_rules, reference
+from support import EXAMPLES, TESTS, der, drawn_files, fixture, generated, generated_edits, gss_rules, reference
 from support.checks import slug
 from support.generated_exchange import entry
 
@@ -18,14 +18,16 @@ ALL = 1_000_000
 PASSED_OVER = 2
 SECONDS = 60
 TAILS = ("--service", "host/web@EX")
+CONFOUNDER = bytes(range(0x20, 0x30)).hex()
 # A key that no hole of the examples is long enough for.
 LONG = entry([b"host", b"w" * 300], 7, 20, bytes(range(32)))
 
 
 @dataclass
 class Command:
-    """A command's words; the bytes of its file and of standard input; what it writes where all goes well, on standard output (None where
-    that is clap's text) and into OUT; its status then; and the bytes of a second file, if it has one."""
+    """A command's words; the bytes of its file and of standard input; what it writes where all goes well, on standard
+    output (None where that is clap's text) and into OUT; its status then; and the bytes of a second file, if it has
+    one."""
     words: list
     file: bytes
     stdin: bytes
@@ -48,7 +50,7 @@ class Found:
 
 
 def file_commands():
-    keytab, cache = (generated.EXAMPLES / "mit-holes.keytab").read_bytes(), (generated.EXAMPLES / "heimdal.ccache").read_bytes()
+    keytab, cache = ((EXAMPLES / it).read_bytes() for it in ("mit-holes.keytab", "heimdal.ccache"))
     for word, (_, command) in generated.COMMANDS.items():
         file = keytab if "keytab" in word else cache
         if word.startswith("convert"):
@@ -65,7 +67,7 @@ def file_commands():
 
 
 def requested():
-    words = "request f host/web@EX --time 1700000100 --usec 5 --mutual --confounder 202122232425262728292a2b2c2d2e2f".split()
+    words = "request f host/web@EX --time 1700000100 --usec 5 --mutual --confounder".split() + [CONFOUNDER]
     return Command(words, fixture.cache(), b"", f"{fixture.request(0x20000000).hex()}\n".encode(), OLD)
 
 
@@ -93,14 +95,15 @@ def removed(keytab):
 
 def added(keytab):
     """Two keys are added to a keytab with a hole: one fits, the other comes last."""
-    others = (generated.EXAMPLES / "service.keytab").read_bytes() + reference.record_of(LONG)
+    others = (EXAMPLES / "service.keytab").read_bytes() + reference.record_of(LONG)
     made = generated_edits.extended(keytab, others)
     return Command("add-keys f g out".split(), keytab, b"", f"wrote {len(made)}\n".encode(), made, other=others)
 
 
 def called(lines, *more):
     """The command accept over these lines. What it answers is not known yet."""
-    return Command(["accept", "f", *more], (generated.EXAMPLES / "service.keytab").read_bytes(), b"".join(lines), None, OLD)
+    return Command(["accept", "f", *more], (EXAMPLES / "service.keytab").read_bytes(), b"".join(lines), None,
+                   OLD)
 
 
 def library(folder, name):
@@ -114,7 +117,8 @@ def library(folder, name):
 
 
 def numbers(first, lasting, met):
-    """The variables that name the calls which a preloaded library meets (preloaded.h): one, or all from it on; and the file that it then makes."""
+    """The variables that name the calls which a preloaded library meets (preloaded.h): one, or all from it on; and the
+    file that it then makes."""
     return {"CALL_FIRST": str(first), "CALL_LAST": str(ALL if lasting else first), "CALL_MET": str(met)}
 
 
@@ -130,7 +134,8 @@ def run(program, command, preloaded=None, first=1, lasting=False, **more):
         if preloaded:
             more = {"LD_PRELOAD": str(preloaded), **numbers(first, lasting, room / "met"), **more}
         with open(room / "stdin", "rb") as stdin:
-            done = subprocess.run([program, *command.words], cwd=room, env={**os.environ, **more}, stdin=stdin, capture_output=True, timeout=SECONDS)
+            done = subprocess.run([program, *command.words], cwd=room, env={**os.environ, **more}, stdin=stdin,
+                                  capture_output=True, timeout=SECONDS)
         found = Found(done.returncode, done.stdout, done.stderr.decode(errors="replace"), (room / "out").read_bytes())
         return found, (room / "met").exists()
 
@@ -143,7 +148,7 @@ def with_answer(program, command):
 
 def calls(program):
     """Lines of each kind: a request, the same again, no request, another form, and a repeat."""
-    lines = (generated.EXAMPLES / "calls.txt").read_bytes().splitlines(keepends=True)
+    lines = (EXAMPLES / "calls.txt").read_bytes().splitlines(keepends=True)
     return with_answer(program, called(lines + lines[:1]))
 
 
@@ -155,20 +160,24 @@ def calls_with_tails(program):
 
 def calls_for_another(program):
     """A service of another name than the request's, which refuses it."""
-    return with_answer(program, called([f"1700000100 5 {fixture.request().hex()}\n".encode()], "--only", "host/other@EX"))
+    return with_answer(program, called([f"1700000100 5 {fixture.request().hex()}\n".encode()], "--only",
+                                       "host/other@EX"))
 
 
 def calls_with_tokens(program):
-    """The same service, which gets tokens: a request for a reply, no request, another form, bytes that aren't a token, and the first again."""
+    """The same service, which gets tokens: a request for a reply, no request, another form, bytes that aren't a token,
+    and the first again."""
     around = [lambda it: gss_rules.kerberos(gss_rules.KERBEROS, it),
               lambda it: gss_rules.negotiation([gss_rules.MICROSOFT], gss_rules.kerberos(gss_rules.KERBEROS, it))]
     mutual, none = around[1](fixture.request(0x20000000)), around[0](b"")
-    lines = [f"1700000100 {micros} {token.hex()} {'5a' * 16}\n".encode() for micros, token in ((5, mutual), (7, none), (8, mutual[:-1]), (9, mutual))]
+    lines = [f"1700000100 {micros} {token.hex()} {'5a' * 16}\n".encode() for micros,
+             token in ((5, mutual), (7, none), (8, mutual[:-1]), (9, mutual))]
     return with_answer(program, called([*lines[:2], b"hello\n", *lines[2:]], *TAILS, "--tokens"))
 
 
 def parameters(*more):
-    """The commands that read files, and those of a name and a function that makes one of the program: parameters `make` of a test."""
+    """The commands that read files, and those of a name and a function that makes one of the program: parameters `make`
+    of a test."""
     of_files = [pytest.param(lambda _, it=it: it, id=slug(" ".join(it.words[:3]))) for it in file_commands()]
     return pytest.mark.parametrize("make", [*of_files, *(pytest.param(make, id=name) for name, make in more)])
 

@@ -1,8 +1,8 @@
 """A second reading of what `list-keytab --readable` and `list-ccache --readable` print, written from their rules alone.
 
-`keytab_table` and `cache_table` give the text for what tests/support/reference.py read of a file. Nothing here is taken from the program's
-sources. `check` compares its own answers with what other sources say: dates and enctype names that are known, and the tables of files of
-MIT krb5 and Heimdal in examples/.
+`keytab_table` and `cache_table` give the text for what tests/support/reference.py read of a file. Nothing here is taken
+from the program's sources. `check` compares its own answers with what other sources say: dates and enctype names that
+are known, and the tables of files of MIT krb5 and Heimdal in examples/.
 """
 import datetime
 import struct
@@ -73,7 +73,8 @@ def flags(number):
 
 
 def table(rows):
-    """The rows in columns: all cells but a row's last are filled to the width of their column's widest, and two spaces follow."""
+    """The rows in columns: all cells but a row's last are filled to the width of their column's widest, and two spaces
+    follow."""
     widths = [min(256, max(map(len, column))) for column in zip(*rows)]
     widths[-1] = 0
     return "".join("  ".join(f"{cell:<{width}}" for cell, width in zip(row, widths)) + "\n" for row in rows)

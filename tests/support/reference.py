@@ -101,7 +101,8 @@ def keytab(data):
 
 
 def keytab_line(entry):
-    return f"{entry['kvno']} {entry['etype']} {entry['timestamp']} {principal_text(entry['realm'], entry['components'])}\n"
+    name = principal_text(entry["realm"], entry["components"])
+    return f"{entry['kvno']} {entry['etype']} {entry['timestamp']} {name}\n"
 
 
 def list_keytab(data):
@@ -245,10 +246,12 @@ def list_of(items):
 
 
 def credential_of(item):
-    front = name_of(item["client"]) + name_of(item["server"]) + struct.pack(">h", item["etype"]) + data32_of(item["key"])
+    front = name_of(item["client"]) + name_of(item["server"]) + struct.pack(">h",
+                                                                            item["etype"]) + data32_of(item["key"])
     times = [item[word] for word in ("authtime", "starttime", "endtime", "renew_till")]
     lists = list_of(item["addresses"]) + list_of(item["authdata"])
-    return front + struct.pack(">4IBI", *times, item["is_skey"], item["flags"]) + lists + data32_of(item["ticket"]) + data32_of(item["second_ticket"])
+    return front + struct.pack(">4IBI", *times, item["is_skey"],
+                               item["flags"]) + lists + data32_of(item["ticket"]) + data32_of(item["second_ticket"])
 
 
 def convert_ccache(data):

@@ -1,5 +1,6 @@
 #!/usr/bin/env python3
-"""Lays out the paragraphs and list items of Markdown files at a width of 100 (tables, code, headings and comments stay).
+"""Lays out the paragraphs and list items of Markdown files at a width of 100 (tables, code, headings and comments
+stay).
 
     tests/support/reflow.py FILE..            writes the files again
     tests/support/reflow.py --check FILE..    prints lines that are too long
@@ -44,7 +45,8 @@ def laid_out(text):
         first = item[0] if item else re.match(r"\s*", block[0])[0]
         rest = " " * len(first) if item else first
         words = " ".join(it.strip() for it in [block[0][len(first):], *block[1:]])
-        lines += textwrap.wrap(words, WIDTH, initial_indent=first, subsequent_indent=rest, break_long_words=False, break_on_hyphens=False)
+        lines += textwrap.wrap(words, WIDTH, initial_indent=first, subsequent_indent=rest, break_long_words=False,
+                               break_on_hyphens=False)
     return "\n".join(lines)
 
 

@@ -16,13 +16,22 @@ BASE = {
 }
 SEALED = [
     (19, 0, "7e5895eaf2672435bad817f545a37148", "ef85fb890bb8472f4dab20394dca781dad877eda39d50c870c0d5a0a8e48c718"),
-    (19, 6, "7bca285e2fd4130fb55b1a5c83bc5b24", "84d7f30754ed987bab0bf3506beb09cfb55402cef7e6877ce99e247e52d16ed4421dfdf8976c"),
-    (19, 16, "56ab21713ff62c0a1457200f6fa9948f", "3517d640f50ddc8ad3628722b3569d2ae07493fa8263254080ea65c1008e8fc295fb4852e7d83e1e7c48c37eebe6b0d3"),
-    (19, 21, "a7a4e29a4728ce10664fb64e49ad3fac", "720f73b18d9859cd6ccb4346115cd336c70f58edc0c4437c5573544c31c813bce1e6d072c186b39a413c2f92ca9b8334a287ffcbfc"),
-    (20, 0, "f764e9fa15c276478b2c7d0c4e5f58e4", "41f53fa5bfe7026d91faf9be959195a058707273a96a40f0a01960621ac612748b9bbfbe7eb4ce3c"),
-    (20, 6, "b80d3251c1f6471494256ffe712d0b9a", "4ed7b37c2bcac8f74f23c1cf07e62bc7b75fb3f637b9f559c7f664f69eab7b6092237526ea0d1f61cb20d69d10f2"),
-    (20, 16, "53bf8a0d105265d4e276428624ce5e63", "bc47ffec7998eb91e8115cf8d19dac4bbbe2e163e87dd37f49beca92027764f68cf51f14d798c2273f35df574d1f932e40c4ff255b36a266"),
-    (20, 21, "763e65367e864f02f55153c7e3b58af1", "40013e2df58e8751957d2878bcd2d6fe101ccfd556cb1eae79db3c3ee86429f2b2a602ac86fef6ecb647d6295fae077a1feb517508d2c16b4192e01f62"),
+    (19, 6, "7bca285e2fd4130fb55b1a5c83bc5b24",
+     "84d7f30754ed987bab0bf3506beb09cfb55402cef7e6877ce99e247e52d16ed4421dfdf8976c"),
+    (19, 16, "56ab21713ff62c0a1457200f6fa9948f",
+     "3517d640f50ddc8ad3628722b3569d2ae07493fa8263254080ea65c1008e8fc295fb4852e7d83e1e7c48c37eebe6b0d3"),
+    (19, 21, "a7a4e29a4728ce10664fb64e49ad3fac",
+     "720f73b18d9859cd6ccb4346115cd336c70f58edc0c4437c5573544c31c813bce1e6d072c186b39a413c2f92ca9b8334a287ffcbfc"),
+    (20, 0, "f764e9fa15c276478b2c7d0c4e5f58e4",
+     "41f53fa5bfe7026d91faf9be959195a058707273a96a40f0a01960621ac612748b9bbfbe7eb4ce3c"),
+    (20, 6, "b80d3251c1f6471494256ffe712d0b9a",
+     "4ed7b37c2bcac8f74f23c1cf07e62bc7b75fb3f637b9f559c7f664f69eab7b6092237526ea0d1f61cb20d69d10f2"),
+    (20, 16, "53bf8a0d105265d4e276428624ce5e63",
+     "bc47ffec7998eb91e8115cf8d19dac4bbbe2e163e87dd37f49beca92027764f6"
+     "8cf51f14d798c2273f35df574d1f932e40c4ff255b36a266"),
+    (20, 21, "763e65367e864f02f55153c7e3b58af1",
+     "40013e2df58e8751957d2878bcd2d6fe101ccfd556cb1eae79db3c3ee86429f2"
+     "b2a602ac86fef6ecb647d6295fae077a1feb517508d2c16b4192e01f62"),
 ]
 CHECKSUMS = [(19, "d78367186643d67b411cba9139fc1dee"), (20, "45ee791567eefca37f4ac1e0222de80d43c3bfa06699672a")]
 
@@ -50,7 +59,8 @@ def checksum(etype, key, usage, text):
 
 def check():
     for etype, size, confounder, wanted in SEALED:
-        assert sealed(etype, BASE[etype], 2, bytes.fromhex(confounder), bytes(range(size))).hex() == wanted, (etype, size)
+        assert sealed(etype, BASE[etype], 2, bytes.fromhex(confounder), bytes(range(size))).hex() == wanted, (etype,
+                                                                                                              size)
     for etype, wanted in CHECKSUMS:
         assert checksum(etype, BASE[etype], 2, bytes(range(21))).hex() == wanted, etype
 
@@ -86,9 +96,11 @@ def lengths(usage, confounder, step):
         for size in range(65):
             plain = bytes(step * i % 256 for i in range(size))
             text = sealed(etype, key, usage, confounder, plain).hex()
-            lines += [f"enc seal {usage} {confounder.hex()} {plain.hex() or '-'}", f"enc open {usage} {text}", f"enc usage-open {text}"]
+            lines += [f"enc seal {usage} {confounder.hex()} {plain.hex() or '-'}", f"enc open {usage} {text}",
+                      f"enc usage-open {text}"]
             answers += [text, plain.hex() or "-", plain.hex() or "-"]
-            for call, arguments, written in (("seal", f"{confounder.hex()} {plain.hex() or '-'}", text), ("open", text, plain.hex())):
+            for call, arguments, written in (("seal", f"{confounder.hex()} {plain.hex() or '-'}", text),
+                                             ("open", text, plain.hex())):
                 into, as_written = into_slices(f"enc usage-{call}-to", arguments, written)
                 lines, answers = lines + into, answers + as_written
         yield f"each length to 64, type {etype}, usage {usage}", lines, answers
@@ -116,7 +128,8 @@ def drawn():
     check()
     counted = bytes(range(16))
     first, other = bytes.fromhex("7e5895eaf2672435bad817f545a37148"), bytes(range(32))
-    broken = (changed(19, BASE[19], first), changed(20, other, bytes(16)), changed(19, BASE[19], first, b"plain"), changed(20, other, first, bytes(20)))
+    broken = (changed(19, BASE[19], first), changed(20, other, bytes(16)), changed(19, BASE[19], first, b"plain"),
+              changed(20, other, first, bytes(20)))
     for name, lines, answers in (*usages(), *lengths(11, counted, 7), *lengths(2, first, 5), *broken):
         yield "krb_calls_wire", f"sealing: {name}", lines, answers
 

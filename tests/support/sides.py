@@ -1,4 +1,5 @@
-"""The program and the clients and services of MIT krb5 and Heimdal: what each asks and answers, and how they are built."""
+"""The program and the clients and services of MIT krb5 and Heimdal: what each asks and answers, and how they are
+built."""
 import os
 import subprocess
 import time
@@ -17,7 +18,8 @@ class Peers:
         self.program, self.folder, self.replays = program, folder, 0
         folder.mkdir()
         for source in ("ask", "serve", "pick"):
-            for library, config, defined in (("MIT", "krb5-config.mit", []), ("Heimdal", "krb5-config.heimdal", ["-DHEIMDAL"])):
+            for library, config, defined in (("MIT", "krb5-config.mit", []),
+                                             ("Heimdal", "krb5-config.heimdal", ["-DHEIMDAL"])):
                 flags = ran([config, "--cflags", "--libs", "krb5"]).split()
                 ran(["cc", "-O1", *defined, "-o", self.path(source, library), TESTS / f"peers/{source}.c", *flags])
 
@@ -45,12 +47,14 @@ class Peers:
     def request(self, cache, service, seconds, micros=0, *words):
         """Our request for a service, in hex."""
         confounder = os.urandom(16).hex()
-        return self.said("request", cache, service, "--time", seconds, "--usec", micros, "--confounder", confounder, *words).strip()
+        return self.said("request", cache, service, "--time", seconds, "--usec", micros, "--confounder", confounder,
+                         *words).strip()
 
     def client(self, realm, library, cache, service, seconds, words):
         """A client of a library that has written its request: the process, and the request in hex."""
         command = [self.path("ask", library), f"FILE:{cache}", service, str(seconds), *words]
-        process = subprocess.Popen(command, env=realm.environment("default"), stdin=subprocess.PIPE, stdout=subprocess.PIPE, stderr=subprocess.PIPE, text=True)
+        process = subprocess.Popen(command, env=realm.environment("default"), stdin=subprocess.PIPE,
+                                   stdout=subprocess.PIPE, stderr=subprocess.PIPE, text=True)
         request = process.stdout.readline().strip()
         if not request:
             raise Trouble(f"the client of {library} for {service} in {cache}: {process.communicate()[1]!r}")

@@ -1,6 +1,8 @@
-"""Servers of Redis and PostgreSQL for tests (Debian's redis-server and postgresql): each in a folder of its own, on a socket there, with no port.
+"""Servers of Redis and PostgreSQL for tests (Debian's redis-server and postgresql): each in a folder of its own, on a
+socket there, with no port.
 
-They keep what they were told, also when they are killed, as docs/OPERATING.md configures it. The table of PostgreSQL is the document's.
+They keep what they were told, also when they are killed, as docs/OPERATING.md configures it. The table of PostgreSQL is
+the document's.
 """
 import contextlib
 import glob
@@ -70,9 +72,11 @@ class Redis(Server):
         self.words = ["--redis", self.socket]
 
     def start(self, users="", wanted="PONG\n"):
-        settings = f'{lines_of_redis("appendonly")}port 0\nunixsocket {self.socket}\ndir {self.folder}\nsave ""\n{users}'
+        more = f'port 0\nunixsocket {self.socket}\ndir {self.folder}\nsave ""\n{users}'
+        settings = lines_of_redis("appendonly") + more
         (self.folder / "redis.conf").write_text(settings)
-        self.process = subprocess.Popen(["redis-server", self.folder / "redis.conf"], stdout=subprocess.DEVNULL, stderr=subprocess.DEVNULL)
+        self.process = subprocess.Popen(["redis-server", self.folder / "redis.conf"], stdout=subprocess.DEVNULL,
+                                        stderr=subprocess.DEVNULL)
         wait_for(lambda: self.said("ping").startswith(wanted), "redis-server doesn't answer", self.process)
 
     def start_with_user(self, password):
@@ -86,7 +90,8 @@ class Redis(Server):
 
 
 class Postgres(Server):
-    """It refuses to run as root, so it then runs as the user postgres, whom the package makes. Instances are the user web of its own."""
+    """It refuses to run as root, so it then runs as the user postgres, whom the package makes. Instances are the user
+    web of its own."""
     name = "PostgreSQL"
 
     def __init__(self):
@@ -109,24 +114,30 @@ class Postgres(Server):
         is_first = self.tools is None
         if is_first:
             self.make()
-        settings = {"listen_addresses": "", "unix_socket_directories": self.folder, "shared_buffers": "16MB", "fsync": "on", "synchronous_commit": "on"}
-        words = [self.tools / "postgres", "-D", self.folder / "data", *(word for it in settings.items() for word in ("-c", "=".join(map(str, it))))]
+        settings = {"listen_addresses": "", "unix_socket_directories": self.folder, "shared_buffers": "16MB",
+                    "fsync": "on", "synchronous_commit": "on"}
+        words = [self.tools / "postgres", "-D", self.folder / "data",
+                 *(word for it in settings.items() for word in ("-c", "=".join(map(str, it))))]
         with open(self.folder / "log", "ab") as log:
-            self.process = subprocess.Popen([str(it) for it in words], cwd=self.folder, stdout=log, stderr=log, **self.user)
-        wait_for(lambda: said([self.tools / "pg_isready", "-q", "-h", self.folder]).returncode == 0, "postgres doesn't answer", self.process)
+            self.process = subprocess.Popen([str(it) for it in words], cwd=self.folder, stdout=log, stderr=log,
+                                            **self.user)
+        wait_for(lambda: said([self.tools / "pg_isready", "-q", "-h", self.folder]).returncode == 0,
+                 "postgres doesn't answer", self.process)
         if is_first:
             self.run("CREATE ROLE web LOGIN")
             self.run(statements()[0])
 
     def run(self, statement):
         """What psql says of a statement."""
-        ran = said([self.tools / "psql", "-h", self.folder, "-U", "postgres", "-v", "ON_ERROR_STOP=1", "-c", statement, "postgres"])
+        ran = said([self.tools / "psql", "-h", self.folder, "-U", "postgres", "-v", "ON_ERROR_STOP=1", "-c", statement,
+                    "postgres"])
         if ran.returncode:
             raise OSError(ran.stderr)
         return ran.stdout.strip()
 
     def signalled(self, number):
-        """Signals each process that the server started, and the server, which is stopped before, so that it starts no more."""
+        """Signals each process that the server started, and the server, which is stopped before, so that it starts no
+        more."""
         self.process.send_signal(signal.SIGSTOP)
         started = Path(f"/proc/{self.process.pid}/task/{self.process.pid}/children").read_text().split()
         for it in started:

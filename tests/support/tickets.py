@@ -1,4 +1,5 @@
-"""Realms with users, services and keytabs, and tickets whose session keys come to be of type 19 or 20 in each advised way."""
+"""Realms with users, services and keytabs, and tickets whose session keys come to be of type 19 or 20 in each advised
+way."""
 import re
 import textwrap
 from datetime import datetime, timezone
@@ -10,20 +11,28 @@ from support.sides import LIBRARIES
 AES128, AES256 = "aes128-cts-hmac-sha256-128", "aes256-cts-hmac-sha384-192"
 OLD = "aes256-cts-hmac-sha1-96"
 NUMBERS = {AES128: 19, AES256: 20, OLD: 18}
-# The labels of the tickets that `of_mit`, `of_heimdal`, `with_addresses` and `of_both` make, and four with session keys of both types.
+# The labels of the tickets that `of_mit`, `of_heimdal`, `with_addresses` and `of_both` make, and four with session keys
+# of both types.
 LABELS = (
-    "setstr for one service, 20", "setstr for one service, 19", "permitted_enctypes of one client, 20", "permitted_enctypes of one client, 19",
-    "a service without PAC", "permitted_enctypes of a KDC without PACs, 20", "permitted_enctypes of a KDC without PACs, 19",
-    "Heimdal's tools at MIT's KDC, 20", "Heimdal's tools at MIT's KDC, 19", "MIT's tools at Heimdal's KDC, 20", "MIT's tools at Heimdal's KDC, 19",
-    "Heimdal's tools at Heimdal's KDC, 20", "Heimdal's tools at Heimdal's KDC, 19", "a cache of version 0x0503, 20", "a cache of version 0x0503, 19",
-    "with addresses, forwardable and proxiable", "another realm's client at Heimdal's KDC, 20", "another realm's client at MIT's KDC, 19",
+    "setstr for one service, 20", "setstr for one service, 19", "permitted_enctypes of one client, 20",
+    "permitted_enctypes of one client, 19",
+    "a service without PAC", "permitted_enctypes of a KDC without PACs, 20",
+    "permitted_enctypes of a KDC without PACs, 19",
+    "Heimdal's tools at MIT's KDC, 20", "Heimdal's tools at MIT's KDC, 19", "MIT's tools at Heimdal's KDC, 20",
+    "MIT's tools at Heimdal's KDC, 19",
+    "Heimdal's tools at Heimdal's KDC, 20", "Heimdal's tools at Heimdal's KDC, 19", "a cache of version 0x0503, 20",
+    "a cache of version 0x0503, 19",
+    "with addresses, forwardable and proxiable", "another realm's client at Heimdal's KDC, 20",
+    "another realm's client at MIT's KDC, 19",
 )
 OF_EACH_TYPE = (*LABELS[:2], *LABELS[11:13])
 KEYTABS = (
     *(f"{it} of PEER.TEST" for it in ("web", "alice", "merged", "turned-both", "turned-new", "turned-holed", "wrong")),
-    *(f"{it} of HEIM.TEST" for it in ("web", "alice", "holed-web", "filled-web")), "rotated of PEER.TEST", "rotated of HEIM.TEST",
+    *(f"{it} of HEIM.TEST" for it in ("web", "alice", "holed-web", "filled-web")), "rotated of PEER.TEST",
+    "rotated of HEIM.TEST",
 )
-CACHES_OF_MIT = ("addressed", "advised-early", "advised-late", "all", "heimdal", "old", "one", "postdated", "service", "to-heimdal", "to-mit",
+CACHES_OF_MIT = ("addressed", "advised-early", "advised-late", "all", "heimdal", "old", "one", "postdated", "service",
+                 "to-heimdal", "to-mit",
                  "turned-early", "turned-late")
 CACHES_OF_HEIMDAL = ("Heimdal", "MIT", "old")
 CACHES = (*(f"{it} of PEER.TEST" for it in CACHES_OF_MIT), *(f"{it} of HEIM.TEST" for it in CACHES_OF_HEIMDAL))
@@ -32,7 +41,8 @@ CACHES = (*(f"{it} of PEER.TEST" for it in CACHES_OF_MIT), *(f"{it} of HEIM.TEST
 def advice():
     """The lines that docs/OPERATING.md gives for session keys and service keys of type 19 or 20."""
     text = (TOP / "docs/OPERATING.md").read_text().replace('"$service"', "NAME")
-    forms = r"`(permitted_enctypes = [^`]*)`", r"^ *kadmin\.local (setstr NAME session_enctypes .*)$", r"^(ktadd -k FILE -e .* NAME)$"
+    forms = (r"`(permitted_enctypes = [^`]*)`", r"^ *kadmin\.local (setstr NAME session_enctypes .*)$",
+             r"^(ktadd -k FILE -e .* NAME)$")
     found = [re.search(form, text, re.M) for form in forms]
     if None in found:
         raise Trouble("docs/OPERATING.md has other words than these cases look for")
@@ -45,7 +55,8 @@ def filled_in(command, keytab, name):
 
 
 def mit_realm(folder, heimdal):
-    """Services whose keys and session keys come to be of type 19 or 20 in each way that is advised, and some that don't."""
+    """Services whose keys and session keys come to be of type 19 or 20 in each way that is advised, and some that
+    don't."""
     _, setstr, ktadd = advice()
     realm = MitRealm(folder / "mit", "PEER.TEST", heimdal, " ".join(f"{it}:normal" for it in (AES256, AES128, OLD)))
     realm.kadmin("addprinc", "-pw", PASSWORD, "alice")
@@ -121,7 +132,8 @@ def of_heimdal(realm):
     realm.start()
     realm.client("old", "default", "fcache_version = 3")
     services = ["host/web.example", "host/only19.example"]
-    caches = {f"{tools}'s tools at Heimdal's KDC": realm.cache(tools, "default", services, tools=tools) for tools in LIBRARIES}
+    caches = {f"{tools}'s tools at Heimdal's KDC": realm.cache(tools, "default", services, tools=tools)
+              for tools in LIBRARIES}
     caches["a cache of version 0x0503"] = realm.cache("old", "old", services, tools="Heimdal")
     return [
         Ticket(f"{label}, {etype}", realm, cache, service, etype, False)
@@ -131,8 +143,8 @@ def of_heimdal(realm):
 
 
 def share_key(mit, heimdal, name):
-    """Gives both realms the same key of a principal: Heimdal's, as it dumps it, becomes MIT's. (A password makes other keys in Heimdal,
-    which salts them at random.)"""
+    """Gives both realms the same key of a principal: Heimdal's, as it dumps it, becomes MIT's. (A password makes other
+    keys in Heimdal, which salts them at random.)"""
     mit_keytab, heimdal_keytab, dump = (mit.folder / f"shared.{it}" for it in ("mit", "heimdal", "dump"))
     mit.kadmin("addprinc", "-randkey", "-e", f"{AES256}:normal", name)
     mit.kadmin("ktadd", "-norandkey", "-k", mit_keytab, name)
@@ -155,8 +167,10 @@ def of_both(mit, heimdal):
     to_heimdal = mit.cache("to-heimdal", "both", [f"host/web.example@{heimdal.name}"])
     to_mit = mit.cache("to-mit", "both", [f"host/web19.example@{mit.name}"], user=f"alice@{heimdal.name}")
     return [
-        Ticket("another realm's client at Heimdal's KDC, 20", heimdal, to_heimdal, "host/web.example", 20, False, f"alice@{mit.name}"),
-        Ticket("another realm's client at MIT's KDC, 19", mit, to_mit, "host/web19.example", 19, False, f"alice@{heimdal.name}"),
+        Ticket("another realm's client at Heimdal's KDC, 20", heimdal, to_heimdal, "host/web.example", 20, False,
+               f"alice@{mit.name}"),
+        Ticket("another realm's client at MIT's KDC, 19", mit, to_mit, "host/web19.example", 19, False,
+               f"alice@{heimdal.name}"),
     ]
 
 
@@ -171,7 +185,8 @@ def with_addresses(realm):
 
 
 def turned(realm):
-    """A service whose key was changed, from number 2 to 300: tickets of both, and keytabs with one, both, or the later and a hole."""
+    """A service whose key was changed, from number 2 to 300: tickets of both, and keytabs with one, both, or the later
+    and a hole."""
     service, ktadd = "host/turned.example", advice()[2]
     both, old, new, holed = (realm.folder / f"turned-{it}.keytab" for it in ("both", "old", "new", "holed"))
     realm.kadmin("addprinc", "-randkey", service)
@@ -194,7 +209,8 @@ def lines_below(heading):
 
 
 def advised(realm):
-    """A service that is made, and whose key is then changed, by the lines of docs/OPERATING.md: tickets of both keys, and its keytabs."""
+    """A service that is made, and whose key is then changed, by the lines of docs/OPERATING.md: tickets of both keys,
+    and its keytabs."""
     service, folder = "HTTP/www.example.com", realm.folder / "advised"
     both, new = folder / "www.keytab", folder / "new.keytab"
     folder.mkdir()
@@ -204,16 +220,19 @@ def advised(realm):
 
     made, (known, given, removed) = lines_below("Keys")[0], lines_below("Without a refused login")
     shell(made)
-    early = Ticket("the key before an advised change", realm, realm.cache("advised-early", "one", [service]), service, 20, True)
+    early = Ticket("the key before an advised change", realm, realm.cache("advised-early", "one", [service]), service,
+                   20, True)
     both.unlink()
     shell(known, given)
-    late = Ticket("the key after an advised change", realm, realm.cache("advised-late", "one", [service]), service, 20, True)
+    late = Ticket("the key after an advised change", realm, realm.cache("advised-late", "one", [service]), service, 20,
+                  True)
     shell(removed)
     return (early, [both], [new]), (late, [both, new], [])
 
 
 def rotated_keytabs(mit, heimdal):
-    """Keytabs of both after two changes of a key, the first written as docs/OPERATING.md says, so with keys that are listed twice."""
+    """Keytabs of both after two changes of a key, the first written as docs/OPERATING.md says, so with keys that are
+    listed twice."""
     service, both, theirs = "host/rotated.example", mit.folder / "rotated.keytab", heimdal.folder / "rotated.keytab"
     mit.kadmin("addprinc", "-randkey", service)
     heimdal.kadmin("add", "--random-key", "--use-defaults", service)
@@ -233,10 +252,12 @@ def bend(keytab, bent):
 
 
 def keytabs_of_mit(realm):
-    """Keytabs of kadmin and ktutil: several services and types, version numbers above 255, holes, and what ktutil took out."""
+    """Keytabs of kadmin and ktutil: several services and types, version numbers above 255, holes, and what ktutil took
+    out."""
     folder = realm.folder
     realm.kadmin("ktadd", "-norandkey", "-k", folder / "alice.keytab", "alice")
-    realm.run("default", "ktutil", input=f"rkt {folder}/web.keytab\nrkt {folder}/turned-holed.keytab\ndelent 2\nwkt {folder}/merged.keytab\nquit\n")
+    lines = [f"rkt {folder}/web.keytab", f"rkt {folder}/turned-holed.keytab", "delent 2", f"wkt {folder}/merged.keytab"]
+    realm.run("default", "ktutil", input="\n".join([*lines, "quit", ""]))
     names = ("web", "alice", "merged", "turned-both", "turned-new", "turned-holed", "wrong")
     return [(realm, folder / f"{name}.keytab") for name in names]
 

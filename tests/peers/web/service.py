@@ -2,8 +2,8 @@
 
     /usr/bin/python3 tests/peers/web/service.py [BINDINGS]
 
-It reads a client's first token in hex from a line, and prints the client's name, the flags of the context, `complete` or `incomplete`, and the
-answer token in hex; or `refused` and why.
+It reads a client's first token in hex from a line, and prints the client's name, the flags of the context, `complete`
+or `incomplete`, and the answer token in hex; or `refused` and why.
 """
 import sys
 
@@ -21,7 +21,8 @@ def main(bindings=None):
     except gssapi.exceptions.GSSError as fault:
         print("refused", fault)
     else:
-        print(context.initiator_name, int(context.actual_flags), "complete" if context.complete else "incomplete", answer.hex() if answer else "-")
+        print(context.initiator_name, int(context.actual_flags), "complete" if context.complete else "incomplete",
+              answer.hex() if answer else "-")
 
 
 main(*sys.argv[1:])
