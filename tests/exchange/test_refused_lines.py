@@ -10,7 +10,7 @@ import subprocess
 
 import pytest
 
-from support import calls, exchange_made, preload
+from support import calls, exchange_made, fixture, preload
 from support.exchange_made import CONFOUNDER, REPLY_CONFOUNDER, Made
 from support.preload import ALL
 
@@ -43,8 +43,8 @@ def answers_of(memory):
     mades = [Made(micros=it, options=0x20000000, client_type=2, subkey=SUBKEY, number=7) for it in (5, 6)]
     requests, accepted = [exchange_made.request(it).hex() for it in mades], [exchange_made.accepted(it) for it in mades]
     agreed = f"agreed {exchange_made.written('name 2 alice@EX')} 19/{bytes(range(16)).hex()} {SUBKEY} 7 {SUBKEY} 9"
-    error = exchange_made.der.error(34).replace(b"20231114221500Z", b"20231114221503Z").replace(b"\xa5\x03\x02\x01\x07",
-                                                                                                b"\xa5\x03\x02\x01\x05")
+    error = fixture.error(34).replace(b"20231114221500Z", b"20231114221503Z")
+    error = error.replace(b"\xa5\x03\x02\x01\x07", b"\xa5\x03\x02\x01\x05")
     return [
         "service", "cache", *requests, accepted[0], "refused Repeat", "1 1700000101 5",
         exchange_made.written(f"reply subkey={SUBKEY} number=9"), agreed, agreed, "refused Mismatch",

@@ -192,8 +192,8 @@ class Phases:
         yield "while the store is killed, none is let in twice", self.none_twice()
         yield "the store was killed in its work", is_it(set(found.count), {ACCEPTED, REPEAT, STORE})
         down = self.delivered(self.down).count
-        yield "while the store is down, none is let in", is_it(down,
-                                                               Counter({STORE: len(self.down) * len(self.instances)}))
+        refused = Counter({STORE: len(self.down) * len(self.instances)})
+        yield "while the store is down, none is let in", is_it(down, refused)
         self.store.start()
         yield "each is let in exactly once when the store is back", self.each_once(self.back)
 
@@ -253,8 +253,8 @@ def over(store, kinds, folder, library, requests):
             yield "an instance with another clock", is_it(late.asked(next(given)), ACCEPTED)
             yield from too_late(store, late, ahead, next(given))
             again = instance(lambda *words: kind(*words, again=True), PATIENT)
-            yield "an instance whose store may have lost stamps", is_it(again.asked(next(given)),
-                                                                        ("refused", "JUST_STARTED"))
+            found = again.asked(next(given))
+            yield "an instance whose store may have lost stamps", is_it(found, ("refused", "JUST_STARTED"))
     finally:
         for it in started:
             it.close()

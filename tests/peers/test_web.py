@@ -314,9 +314,8 @@ def at_mits_service(realm, library, kind, flags, *bindings):
     yield f"{what} has its flags", is_it(int(said[1]) & 0x3F, ASKED | 2)
     yield f"{what} reads the answer", is_it(client.communicate(said[3] + "\n", timeout=SECONDS)[0], f"{ALICE}\n")
     if bindings:
-        yield f"{what}, on another channel, is refused", is_it(answered_by_mit(realm, token,
-                                                                               "tls-server-end-point:abd")[0],
-                                                                               "refused")
+        said = answered_by_mit(realm, token, "tls-server-end-point:abd")
+        yield f"{what}, on another channel, is refused", is_it(said[0], "refused")
 
 
 def reply_in(token):
@@ -334,8 +333,8 @@ def of_the_program(program, realm, kind):
     token = kdc.ran([program, "request", cache, f"{SERVICE}@{REALM}", *moment, "--confounder", os.urandom(16).hex(),
                      "--mutual", "--token", kind])
     said = answered_by_mit(realm, token.strip())
-    yield f"a token of krbtool, {kind}, is accepted by MIT's GSS-API", is_it((said[0], int(said[1]) & 0x3F, said[2]),
-                                                                             (ALICE, 2, "complete"))
+    found = said[0], int(said[1]) & 0x3F, said[2]
+    yield f"a token of krbtool, {kind}, is accepted by MIT's GSS-API", is_it(found, (ALICE, 2, "complete"))
     agreed = kdc.ran([program, "finish", cache, f"{SERVICE}@{REALM}", *moment, "--reply",
                       reply_in(bytes.fromhex(said[3])).hex()])
     yield f"krbtool reads the answer, {kind}", is_it(agreed.split()[:2], ["agreed", ALICE])
@@ -382,8 +381,8 @@ def nginx(folder, service):
     """nginx in front of the service and of an application, with the lines of docs/OPERATING.md; gives its port."""
     front, application = kdc.free_port(), kdc.free_port()
     locations = re.search(r"^ *```nginx\n(.*?)^ *```$", (TOP / "docs/OPERATING.md").read_text(), re.S | re.M)[1]
-    locations = locations.replace("127.0.0.1:9000", f"127.0.0.1:{application}").replace("127.0.0.1:8080",
-                                                                                        f"127.0.0.1:{service.port}")
+    for port, to in ((9000, application), (8080, service.port)):
+        locations = locations.replace(f"127.0.0.1:{port}", f"127.0.0.1:{to}")
     (folder / "nginx.conf").write_text(NGINX.format(folder=folder, front=front, application=application,
                                                     locations=locations))
     process = kdc.Process(["/usr/sbin/nginx", "-p", folder, "-e", folder / "nginx.log", "-c", folder / "nginx.conf"],
@@ -400,8 +399,8 @@ def through_nginx(world):
         ran = curl(world, port)
         heads, _, body = ran.stdout.replace("\r", "").rpartition("\n\n")
         yield "nginx lets curl in", is_it(body, f"the application sees {ALICE}, and the token: ''\n")
-        yield "the answer token comes through", None if re.search("HTTP/1.1 200 .*\nWWW-Authenticate: Negotiate o",
-                                                                  heads, re.S) else heads
+        is_through = re.search("HTTP/1.1 200 .*\nWWW-Authenticate: Negotiate o", heads, re.S)
+        yield "the answer token comes through", None if is_through else heads
         ran = curl(world, port, ahead=WRONG)
         is_out = ran.stdout and "HTTP/1.1 200" not in ran.stdout and "the application" not in ran.stdout
         yield "nginx lets nobody in with a wrong clock", None if is_out else ran.stdout
@@ -434,8 +433,8 @@ def realm(folder):
 @pytest.fixture(scope="module")
 def web(folder, realm, library):
     """The running service, and one whose clock is ahead."""
-    with Service(folder, realm, library, "--first") as service, Service(folder, realm, library, "--first",
-                                                                        ahead=LATER) as later:
+    later = Service(folder, realm, library, "--first", ahead=LATER)
+    with Service(folder, realm, library, "--first") as service, later:
         yield World(folder, realm, service, later)
 
 

@@ -27,8 +27,8 @@ def test_keytab_faults():
     assert fault_of(lambda: Keytab(b"")) == ("FILE_VERSION", 500, 0)
     assert fault_of(lambda: Keytab(b"\x05\x01")) == ("FILE_VERSION", 500, 0)
     assert fault_of(lambda: Keytab(fixture.keytab()[:-1])) == ("FILE_TRUNCATED", 502, 2)
-    assert fault_of(lambda: Keytab(fixture.keytab() + struct.pack(">i", 1) + b"x")) == ("FILE_BAD_ITEM", 503,
-                                                                                        len(fixture.keytab()))
+    longer, size = fixture.keytab() + struct.pack(">i", 1) + b"x", len(fixture.keytab())
+    assert fault_of(lambda: Keytab(longer)) == ("FILE_BAD_ITEM", 503, size)
     assert fault_of(lambda: Keytab(b"\x05\x02" + bytes(LIMIT - 1))) == ("TOO_LONG", 404, 0)
     for strange in ("text", 5, None):
         with pytest.raises(TypeError):
@@ -78,8 +78,8 @@ def test_credentials():
 def test_cache_faults():
     assert fault_of(lambda: CredentialCache(b"\x05\x02")) == ("FILE_VERSION", 500, 0)
     assert fault_of(lambda: CredentialCache(b"\x05\x04\x00\x05"))[0] == "FILE_HEADER"
-    assert fault_of(lambda: CredentialCache(fixture.cache()[:-1])) == ("FILE_BAD_ITEM", 503,
-                                                                       4 + len(fixture.principal(1, b"EX", b"alice")))
+    start = 4 + len(fixture.principal(1, b"EX", b"alice"))
+    assert fault_of(lambda: CredentialCache(fixture.cache()[:-1])) == ("FILE_BAD_ITEM", 503, start)
 
 
 def test_keys_are_not_shown():

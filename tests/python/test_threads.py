@@ -56,8 +56,8 @@ def test_one_acceptor(sent):
 def test_the_same_requests_by_all(sent):
     service = Acceptor(Keytab(fixture.keytab()), SERVICE, started=None)
     found = Counter(each_of(lambda number: sent[number:800] + sent[:number], lambda it: answer_of(service, *it)))
-    assert found.pop(220) == (THREADS - 1) * 800 and sum(found.values()) == 800 and all(one == other for one,
-                                                                                        other in found)
+    assert found.pop(220) == (THREADS - 1) * 800 and sum(found.values()) == 800
+    assert all(one == other for one, other in found)
 
 
 def test_one_cache_and_one_pending():

@@ -115,8 +115,8 @@ def cache_with(credentials):
                            times, ticket_bytes)
         for number in range(credentials - 1)
     ]
-    return b"\x05\x04\x00\x00" + client + b"".join(others) + fixture.credential(client, server, 19, fixture.SESSION_KEY,
-                                                                                times, large_ticket())
+    last = fixture.credential(client, server, 19, fixture.SESSION_KEY, times, large_ticket())
+    return b"\x05\x04\x00\x00" + client + b"".join(others) + last
 
 
 def cache_of_services(count):

@@ -97,8 +97,8 @@ def forms(case):
     for memory in ("list", "timed"):
         service = f"service {memory} 300 {case.get('keytab', '{keytab}')}"
         yield f", {memory}, accept", [service, *(f"accept {it}" for it in calls)], ["service", *answers]
-        yield f", {memory}, serve", [service, " ".join(["serve", *calls])], ["service",
-                                                                             " | ".join([str(len(answers)), *answers])]
+        at_once = " | ".join([str(len(answers)), *answers])
+        yield f", {memory}, serve", [service, " ".join(["serve", *calls])], ["service", at_once]
 
 
 def stored(folder="*"):

@@ -84,8 +84,8 @@ def check(folder, realm, client, service, etype, **more):
     the tickets."""
     lines, told = conversation(folder, realm, etype, client, service, "good", more)
     assert lines == [f"alice@{realm.name}: a text", f"refused {REPEAT[service]}"]
-    assert told[0] == f"agreed as alice@{realm.name}" and re.fullmatch(refused(client, 34),
-                                                                       told[1]) and len(told) == 2, told
+    agreed, last = told
+    assert agreed == f"agreed as alice@{realm.name}" and re.fullmatch(refused(client, 34), last), told
     lines, told = conversation(folder, realm, etype, client, service, "bent", more)
     assert lines == [f"refused {BENT_KEY[service]}"] * 2
     assert len(told) == 2 and all(re.fullmatch(refused(client, 31), it) for it in told), told

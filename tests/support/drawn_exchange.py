@@ -112,8 +112,8 @@ def some_calls(draw, seals, told, sent):
     """Requests and moments, some of them repeated."""
     for _ in range(draw.choice([1, 1, 1, 1, 4])):
         now = MICROS * (BASE + draw.choice([0, 0, 1, 2, 300, -300])) + draw.choice([0, 5, 999_999])
-        data = draw.choice(sent) if sent and draw.random() < 0.2 else exchange.request(draw, seals,
-                                                                                       told.service.entries, now)
+        again = sent and draw.random() < 0.2
+        data = draw.choice(sent) if again else exchange.request(draw, seals, told.service.entries, now)
         sent.append(data)
         yield data, now
 

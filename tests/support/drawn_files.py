@@ -542,8 +542,8 @@ def unreal_ticket():
 def full_credential(again=b""):
     """A credential in which each field has a value of its own; with these bytes after its encryption type."""
     client, server = fixture.principal(3, b"EX", b"host", b"web"), fixture.principal(1, b"EX", b"alice")
-    lists = struct.pack(">IHI", 1, 2, 4) + b"\x7f\0\0\1" + struct.pack(">IHI", 2, 1, 2) + b"ab" + struct.pack(">HI",
-                                                                                                              65_535, 0)
+    lists = struct.pack(">IHI", 1, 2, 4) + b"\x7f\0\0\1" + struct.pack(">IHI", 2, 1, 2) + b"ab"
+    lists += struct.pack(">HI", 65_535, 0)
     numbers = struct.pack(">4IBI", 1, 2, 3, 4, 1, 0x4061_0000)
     key = struct.pack(">h", -3) + again + fixture.data(b"\x09")
     return client + server + key + numbers + lists + fixture.data(b"t") + fixture.data(b"uv")
@@ -625,11 +625,11 @@ def drawn_cache(draw, is_old):
     found = b"\5\3" if is_old else b"\5\4" + data16(fields)
     found += drawn_name(draw)
     for _ in range(draw.randrange(4)):
-        found += drawn_name(draw) + drawn_name(draw) + draw.randbytes(4 if is_old
-                                                                      else 2) + fixture.data(drawn_text(draw, 20))
+        found += drawn_name(draw) + drawn_name(draw)
+        found += draw.randbytes(4 if is_old else 2) + fixture.data(drawn_text(draw, 20))
         found += draw.randbytes(16) + bytes([draw.randrange(2)]) + draw.randbytes(4)
-        found += drawn_list(draw) + drawn_list(draw) + fixture.data(drawn_text(draw,
-                                                                               20)) + fixture.data(drawn_text(draw, 6))
+        found += drawn_list(draw) + drawn_list(draw)
+        found += fixture.data(drawn_text(draw, 20)) + fixture.data(drawn_text(draw, 6))
     return found
 
 
@@ -682,8 +682,8 @@ def credential_of(**parts):
     told = {"client": name, "server": name, "key": Spelled(), "addresses": list32(0, 0, b""),
             "authdata": list32(0, 0, b""),
             "ticket": Spelled(), "second": Spelled(), **parts}
-    front = told["client"] + told["server"] + struct.pack(">h", 19) + data32(told["key"]) + struct.pack(">4IBI", 1, 2,
-                                                                                                        3, 4, 0, 5)
+    front = told["client"] + told["server"] + struct.pack(">h", 19) + data32(told["key"])
+    front += struct.pack(">4IBI", 1, 2, 3, 4, 0, 5)
     return front + told["addresses"] + told["authdata"] + data32(told["ticket"]) + data32(told["second"])
 
 
@@ -874,15 +874,15 @@ def long_words():
         lines.append(f"components {call} 686f7374^1000")
         answers.append(f"1000 false {items}")
     elements = list_shown(["2/7f000001"] * 1_000)
-    yield PROGRAM, "long strings and lists", [*lines, "cache list 2/7f000001^1000"], [*answers,
-                                                                                      f"1000 false {elements}"]
+    lines, answers = [*lines, "cache list 2/7f000001^1000"], [*answers, f"1000 false {elements}"]
+    yield PROGRAM, "long strings and lists", lines, answers
     for realm, components in ((b"a" * 1_000_000, [b"b"]), (b"EX", [b"a" * 1_000_000]), (b"EX", [b"host"] * 20_000)):
         text = reference.principal_text(realm, components)
         name = {"name_type": 3, "realm": realm, "components": components}
         word = f"3/{realm.hex()}/{','.join(it.hex() for it in components)}"
         lines = [f"name text {word}", f"name read 3 ={text}", f"name clone {word}"]
-        yield PROGRAM, f"a name of {len(text)} letters", lines, [shown(text.encode()), name_shown(name),
-                                                                 name_shown(name)]
+        answers = [shown(text.encode()), name_shown(name), name_shown(name)]
+        yield PROGRAM, f"a name of {len(text)} letters", lines, answers
 
 
 # Lengths and counts that the bytes don't bear out.

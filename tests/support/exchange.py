@@ -45,8 +45,8 @@ def keytab(draw):
     for _ in range(draw.randint(1, 6)):
         etype, key = some_key(draw)
         kvno = draw.choice(KVNOS)
-        entry = principal16(often(draw, NAMES[0], *NAMES)) + struct.pack(">iIBhH", draw.choice([0, 1, 3]), BASE,
-                                                                         kvno % 256, etype, len(key)) + key
+        name, name_type = principal16(often(draw, NAMES[0], *NAMES)), draw.choice([0, 1, 3])
+        entry = name + struct.pack(">iIBhH", name_type, BASE, kvno % 256, etype, len(key)) + key
         entry += draw.choice([b"", struct.pack(">I", kvno), struct.pack(">I", 0), struct.pack(">I", kvno) + b"rest"])
         made += struct.pack(">i", len(entry)) + entry
         if draw.random() < 0.2:
@@ -84,8 +84,8 @@ def ticket_part(draw, client, session):
     flags = often(draw, draw.choice([0, 1 << 19, 0x40E80000]), 1 << 24, 0xFFFFFFFF, 0x40E00000)
     renew, addresses = draw.choice([None, 2**31 - 1]), draw.choice([None, der.sequence(der.key(2, b"\x7f\0\0\1"))])
     start, name = draw.choice([None, some_time(draw, BASE)]), der.name(draw.choice([0, 1]), *client[1])
-    times = often(draw, BASE - 100, some_time(draw, BASE)), often(draw, BASE + 36_000, BASE - 299, BASE - 300,
-                                                                  BASE - 301)
+    authtime = often(draw, BASE - 100, some_time(draw, BASE))
+    times = authtime, often(draw, BASE + 36_000, BASE - 299, BASE - 300, BASE - 301)
     lists = {"addresses": addresses, "data": authorization(draw)}
     return der.enc_ticket_part(flags, der.key(etype, key), client[0], name, *times, start=start, renew=renew, **lists)
 
@@ -102,8 +102,8 @@ def authenticator(draw, client, seconds, micros):
 def ticket(draw, seals, entries, client, session):
     """A ticket under a key of the keytab, or nearly."""
     entry = draw.choice(entries)
-    usable = [it for it in entries if model.is_usable(it["etype"], it["key"])] or [{**entry, "etype": 19,
-                                                                                    "key": bytes(16)}]
+    usable = [it for it in entries if model.is_usable(it["etype"], it["key"])]
+    usable = usable or [{**entry, "etype": 19, "key": bytes(16)}]
     entry = often(draw, draw.choice(usable), *usable)
     etype, key = entry["etype"], often(draw, entry["key"], bytes(len(entry["key"])))
     cipher = seals.seal(etype, key, often(draw, 2, 11), some_bytes(draw, 16),

@@ -62,8 +62,8 @@ def configured_cache():
     client = principal(1, b"EX", b"alice")
     server = principal(0, b"X-CACHECONF:", b"krb5_ccache_conf_data", b"fast_avail")
     header = bytes.fromhex("00010008fffffffe00000007" "00020003aabbcc")
-    return b"\x05\x04" + struct.pack(">H", len(header)) + header + client + credential(client, server, 0, b"",
-                                                                                       (0, 0, 0, 0), b"yes")
+    entry = credential(client, server, 0, b"", (0, 0, 0, 0), b"yes")
+    return b"\x05\x04" + struct.pack(">H", len(header)) + header + client + entry
 
 
 def context(is_mutual, flags=0, bindings=bytes(16)):

@@ -3,6 +3,8 @@ the keys of each keytab added to each; and each beginning of a keytab.
 
 What is expected comes from tests/support/reference.py, and from the edits of tests/support/drawn_files.py.
 """
+import struct
+
 from support import EXAMPLES, drawn_files, reference
 from support.generated_exchange import entry, keytab_of
 
@@ -41,8 +43,8 @@ def remove_cases():
                         for size in range(0, len(data), 1 + len(data) // 100))
     many = keytab_of([entry([b"host", b"web"], 1 + at % 1000, 19, bytes(16)) for at in range(100_000)])
     yield from (removing("100,000 entries", many, index) for index in (0, 50_000, 99_999, 100_000))
-    limit = b"\x05\x02" + many[2:56] + (-(reference.LIMIT - 60) & 0xFFFFFFFF).to_bytes(4,
-                                                                                       "big") + b"\xaa" * (reference.LIMIT - 60)
+    room = reference.LIMIT - 60
+    limit = b"\x05\x02" + many[2:56] + struct.pack(">i", -room) + b"\xaa" * room
     yield removing("a file at the limit", limit, 0)
     yield removing("a byte past the limit", limit + b"\0", 0)
 

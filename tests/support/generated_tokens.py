@@ -97,6 +97,18 @@ def conversation(draw, number):
 # ---------------------------------------------------------------- the fixture's tokens
 
 
+def bare(request):
+    return gss_rules.kerberos(KERBEROS, request)
+
+
+def negotiated(request):
+    return gss_rules.negotiation([KERBEROS], bare(request))
+
+
+def negotiated_by_microsofts_name(request):
+    return gss_rules.negotiation([MICROSOFT], bare(request))
+
+
 def fixture_service():
     """The fixture's service, to which its requests are known."""
     seals = model.Seals()
@@ -107,11 +119,11 @@ def fixture_service():
 
 REQUEST = fixture.request(0x20000000)
 TOKENS = {
-    "a token of Kerberos": gss_rules.kerberos(KERBEROS, REQUEST),
+    "a token of Kerberos": bare(REQUEST),
     "a token by Microsoft's name": gss_rules.kerberos(MICROSOFT, REQUEST),
-    "a negotiation": gss_rules.negotiation([KERBEROS], gss_rules.kerberos(KERBEROS, REQUEST)),
+    "a negotiation": negotiated(REQUEST),
     "a negotiation of Windows": gss_rules.negotiation([MICROSOFT, KERBEROS, NTLM],
-                                                      gss_rules.kerberos(KERBEROS, REQUEST)),
+                                                      bare(REQUEST)),
     "a negotiation with all fields": gss_rules.negotiation([MICROSOFT], gss_rules.kerberos(MICROSOFT, REQUEST),
                                                            b"\x01\x02", b"mic"),
 }
@@ -147,9 +159,7 @@ def fixture_cases():
 
 def refused_cases():
     """Each cause, in each wrapping: the error is in the client's."""
-    for front, around in (("bare Kerberos", lambda it: gss_rules.kerberos(KERBEROS, it)),
-                          ("negotiated Microsoft Kerberos",
-                           lambda it: gss_rules.negotiation([MICROSOFT], gss_rules.kerberos(KERBEROS, it)))):
+    for front, around in (("bare Kerberos", bare), ("negotiated Microsoft Kerberos", negotiated_by_microsofts_name)):
         for cause, request in c_cases.refused():
             name = cause.title().replace("_", "")
             code = model.CODES[name]
@@ -161,9 +171,7 @@ def refused_cases():
 def long_cases():
     """A request with 100,000 bytes of authorization data, and tokens of as many bytes as there may be."""
     large = c_cases.request(c_cases.large_ticket())
-    for name, around in (("bare", lambda it: gss_rules.kerberos(KERBEROS, it)),
-                         ("negotiated", lambda it: gss_rules.negotiation([KERBEROS],
-                                                                         gss_rules.kerberos(KERBEROS, it)))):
+    for name, around in (("bare", bare), ("negotiated", negotiated)):
         accepted = f"accepted alice@EX 19 {MOMENT[0]} {MOMENT[1]} plain\n"
         yield accepting(f"a large ticket, {name}", fixture.keytab(), [fixture_line(around(large))], [accepted])
         most = longest(around)
@@ -190,8 +198,7 @@ def request_cases():
     words = ["request", "f", "host/web@EX", f"--time={MOMENT[0]}", f"--usec={MOMENT[1]}",
              f"--confounder={bytes(range(0x20, 0x30)).hex()}"]
     some = LIMIT - 1000
-    for kind, around in (("gss", lambda it: gss_rules.kerberos(KERBEROS, it)),
-                         ("spnego", lambda it: gss_rules.negotiation([KERBEROS], gss_rules.kerberos(KERBEROS, it)))):
+    for kind, around in (("gss", bare), ("spnego", negotiated)):
         for options, more in ((0, ()), (0x20000000, ("--mutual",))):
             yield {"name": f"request: {kind} {' '.join(more)}", "args": [*words, *more, "--token", kind],
                    "files": {"f": fixture.cache()},

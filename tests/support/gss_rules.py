@@ -257,9 +257,8 @@ def large():
 
 def response(name, token, state):
     """A NegTokenResp of negState, supportedMech and responseToken."""
-    fields = element(0xA0, element(0x0A, bytes([state]))) + element(0xA1,
-                                                                    element(0x06, name)) + element(0xA2,
-                                                                                                   element(0x04, token))
+    parts = (0xA0, 0x0A, bytes([state])), (0xA1, 0x06, name), (0xA2, 0x04, token)
+    fields = b"".join(element(outer, element(tag, content)) for outer, tag, content in parts)
     return element(0xA1, element(0x30, fields))
 
 
@@ -339,8 +338,8 @@ def checksums(rng):
         yield f"checksum {other.hex() or '-'}", checksum_answer(other)
     wanted = rng.choice((bindings, bytes(16), bindings[:15] + b"\x01"))
     read = checksum_answer(text)
-    yield f"bindings {text.hex()} {wanted.hex()}", read if read.startswith("refused") else str(wanted
-                                                                                               == bindings).lower()
+    same = str(wanted == bindings).lower()
+    yield f"bindings {text.hex()} {wanted.hex()}", read if read.startswith("refused") else same
 
 
 def drawn():

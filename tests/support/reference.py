@@ -246,8 +246,8 @@ def list_of(items):
 
 
 def credential_of(item):
-    front = name_of(item["client"]) + name_of(item["server"]) + struct.pack(">h",
-                                                                            item["etype"]) + data32_of(item["key"])
+    front = name_of(item["client"]) + name_of(item["server"])
+    front += struct.pack(">h", item["etype"]) + data32_of(item["key"])
     times = [item[word] for word in ("authtime", "starttime", "endtime", "renew_till")]
     lists = list_of(item["addresses"]) + list_of(item["authdata"])
     return front + struct.pack(">4IBI", *times, item["is_skey"],

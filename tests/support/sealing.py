@@ -59,8 +59,8 @@ def checksum(etype, key, usage, text):
 
 def check():
     for etype, size, confounder, wanted in SEALED:
-        assert sealed(etype, BASE[etype], 2, bytes.fromhex(confounder), bytes(range(size))).hex() == wanted, (etype,
-                                                                                                              size)
+        found = sealed(etype, BASE[etype], 2, bytes.fromhex(confounder), bytes(range(size)))
+        assert found.hex() == wanted, (etype, size)
     for etype, wanted in CHECKSUMS:
         assert checksum(etype, BASE[etype], 2, bytes(range(21))).hex() == wanted, etype
 

@@ -46,5 +46,5 @@ def drawn():
             plain, cipher = text[:size].hex(), stolen(key, text[:size]).hex()
             lines = [f"cts {call} {key.hex()} {it}" for call,
                      it in (("encrypt", plain), ("decrypt", cipher), ("after-first", cipher))]
-            yield "krb_calls_wire", f"stealing: {size} bytes, a key of {len(key)}", lines, [cipher, plain,
-                                                                                            plain[32:] or "-"]
+            name, answers = f"stealing: {size} bytes, a key of {len(key)}", [cipher, plain, plain[32:] or "-"]
+            yield "krb_calls_wire", name, lines, answers
