@@ -9,6 +9,7 @@ def test_call(case, checks):
     checks.all(calls.answered([case]))
 
 
+@pytest.mark.slow
 @pytest.mark.parametrize("part", drawn_exchange.PARTS)
 def test_drawn(part, checks):
     checks.all(calls.answered(drawn_exchange.drawn(part), checks.word))

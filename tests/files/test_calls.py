@@ -9,6 +9,7 @@ def test_call(case, checks):
     checks.all(calls.answered([case]))
 
 
+@pytest.mark.slow
 @pytest.mark.parametrize("part", drawn_files.PARTS, ids=lambda it: it.__name__)
 def test_drawn(part, checks):
     checks.all(calls.answered(part(), checks.word))

@@ -9,6 +9,7 @@ def test_call(case, checks):
     checks.all(calls.answered([case]))
 
 
+@pytest.mark.slow
 @pytest.mark.parametrize("model", [der_rules, msg_rules], ids=lambda it: it.__name__.rpartition(".")[2])
 def test_drawn(model, checks):
     checks.all(calls.answered(model.drawn(), checks.word))
