@@ -100,5 +100,5 @@ test:
 
 lint:
 	flake8 tests
-	clang-format --dry-run --Werror $$(git ls-files 'tests/*.c' 'tests/*.h')
+	clang-format --dry-run --Werror $$(git ls-files 'tests/peers/*.[ch]' 'tests/support/*.[ch]')
 	shellcheck --severity=warning --exclude=SC2164 $(SHELL_FILES)

@@ -26,16 +26,15 @@ static inline void is(const char *what, long long found, long long wanted)
     printf("wrong: %s: %lld, not %lld\n", what, found, wanted);
 }
 
-static inline void is_answer(const char *what, fevstunik_answer found, unsigned code, int kerberos, size_t at,
-                             size_t size)
+static inline void is_answer(const char *what, fevstunik_answer found, unsigned code, int kerberos, size_t at, size_t size)
 {
     if (found.code == code && found.kerberos == kerberos && found.at == at && found.size == size) {
         passed++;
         return;
     }
     failed++;
-    printf("wrong: %s: {%u, %d, %zu, %zu}, not {%u, %d, %zu, %zu}\n", what, found.code, found.kerberos, found.at,
-           found.size, code, kerberos, at, size);
+    printf("wrong: %s: {%u, %d, %zu, %zu}, not {%u, %d, %zu, %zu}\n", what, found.code, found.kerberos, found.at, found.size, code,
+           kerberos, at, size);
 }
 
 static inline void is_bytes(const char *what, const uint8_t *found, const void *wanted, size_t size)

@@ -1,5 +1,5 @@
 /* Each fault that the header names of a function, with ample memory: that of a call is told, and nothing else. The arguments are the files of
- * the keytab and of the cache, and the reply in hex. Lines of standard input have what tests/support/c_cases.py makes:
+ * the keytab and of the cache, and the reply in hex. Lines of standard input have what tests/c_cases.py makes:
  *
  *     request CODE KERBEROS HEX      a new service with the keytab answers this to the request
  *     cache CODE KERBEROS HEX        this is answered where a request is asked for with the cache */
@@ -42,15 +42,13 @@ static void prevented(const char *what, struct asked it, unsigned code, size_t a
     choice.subkey_type = it.subkey_type;
     is(what, held.opaque != NULL, answer.code == FEVSTUNIK_OK);
     if (answer.code == FEVSTUNIK_OK)
-        answer = fevstunik_request(&held, &pending, it.service, it.service_size, &it.at, cache.at, 16, &choice,
-                                   cache.at, it.subkey_size, buffer, sizeof buffer);
+        answer = fevstunik_request(&held, &pending, it.service, it.service_size, &it.at, cache.at, 16, &choice, cache.at, it.subkey_size,
+                                   buffer, sizeof buffer);
     is_answer(what, answer, code, 0, at, 0);
     is("nothing is awaited", pending.opaque == NULL, 1);
     if (held.opaque != NULL)
-        is_answer(what,
-                  fevstunik_context_request(&held, &pending, it.service, it.service_size, &it.at, cache.at, 16, &choice,
-                                            cache.at, it.subkey_size, &context, buffer, sizeof buffer),
-                  code, 0, at, 0);
+        is_answer(what, fevstunik_context_request(&held, &pending, it.service, it.service_size, &it.at, cache.at, 16, &choice, cache.at,
+                                                  it.subkey_size, &context, buffer, sizeof buffer), code, 0, at, 0);
     is("nothing is awaited in a context", pending.opaque == NULL, 1);
     fevstunik_cache_free(&held);
 }
@@ -108,9 +106,7 @@ static void is_no_keytab(const char *what, const uint8_t *file, size_t size, uns
     fevstunik_acceptor_free(&service);
     is_answer(what, fevstunik_keytab_check(file, size), code, 0, at, 0);
     is_answer(what, entry_in(file, size, 0, &entry, buffer, sizeof buffer), code, 0, at, 0);
-    is_answer(what,
-              fevstunik_keytab_add(file, size, (const uint8_t *)"a@EX", 4, cache.at, 16, &parts, buffer, sizeof buffer),
-              code, 0, at, 0);
+    is_answer(what, fevstunik_keytab_add(file, size, (const uint8_t *)"a@EX", 4, cache.at, 16, &parts, buffer, sizeof buffer), code, 0, at, 0);
     is_answer(what, fevstunik_keytab_remove(file, size, 0, buffer, sizeof buffer), code, 0, at, 0);
     is_answer(what, fevstunik_keytab_write(file, size, buffer, sizeof buffer), code, 0, at, 0);
 }
@@ -153,18 +149,14 @@ static void keys(void)
 {
     uint8_t *key = cache.at;
 
-    is_answer("seal", fevstunik_seal(18, key, 32, 2, key, 16, key, 5, buffer, sizeof buffer), FEVSTUNIK_KEY_TYPE, 0, 0,
-              0);
-    is_answer("seal", fevstunik_seal(19, key, 32, 2, key, 16, key, 5, buffer, sizeof buffer), FEVSTUNIK_KEY_LENGTH, 0,
-              0, 0);
+    is_answer("seal", fevstunik_seal(18, key, 32, 2, key, 16, key, 5, buffer, sizeof buffer), FEVSTUNIK_KEY_TYPE, 0, 0, 0);
+    is_answer("seal", fevstunik_seal(19, key, 32, 2, key, 16, key, 5, buffer, sizeof buffer), FEVSTUNIK_KEY_LENGTH, 0, 0, 0);
     is_answer("open", fevstunik_open(18, key, 32, 2, key, 40, buffer, sizeof buffer), FEVSTUNIK_KEY_TYPE, 0, 0, 0);
     is_answer("open", fevstunik_open(20, key, 16, 2, key, 40, buffer, sizeof buffer), FEVSTUNIK_KEY_LENGTH, 0, 0, 0);
     is_answer("open", fevstunik_open(20, key, 32, 2, key, 39, buffer, sizeof buffer), FEVSTUNIK_TEXT_SHORT, 0, 0, 0);
-    is_answer("open", fevstunik_open(20, key, 32, 2, key, 40, buffer, sizeof buffer), FEVSTUNIK_TEXT_INTEGRITY, 0, 0,
-              0);
+    is_answer("open", fevstunik_open(20, key, 32, 2, key, 40, buffer, sizeof buffer), FEVSTUNIK_TEXT_INTEGRITY, 0, 0, 0);
     is_answer("checksum", fevstunik_checksum(0, key, 0, 2, key, 5, buffer, sizeof buffer), FEVSTUNIK_KEY_TYPE, 0, 0, 0);
-    is_answer("checksum", fevstunik_checksum(20, key, 31, 2, key, 5, buffer, sizeof buffer), FEVSTUNIK_KEY_LENGTH, 0, 0,
-              0);
+    is_answer("checksum", fevstunik_checksum(20, key, 31, 2, key, 5, buffer, sizeof buffer), FEVSTUNIK_KEY_LENGTH, 0, 0, 0);
     is_answer("check", fevstunik_checksum_check(-20, key, 32, 2, key, 5, key, 24), FEVSTUNIK_KEY_TYPE, 0, 0, 0);
     is_answer("check", fevstunik_checksum_check(20, key, 33, 2, key, 5, key, 24), FEVSTUNIK_KEY_LENGTH, 0, 0, 0);
     is_answer("check", fevstunik_checksum_check(20, key, 32, 2, key, 5, key, 24), FEVSTUNIK_TEXT_INTEGRITY, 0, 0, 0);
@@ -180,14 +172,11 @@ static void is_no_service(const char *what, const uint8_t *name, size_t size, un
     held = service.opaque;
     is_answer(what, fevstunik_acceptor_new(&service, keytab.at, keytab.size, 86400, name, size), code, 0, at, 0);
     is("it stays", service.opaque == held, 1);
-    is_answer(what, fevstunik_acceptor_started(&service, keytab.at, keytab.size, 86400, name, size, &sent), code, 0, at,
-              0);
+    is_answer(what, fevstunik_acceptor_started(&service, keytab.at, keytab.size, 86400, name, size, &sent), code, 0, at, 0);
     is("it stays then", service.opaque == held, 1);
     is_answer(what, fevstunik_acceptor_replace_keytab(&service, keytab.at, keytab.size, name, size), code, 0, at, 0);
-    is_answer("the skew first", fevstunik_acceptor_new(&service, keytab.at, keytab.size, 86401, name, size),
-              FEVSTUNIK_BAD_SKEW, 0, 0, 0);
-    is_answer("the keytab then", fevstunik_acceptor_new(&service, keytab.at, 1, 86400, name, size),
-              FEVSTUNIK_FILE_VERSION, 0, 0, 0);
+    is_answer("the skew first", fevstunik_acceptor_new(&service, keytab.at, keytab.size, 86401, name, size), FEVSTUNIK_BAD_SKEW, 0, 0, 0);
+    is_answer("the keytab then", fevstunik_acceptor_new(&service, keytab.at, 1, 86400, name, size), FEVSTUNIK_FILE_VERSION, 0, 0, 0);
     fevstunik_acceptor_free(&service);
 }
 
@@ -208,20 +197,15 @@ static void is_refused(const char *what, const uint8_t *request, size_t size, un
     is_answer("new", fevstunik_acceptor_new(&service, keytab.at, keytab.size, 300, EACH_NAME), FEVSTUNIK_OK, 0, 0, 0);
     is_answer("ready", fevstunik_accepted_new(&accepted), FEVSTUNIK_OK, 0, 0, 0);
     is_answer(what, fevstunik_acceptor_accept(&service, &accepted, request, size, &sent), code, kerberos, 0, 0);
-    is_answer("no reply", fevstunik_accepted_reply(&accepted, request, 16, &choice, request, 0, buffer, sizeof buffer),
-              FEVSTUNIK_NOTHING_THERE, 0, 0, 0);
-    is_answer("a long name",
-              fevstunik_acceptor_error(&service, long_name, sizeof long_name, 3, &sent, buffer, sizeof buffer),
+    is_answer("no reply", fevstunik_accepted_reply(&accepted, request, 16, &choice, request, 0, buffer, sizeof buffer), FEVSTUNIK_NOTHING_THERE,
+              0, 0, 0);
+    is_answer("a long name", fevstunik_acceptor_error(&service, long_name, sizeof long_name, 3, &sent, buffer, sizeof buffer),
               FEVSTUNIK_TOO_LONG, 0, 0, 0);
-    is("an error",
-       fevstunik_acceptor_error(&service, long_name + LONG_NAME - 1, 4, 3, &sent, buffer, sizeof buffer).code,
-       FEVSTUNIK_OK);
+    is("an error", fevstunik_acceptor_error(&service, long_name + LONG_NAME - 1, 4, 3, &sent, buffer, sizeof buffer).code, FEVSTUNIK_OK);
     is("its code", buffer[42], kerberos);
     memset(buffer, 0, sizeof buffer);
-    is_answer("a long name", fevstunik_error(code, long_name, sizeof long_name, 3, &sent, buffer, sizeof buffer),
-              FEVSTUNIK_TOO_LONG, 0, 0, 0);
-    is("an error by code", fevstunik_error(code, long_name + LONG_NAME - 1, 4, 3, &sent, buffer, sizeof buffer).code,
-       FEVSTUNIK_OK);
+    is_answer("a long name", fevstunik_error(code, long_name, sizeof long_name, 3, &sent, buffer, sizeof buffer), FEVSTUNIK_TOO_LONG, 0, 0, 0);
+    is("an error by code", fevstunik_error(code, long_name + LONG_NAME - 1, 4, 3, &sent, buffer, sizeof buffer).code, FEVSTUNIK_OK);
     is("its code then", buffer[42], kerberos);
     fevstunik_acceptor_free(&service);
     fevstunik_accepted_free(&accepted);

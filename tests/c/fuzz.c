@@ -210,22 +210,19 @@ static void one(fevstunik_acceptor *service, fevstunik_accepted *accepted, long 
         bend(&keytab);
         look(fevstunik_acceptor_new(&other, bent.at, bent.size, below(86402), bent.at, below(20)), bent.size, ROOM, at);
         look(fevstunik_acceptor_accept(&other, accepted, request.at, request.size, &now), request.size, ROOM, at);
-        look(fevstunik_acceptor_started(&other, keytab.at, keytab.size, below(86402), bent.at, below(20), &now), 20,
-             ROOM, at);
+        look(fevstunik_acceptor_started(&other, keytab.at, keytab.size, below(86402), bent.at, below(20), &now), 20, ROOM, at);
         look(fevstunik_acceptor_error(&other, bent.at, bent.size, 3, &now, buffer, room), bent.size, room, at);
         look(fevstunik_error(below(300), bent.at, bent.size, 3, &now, buffer, room), bent.size, room, at);
         look(entry_in(bent.at, bent.size, below(3), &entry, buffer, room), bent.size, room, at);
         look(fevstunik_keytab_remove(bent.at, bent.size, below(3), buffer, room), bent.size, room, at);
         look(fevstunik_keytab_write(bent.at, bent.size, buffer, room), bent.size, room, at);
-        look(fevstunik_keytab_add(bent.at, bent.size, (const uint8_t *)"a@EX", 4, cache.at, 16, &parts, buffer, room),
-             bent.size + 4, room, at);
+        look(fevstunik_keytab_add(bent.at, bent.size, (const uint8_t *)"a@EX", 4, cache.at, 16, &parts, buffer, room), bent.size + 4, room, at);
         fevstunik_acceptor_free(&other);
         break;
     case 1:
         bend(&cache);
         look(fevstunik_cache_new(&held, bent.at, bent.size), bent.size, ROOM, at);
-        look(fevstunik_request(&held, &pending, (const uint8_t *)"host/web@EX", 11, &now, cache.at, 16, &nothing,
-                               cache.at, 0, buffer, room),
+        look(fevstunik_request(&held, &pending, (const uint8_t *)"host/web@EX", 11, &now, cache.at, 16, &nothing, cache.at, 0, buffer, room),
              bent.size, room, at);
         fevstunik_cache_free(&held);
         look(credential_in(bent.at, bent.size, below(3), &credential, buffer, room), bent.size, room, at);
@@ -245,8 +242,7 @@ static void one(fevstunik_acceptor *service, fevstunik_accepted *accepted, long 
     default:
         bend_message(&reply);
         look(fevstunik_cache_new(&held, cache.at, cache.size), cache.size, ROOM, at);
-        look(fevstunik_request(&held, &pending, (const uint8_t *)"host/web@EX", 11, &now, cache.at, 16, &nothing,
-                               cache.at, 0, buffer, room),
+        look(fevstunik_request(&held, &pending, (const uint8_t *)"host/web@EX", 11, &now, cache.at, 16, &nothing, cache.at, 0, buffer, room),
              cache.size, room, at);
         look(fevstunik_finish(&pending, bent.at, bent.size, &agreement, buffer, room), bent.size, room, at);
         fevstunik_cache_free(&held);
@@ -268,9 +264,7 @@ int main(int count, char **words)
     state = strtoull(words[6], NULL, 10);
     for (at = 0; at < most; at++) {
         /* A new service now and then, which hasn't seen the request. */
-        if (at % 8 == 0 &&
-            fevstunik_acceptor_new(&service, keytab.at, keytab.size, 300, (const uint8_t *)"host/web@EX", 11).code !=
-                FEVSTUNIK_OK)
+        if (at % 8 == 0 && fevstunik_acceptor_new(&service, keytab.at, keytab.size, 300, (const uint8_t *)"host/web@EX", 11).code != FEVSTUNIK_OK)
             wrong("a new service", at);
         /* And now and then nothing is ready for what is accepted, or what was accepted is freed. */
         if (at % 64 == 0)
@@ -284,8 +278,7 @@ int main(int count, char **words)
     for (at = 0; at < 64; at++)
         if (counts[at] > 0)
             printf("%ld: %ld\n", at, counts[at]);
-    if (counts[FEVSTUNIK_OK] == 0 || counts[FEVSTUNIK_AUTHENTICATOR_INTEGRITY] == 0 ||
-        counts[FEVSTUNIK_REPLY_INTEGRITY] == 0)
+    if (counts[FEVSTUNIK_OK] == 0 || counts[FEVSTUNIK_AUTHENTICATOR_INTEGRITY] == 0 || counts[FEVSTUNIK_REPLY_INTEGRITY] == 0)
         wrong("what was reached", most);
     return 0;
 }

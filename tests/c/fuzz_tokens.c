@@ -107,11 +107,7 @@ static void put_mechanism(void)
     static const struct {
         const uint8_t *at;
         size_t size;
-    } names[] = {{kerberos, sizeof kerberos},
-                 {windows, sizeof windows},
-                 {ntlm, sizeof ntlm},
-                 {iakerb, sizeof iakerb},
-                 {negotiation, sizeof negotiation}};
+    } names[] = {{kerberos, sizeof kerberos}, {windows, sizeof windows}, {ntlm, sizeof ntlm}, {iakerb, sizeof iakerb}, {negotiation, sizeof negotiation}};
     size_t end = front;
     uint32_t which = below(12), most = sizeof names / sizeof *names;
 
@@ -278,16 +274,16 @@ static uint64_t now(void)
 }
 
 /* A call and how long it takes. */
-#define TIMED(answer, call)                                                                                            \
-    do {                                                                                                               \
-        uint64_t began = now();                                                                                        \
-                                                                                                                       \
-        answer = call;                                                                                                 \
-        began = now() - began;                                                                                         \
-        if (began > slowest)                                                                                           \
-            slowest = began;                                                                                           \
-        if (began > limit)                                                                                             \
-            wrong("a slow call, " #call);                                                                              \
+#define TIMED(answer, call)             \
+    do {                                \
+        uint64_t began = now();         \
+                                        \
+        answer = call;                  \
+        began = now() - began;          \
+        if (began > slowest)            \
+            slowest = began;            \
+        if (began > limit)              \
+            wrong("a slow call, " #call); \
     } while (0)
 
 static int is_within(uint32_t code, uint32_t first, uint32_t last)
@@ -296,8 +292,7 @@ static int is_within(uint32_t code, uint32_t first, uint32_t last)
 }
 
 /* The answer is one of the header's, of these numbers, and its numbers are within what was handed in. */
-static void look(fevstunik_answer answer, uint32_t first, uint32_t last, size_t handed, const struct bytes *into,
-                 size_t room)
+static void look(fevstunik_answer answer, uint32_t first, uint32_t last, size_t handed, const struct bytes *into, size_t room)
 {
     if (strcmp(fevstunik_code_name(answer.code), "FEVSTUNIK_UNKNOWN") == 0 || !is_within(answer.code, first, last))
         wrong("a code");
@@ -329,8 +324,8 @@ static void wrap_again(const fevstunik_wrapped *wrapped)
     if (answer.code == FEVSTUNIK_TOO_LONG)
         return;
     answer = fevstunik_token_open(answered.at, answer.size, &other, token.at, MOST);
-    if (answer.code != FEVSTUNIK_OK || answer.size != opened.size || memcmp(token.at, opened.at, opened.size) != 0 ||
-        other.mechanism != wrapped->mechanism || other.negotiated != wrapped->negotiated)
+    if (answer.code != FEVSTUNIK_OK || answer.size != opened.size || memcmp(token.at, opened.at, opened.size) != 0
+        || other.mechanism != wrapped->mechanism || other.negotiated != wrapped->negotiated)
         wrong("a request that doesn't open again");
 }
 
@@ -394,8 +389,7 @@ static void as_client(void)
     look(answer, FEVSTUNIK_NOT_A_TOKEN, FEVSTUNIK_NESTED_NEGOTIATION, token.size, &answered, room);
     if (answer.code == FEVSTUNIK_TOKEN_CONTINUES)
         wrong("a code of a client");
-    if (answer.code == FEVSTUNIK_OK && answer.size > 0 &&
-        memmem(token.at, token.size, answered.at, answer.size) == NULL)
+    if (answer.code == FEVSTUNIK_OK && answer.size > 0 && memmem(token.at, token.size, answered.at, answer.size) == NULL)
         wrong("a reply that isn't in the token");
 }
 
@@ -439,23 +433,11 @@ static void read_inputs(char **words)
 /* Each code that these calls may answer was reached. */
 static void reached(void)
 {
-    static const uint32_t codes[] = {FEVSTUNIK_OK,
-                                     FEVSTUNIK_SHORT_BUFFER,
-                                     FEVSTUNIK_MESSAGE_TYPE,
-                                     FEVSTUNIK_MALFORMED,
-                                     FEVSTUNIK_REPEAT,
-                                     FEVSTUNIK_NOT_A_TOKEN,
-                                     FEVSTUNIK_TOKEN_MALFORMED,
-                                     FEVSTUNIK_TOKEN_CONTINUES,
-                                     FEVSTUNIK_TOKEN_EMPTY,
-                                     FEVSTUNIK_TOKEN_ID,
-                                     FEVSTUNIK_OTHER_MECHANISM,
-                                     FEVSTUNIK_NTLM,
-                                     FEVSTUNIK_IAKERB,
-                                     FEVSTUNIK_NESTED_NEGOTIATION,
-                                     FEVSTUNIK_CONTEXT_TRUNCATED,
-                                     FEVSTUNIK_CONTEXT_BINDINGS,
-                                     FEVSTUNIK_CONTEXT_DELEGATION};
+    static const uint32_t codes[] = {
+        FEVSTUNIK_OK, FEVSTUNIK_SHORT_BUFFER, FEVSTUNIK_MESSAGE_TYPE, FEVSTUNIK_MALFORMED, FEVSTUNIK_REPEAT, FEVSTUNIK_NOT_A_TOKEN,
+        FEVSTUNIK_TOKEN_MALFORMED, FEVSTUNIK_TOKEN_CONTINUES, FEVSTUNIK_TOKEN_EMPTY, FEVSTUNIK_TOKEN_ID, FEVSTUNIK_OTHER_MECHANISM,
+        FEVSTUNIK_NTLM, FEVSTUNIK_IAKERB, FEVSTUNIK_NESTED_NEGOTIATION, FEVSTUNIK_CONTEXT_TRUNCATED, FEVSTUNIK_CONTEXT_BINDINGS,
+        FEVSTUNIK_CONTEXT_DELEGATION};
 
     for (size_t at = 0; at < sizeof codes / sizeof *codes; at++) {
         printf("%s: %ld\n", fevstunik_code_name(codes[at]), counts[codes[at]]);
@@ -475,9 +457,8 @@ int main(int count, char **words)
         return 2;
     read_inputs(words);
     tokens = atol(words[3]);
-    if (fevstunik_acceptor_new(&service, keytab.at, keytab.size, 300, (const uint8_t *)"host/web@EX", 11).code !=
-            FEVSTUNIK_OK ||
-        fevstunik_accepted_new(&accepted).code != FEVSTUNIK_OK)
+    if (fevstunik_acceptor_new(&service, keytab.at, keytab.size, 300, (const uint8_t *)"host/web@EX", 11).code != FEVSTUNIK_OK
+        || fevstunik_accepted_new(&accepted).code != FEVSTUNIK_OK)
         wrong("a service");
     for (number = 0; number < tokens; number++) {
         draw();

@@ -73,8 +73,8 @@ static void accepted_item(const fevstunik_accepted *accepted)
     size_t i, wrong = 0;
 
     is_answer("lists", fevstunik_accepted_count(accepted, FEVSTUNIK_LIST_TICKET_AUTHORIZATION), FEVSTUNIK_OK, 0, 0, 1);
-    is_answer("data", fevstunik_accepted_item(accepted, FEVSTUNIK_LIST_TICKET_AUTHORIZATION, 0, &kind, buffer, room),
-              FEVSTUNIK_OK, 0, 0, DATA);
+    is_answer("data", fevstunik_accepted_item(accepted, FEVSTUNIK_LIST_TICKET_AUTHORIZATION, 0, &kind, buffer, room), FEVSTUNIK_OK, 0, 0,
+              DATA);
     for (i = 0; i < DATA; i++)
         wrong += buffer[i] != i % 251;
     is("its type", kind, 1);
@@ -94,19 +94,16 @@ static void acceptance(void)
 
     is_answer("service", fevstunik_acceptor_new(&service, keytab.at, keytab.size, 300, WEB), FEVSTUNIK_OK, 0, 0, 0);
     is_answer("ready", fevstunik_accepted_new(&accepted), FEVSTUNIK_OK, 0, 0, 0);
-    is_answer("accept", fevstunik_acceptor_accept(&service, &accepted, request.at, request.size, &now), FEVSTUNIK_OK, 0,
-              0, 0);
+    is_answer("accept", fevstunik_acceptor_accept(&service, &accepted, request.at, request.size, &now), FEVSTUNIK_OK, 0, 0, 0);
     is_answer("known", fevstunik_accepted_known(&accepted, &known, buffer, room), FEVSTUNIK_OK, 0, 0, 8 + 16 + 11);
     is_bytes("client", buffer + known.client.at, "alice@EX", 8);
     accepted_item(&accepted);
-    is_answer("again", fevstunik_acceptor_accept(&service, &accepted, request.at, request.size, &now), FEVSTUNIK_REPEAT,
-              34, 0, 0);
+    is_answer("again", fevstunik_acceptor_accept(&service, &accepted, request.at, request.size, &now), FEVSTUNIK_REPEAT, 34, 0, 0);
     is("cache", fevstunik_cache_new(&credentials, cache.at, cache.size).code, FEVSTUNIK_OK);
     answer = fevstunik_request(&credentials, &pending, WEB, &now, buffer, 16, &choice, buffer, 0, buffer, room);
     is("request", answer.code, FEVSTUNIK_OK);
     is("its size", answer.size > DATA, 1);
-    is_answer("accepted", fevstunik_acceptor_accept(&service, &accepted, buffer, answer.size, &now), FEVSTUNIK_OK, 0, 0,
-              0);
+    is_answer("accepted", fevstunik_acceptor_accept(&service, &accepted, buffer, answer.size, &now), FEVSTUNIK_OK, 0, 0, 0);
     accepted_item(&accepted);
     is("remembered", (long long)fevstunik_acceptor_count(&service), 2);
     fevstunik_pending_free(&pending);
@@ -140,14 +137,12 @@ static void sealing(void)
         exit(2);
     answer = fevstunik_seal(20, keytab.at, 32, 1024, keytab.at, 16, plain, size, sealed, size + 40);
     is_answer("seal", answer, FEVSTUNIK_OK, 0, 0, size + 40);
-    is_answer("open", fevstunik_open(20, keytab.at, 32, 1024, sealed, size + 40, buffer, room), FEVSTUNIK_OK, 0, 0,
-              size);
+    is_answer("open", fevstunik_open(20, keytab.at, 32, 1024, sealed, size + 40, buffer, room), FEVSTUNIK_OK, 0, 0, size);
     for (i = 0; i < size; i++)
         wrong += buffer[i] != 0;
     is("what is opened", (long long)wrong, 0);
     sealed[size] ^= 1;
-    is_answer("open bent", fevstunik_open(20, keytab.at, 32, 1024, sealed, size + 40, buffer, room),
-              FEVSTUNIK_TEXT_INTEGRITY, 0, 0, 0);
+    is_answer("open bent", fevstunik_open(20, keytab.at, 32, 1024, sealed, size + 40, buffer, room), FEVSTUNIK_TEXT_INTEGRITY, 0, 0, 0);
     free(plain);
     free(sealed);
 }

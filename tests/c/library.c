@@ -1,6 +1,6 @@
-/* Runs the library on the exchange that tests share (tests/support/fixture.py), with exact answers. The arguments are the files of the
+/* Runs the library on the exchange that tests share (tests/vectors/fixture.py), with exact answers. The arguments are the files of the
  * keytab and of the cache, and in hex the request, the request with a subkey, the reply, the reply with a subkey, the error, a cache of
- * two credentials with an offset, a request for another service, and a request with lists (tests/support/c_cases.py). */
+ * two credentials with an offset, a request for another service, and a request with lists (tests/c_cases.py). */
 #include "listed.h"
 #include "structs.h"
 
@@ -13,8 +13,7 @@
 #define FAR ((size_t)1 << 32)
 #define FILLED ((size_t)0x5a5a5a5a5a5a5a5a)
 
-static struct bytes keytab, cache, request, keyed, reply, keyed_reply, error, two, other, listed, negative,
-    negative_reply, with_start, at_the_end;
+static struct bytes keytab, cache, request, keyed, reply, keyed_reply, error, two, other, listed, negative, negative_reply, with_start, at_the_end;
 static uint8_t buffer[4096];
 /* What is accepted is kept here, if not said otherwise; the fixture's cache; and what is awaited of its requests. */
 static fevstunik_accepted accepted = FEVSTUNIK_ACCEPTED_INIT;
@@ -22,17 +21,9 @@ static fevstunik_cache credentials = FEVSTUNIK_CACHE_INIT;
 static fevstunik_pending pending = FEVSTUNIK_PENDING_INIT;
 static const fevstunik_choice nothing = {0, 0, false, false};
 /* What is known of the fixture's request. */
-static const fevstunik_known fixture_known = {.client = {0, 8},
-                                              .session_key = {8, 16},
-                                              .subkey = {24, 0},
-                                              .service = {24, 11},
-                                              .authtime = 1700000000,
-                                              .endtime = 1700036000,
-                                              .ctime = 1700000100,
-                                              .cusec = 5,
-                                              .name_type = 1,
-                                              .service_type = 3,
-                                              .session_type = 19};
+static const fevstunik_known fixture_known = {
+    .client = {0, 8}, .session_key = {8, 16}, .subkey = {24, 0}, .service = {24, 11}, .authtime = 1700000000, .endtime = 1700036000,
+    .ctime = 1700000100, .cusec = 5, .name_type = 1, .service_type = 3, .session_type = 19};
 
 /* An empty handle answers that it is empty, and stays so. */
 static void empty_handles(void)
@@ -41,14 +32,10 @@ static void empty_handles(void)
     fevstunik_time now = moment(1700000101, 0), bad = moment(0, 1000000);
     fevstunik_known known;
 
-    is_answer("accept of none", fevstunik_acceptor_accept(&service, &accepted, request.at, request.size, &now),
-              FEVSTUNIK_EMPTY_HANDLE, 0, 0, 0);
-    is_answer("a moment of none", fevstunik_acceptor_accept(&service, &accepted, request.at, request.size, &bad),
-              FEVSTUNIK_BAD_MOMENT, 0, 0, 0);
-    is_answer("accepted of none", fevstunik_accepted_known(&accepted, &known, buffer, sizeof buffer),
-              FEVSTUNIK_EMPTY_HANDLE, 0, 0, 0);
-    is_answer("reply of none",
-              fevstunik_accepted_reply(&accepted, request.at, 16, &nothing, request.at, 0, buffer, sizeof buffer),
+    is_answer("accept of none", fevstunik_acceptor_accept(&service, &accepted, request.at, request.size, &now), FEVSTUNIK_EMPTY_HANDLE, 0, 0, 0);
+    is_answer("a moment of none", fevstunik_acceptor_accept(&service, &accepted, request.at, request.size, &bad), FEVSTUNIK_BAD_MOMENT, 0, 0, 0);
+    is_answer("accepted of none", fevstunik_accepted_known(&accepted, &known, buffer, sizeof buffer), FEVSTUNIK_EMPTY_HANDLE, 0, 0, 0);
+    is_answer("reply of none", fevstunik_accepted_reply(&accepted, request.at, 16, &nothing, request.at, 0, buffer, sizeof buffer),
               FEVSTUNIK_EMPTY_HANDLE, 0, 0, 0);
     is_answer("error of none", fevstunik_acceptor_error(&service, request.at, 0, 3, &now, buffer, sizeof buffer),
               FEVSTUNIK_EMPTY_HANDLE, 0, 0, 0);
@@ -58,10 +45,9 @@ static void empty_handles(void)
     is("empty", service.opaque == NULL, 1);
     is_answer("ready", fevstunik_accepted_new(&accepted), FEVSTUNIK_OK, 0, 0, 0);
     is("ready", accepted.opaque != NULL, 1);
-    is_answer("accept of none then", fevstunik_acceptor_accept(&service, &accepted, request.at, request.size, &now),
-              FEVSTUNIK_EMPTY_HANDLE, 0, 0, 0);
-    is_answer("nothing kept", fevstunik_accepted_known(&accepted, &known, buffer, sizeof buffer),
-              FEVSTUNIK_NOTHING_THERE, 0, 0, 0);
+    is_answer("accept of none then", fevstunik_acceptor_accept(&service, &accepted, request.at, request.size, &now), FEVSTUNIK_EMPTY_HANDLE, 0,
+              0, 0);
+    is_answer("nothing kept", fevstunik_accepted_known(&accepted, &known, buffer, sizeof buffer), FEVSTUNIK_NOTHING_THERE, 0, 0, 0);
 }
 
 /* Where nothing is ready for what is accepted, nothing is decided. */
@@ -72,21 +58,15 @@ static void unready(void)
     fevstunik_time now = moment(1700000101, 7), late = moment(1700000401, 0), bad = moment(0, 1000000), latest;
 
     is_answer("new", fevstunik_acceptor_new(&service, keytab.at, keytab.size, 300, EACH_NAME), FEVSTUNIK_OK, 0, 0, 0);
-    is_answer("unready", fevstunik_acceptor_accept(&service, &none, request.at, request.size, &now),
-              FEVSTUNIK_EMPTY_HANDLE, 0, 0, 0);
+    is_answer("unready", fevstunik_acceptor_accept(&service, &none, request.at, request.size, &now), FEVSTUNIK_EMPTY_HANDLE, 0, 0, 0);
     is("it stays so", none.opaque == NULL, 1);
     is("nothing is seen", (long long)fevstunik_acceptor_count(&service), 0);
     is_answer("no moment", fevstunik_acceptor_latest(&service, &latest), FEVSTUNIK_NOTHING_THERE, 0, 0, 0);
-    is_answer("late", fevstunik_acceptor_accept(&service, &accepted, keyed.at, keyed.size, &late), FEVSTUNIK_SKEW, 37,
-              0, 0);
-    is_answer("unready then", fevstunik_acceptor_accept(&service, &none, request.at, request.size, &now),
-              FEVSTUNIK_EMPTY_HANDLE, 0, 0, 0);
-    is_answer("the cause stays", fevstunik_acceptor_error(&service, WEB, 3, &now, buffer, sizeof buffer), FEVSTUNIK_OK,
-              0, 0, error.size);
-    is_answer("unready, no moment", fevstunik_acceptor_accept(&service, &none, request.at, request.size, &bad),
-              FEVSTUNIK_BAD_MOMENT, 0, 0, 0);
-    is_answer("the cause is gone", fevstunik_acceptor_error(&service, WEB, 3, &now, buffer, sizeof buffer),
-              FEVSTUNIK_NOTHING_THERE, 0, 0, 0);
+    is_answer("late", fevstunik_acceptor_accept(&service, &accepted, keyed.at, keyed.size, &late), FEVSTUNIK_SKEW, 37, 0, 0);
+    is_answer("unready then", fevstunik_acceptor_accept(&service, &none, request.at, request.size, &now), FEVSTUNIK_EMPTY_HANDLE, 0, 0, 0);
+    is_answer("the cause stays", fevstunik_acceptor_error(&service, WEB, 3, &now, buffer, sizeof buffer), FEVSTUNIK_OK, 0, 0, error.size);
+    is_answer("unready, no moment", fevstunik_acceptor_accept(&service, &none, request.at, request.size, &bad), FEVSTUNIK_BAD_MOMENT, 0, 0, 0);
+    is_answer("the cause is gone", fevstunik_acceptor_error(&service, WEB, 3, &now, buffer, sizeof buffer), FEVSTUNIK_NOTHING_THERE, 0, 0, 0);
     fevstunik_accepted_free(&none);
     is("free of none", none.opaque == NULL, 1);
     fevstunik_acceptor_free(&service);
@@ -101,39 +81,28 @@ static void started_again(void)
     fevstunik_time now = moment(1700000100, 5), later = moment(1700000100, 6), latest;
     void *held;
 
-    is_answer("a start that is no moment",
-              fevstunik_acceptor_started(&service, keytab.at, keytab.size, 86401, EACH_NAME, &bad),
+    is_answer("a start that is no moment", fevstunik_acceptor_started(&service, keytab.at, keytab.size, 86401, EACH_NAME, &bad),
               FEVSTUNIK_BAD_MOMENT, 0, 0, 0);
     is("none is made", service.opaque == NULL, 1);
-    is_answer("the skew then", fevstunik_acceptor_started(&service, keytab.at, 1, 86401, EACH_NAME, &start),
-              FEVSTUNIK_BAD_SKEW, 0, 0, 0);
+    is_answer("the skew then", fevstunik_acceptor_started(&service, keytab.at, 1, 86401, EACH_NAME, &start), FEVSTUNIK_BAD_SKEW, 0, 0, 0);
     is_answer("ready", fevstunik_accepted_new(&kept), FEVSTUNIK_OK, 0, 0, 0);
-    is_answer("started", fevstunik_acceptor_started(&service, keytab.at, keytab.size, 300, WEB, &start), FEVSTUNIK_OK,
-              0, 0, 0);
+    is_answer("started", fevstunik_acceptor_started(&service, keytab.at, keytab.size, 300, WEB, &start), FEVSTUNIK_OK, 0, 0, 0);
     held = service.opaque;
-    is_answer("a bad start", fevstunik_acceptor_started(&service, keytab.at, keytab.size, 300, WEB, &bad),
-              FEVSTUNIK_BAD_MOMENT, 0, 0, 0);
+    is_answer("a bad start", fevstunik_acceptor_started(&service, keytab.at, keytab.size, 300, WEB, &bad), FEVSTUNIK_BAD_MOMENT, 0, 0, 0);
     is("it stays", service.opaque == held, 1);
-    is_answer("the start is no moment of its", fevstunik_acceptor_latest(&service, &latest), FEVSTUNIK_NOTHING_THERE, 0,
-              0, 0);
-    is_answer("at the skew", fevstunik_acceptor_accept(&service, &kept, request.at, request.size, &now),
-              FEVSTUNIK_JUST_STARTED, 37, 0, 0);
-    is_answer("by the client's clock", fevstunik_acceptor_accept(&service, &kept, request.at, request.size, &later),
-              FEVSTUNIK_JUST_STARTED, 37, 0, 0);
+    is_answer("the start is no moment of its", fevstunik_acceptor_latest(&service, &latest), FEVSTUNIK_NOTHING_THERE, 0, 0, 0);
+    is_answer("at the skew", fevstunik_acceptor_accept(&service, &kept, request.at, request.size, &now), FEVSTUNIK_JUST_STARTED, 37, 0, 0);
+    is_answer("by the client's clock", fevstunik_acceptor_accept(&service, &kept, request.at, request.size, &later), FEVSTUNIK_JUST_STARTED,
+              37, 0, 0);
     is("it is remembered", (long long)fevstunik_acceptor_count(&service), 1);
     is_answer("latest", fevstunik_acceptor_latest(&service, &latest), FEVSTUNIK_OK, 0, 0, 0);
     is("its microseconds", latest.micros, 6);
-    is_answer("another start", fevstunik_acceptor_started(&service, keytab.at, keytab.size, 300, WEB, &before),
-              FEVSTUNIK_OK, 0, 0, 0);
+    is_answer("another start", fevstunik_acceptor_started(&service, keytab.at, keytab.size, 300, WEB, &before), FEVSTUNIK_OK, 0, 0, 0);
     is("nothing is remembered", (long long)fevstunik_acceptor_count(&service), 0);
-    is_answer("later than the skew", fevstunik_acceptor_accept(&service, &kept, request.at, request.size, &now),
+    is_answer("later than the skew", fevstunik_acceptor_accept(&service, &kept, request.at, request.size, &now), FEVSTUNIK_OK, 0, 0, 0);
+    is_answer("a name that isn't served", fevstunik_acceptor_started(&service, keytab.at, keytab.size, 300, (const uint8_t *)"host/a@EX", 9, &start),
               FEVSTUNIK_OK, 0, 0, 0);
-    is_answer(
-        "a name that isn't served",
-        fevstunik_acceptor_started(&service, keytab.at, keytab.size, 300, (const uint8_t *)"host/a@EX", 9, &start),
-        FEVSTUNIK_OK, 0, 0, 0);
-    is_answer("not us", fevstunik_acceptor_accept(&service, &kept, request.at, request.size, &now), FEVSTUNIK_NOT_US,
-              35, 0, 0);
+    is_answer("not us", fevstunik_acceptor_accept(&service, &kept, request.at, request.size, &now), FEVSTUNIK_NOT_US, 35, 0, 0);
     fevstunik_accepted_free(&kept);
     fevstunik_acceptor_free(&service);
 }
@@ -148,8 +117,7 @@ static void negative_number(void)
 
     is_answer("new", fevstunik_acceptor_new(&service, keytab.at, keytab.size, 300, EACH_NAME), FEVSTUNIK_OK, 0, 0, 0);
     is_answer("ready", fevstunik_accepted_new(&kept), FEVSTUNIK_OK, 0, 0, 0);
-    is_answer("negative", fevstunik_acceptor_accept(&service, &kept, negative.at, negative.size, &now), FEVSTUNIK_OK, 0,
-              0, 0);
+    is_answer("negative", fevstunik_acceptor_accept(&service, &kept, negative.at, negative.size, &now), FEVSTUNIK_OK, 0, 0, 0);
     is("its size", fevstunik_accepted_known(&kept, &known, buffer, sizeof buffer).code, FEVSTUNIK_OK);
     is("a number", known.has_seq, 1);
     is("the number", known.seq, 4294967295);
@@ -180,35 +148,25 @@ static void kept_apart(void)
     is_answer("new", fevstunik_acceptor_new(&service, keytab.at, keytab.size, 300, EACH_NAME), FEVSTUNIK_OK, 0, 0, 0);
     is_answer("ready", fevstunik_accepted_new(&first), FEVSTUNIK_OK, 0, 0, 0);
     is_answer("ready too", fevstunik_accepted_new(&second), FEVSTUNIK_OK, 0, 0, 0);
-    is_answer("the first", fevstunik_acceptor_accept(&service, &first, keyed.at, keyed.size, &now), FEVSTUNIK_OK, 0, 0,
-              0);
+    is_answer("the first", fevstunik_acceptor_accept(&service, &first, keyed.at, keyed.size, &now), FEVSTUNIK_OK, 0, 0, 0);
     is_kept("the first is kept", &first, 20, 4294967295);
-    is_answer("not yet", fevstunik_accepted_known(&second, &known, buffer, sizeof buffer), FEVSTUNIK_NOTHING_THERE, 0,
-              0, 0);
-    is_answer("a repeat", fevstunik_acceptor_accept(&service, &second, keyed.at, keyed.size, &now), FEVSTUNIK_REPEAT,
-              34, 0, 0);
+    is_answer("not yet", fevstunik_accepted_known(&second, &known, buffer, sizeof buffer), FEVSTUNIK_NOTHING_THERE, 0, 0, 0);
+    is_answer("a repeat", fevstunik_acceptor_accept(&service, &second, keyed.at, keyed.size, &now), FEVSTUNIK_REPEAT, 34, 0, 0);
     is_kept("the first stays", &first, 20, 4294967295);
     fevstunik_acceptor_free(&service);
     is_kept("without the service", &first, 20, 4294967295);
-    is_answer("another", fevstunik_acceptor_new(&service, keytab.at, keytab.size, 300, EACH_NAME), FEVSTUNIK_OK, 0, 0,
-              0);
-    is_answer("the second", fevstunik_acceptor_accept(&service, &second, request.at, request.size, &now), FEVSTUNIK_OK,
-              0, 0, 0);
+    is_answer("another", fevstunik_acceptor_new(&service, keytab.at, keytab.size, 300, EACH_NAME), FEVSTUNIK_OK, 0, 0, 0);
+    is_answer("the second", fevstunik_acceptor_accept(&service, &second, request.at, request.size, &now), FEVSTUNIK_OK, 0, 0, 0);
     is_kept("the second is kept", &second, 0, 0);
     is_kept("and the first", &first, 20, 4294967295);
-    is_answer("into the first", fevstunik_acceptor_accept(&service, &first, request.at, request.size, &now),
-              FEVSTUNIK_REPEAT, 34, 0, 0);
-    is_answer("that is empty", fevstunik_accepted_known(&first, &known, buffer, sizeof buffer), FEVSTUNIK_NOTHING_THERE,
-              0, 0, 0);
+    is_answer("into the first", fevstunik_acceptor_accept(&service, &first, request.at, request.size, &now), FEVSTUNIK_REPEAT, 34, 0, 0);
+    is_answer("that is empty", fevstunik_accepted_known(&first, &known, buffer, sizeof buffer), FEVSTUNIK_NOTHING_THERE, 0, 0, 0);
     is_kept("the second stays", &second, 0, 0);
-    is_answer("of no service", fevstunik_acceptor_accept(&none, &second, request.at, request.size, &now),
-              FEVSTUNIK_EMPTY_HANDLE, 0, 0, 0);
-    is_answer("nothing then", fevstunik_accepted_known(&second, &known, buffer, sizeof buffer), FEVSTUNIK_NOTHING_THERE,
-              0, 0, 0);
+    is_answer("of no service", fevstunik_acceptor_accept(&none, &second, request.at, request.size, &now), FEVSTUNIK_EMPTY_HANDLE, 0, 0, 0);
+    is_answer("nothing then", fevstunik_accepted_known(&second, &known, buffer, sizeof buffer), FEVSTUNIK_NOTHING_THERE, 0, 0, 0);
     fevstunik_acceptor_free(&service);
     fevstunik_accepted_free(&first);
-    is_answer("freed", fevstunik_accepted_known(&first, &known, buffer, sizeof buffer), FEVSTUNIK_EMPTY_HANDLE, 0, 0,
-              0);
+    is_answer("freed", fevstunik_accepted_known(&first, &known, buffer, sizeof buffer), FEVSTUNIK_EMPTY_HANDLE, 0, 0, 0);
     is("freed", first.opaque == NULL, 1);
     fevstunik_accepted_free(&second);
 }
@@ -221,12 +179,10 @@ static void ready_again(void)
     fevstunik_known known;
 
     is_answer("new", fevstunik_acceptor_new(&service, keytab.at, keytab.size, 300, EACH_NAME), FEVSTUNIK_OK, 0, 0, 0);
-    is_answer("accept", fevstunik_acceptor_accept(&service, &accepted, keyed.at, keyed.size, &now), FEVSTUNIK_OK, 0, 0,
-              0);
+    is_answer("accept", fevstunik_acceptor_accept(&service, &accepted, keyed.at, keyed.size, &now), FEVSTUNIK_OK, 0, 0, 0);
     is_kept("kept", &accepted, 20, 4294967295);
     is_answer("ready again", fevstunik_accepted_new(&accepted), FEVSTUNIK_OK, 0, 0, 0);
-    is_answer("forgotten", fevstunik_accepted_known(&accepted, &known, buffer, sizeof buffer), FEVSTUNIK_NOTHING_THERE,
-              0, 0, 0);
+    is_answer("forgotten", fevstunik_accepted_known(&accepted, &known, buffer, sizeof buffer), FEVSTUNIK_NOTHING_THERE, 0, 0, 0);
     fevstunik_acceptor_free(&service);
 }
 
@@ -235,14 +191,10 @@ static void faulty_keytabs(fevstunik_acceptor *service)
 {
     void *held = service->opaque;
 
-    is_answer("skew", fevstunik_acceptor_new(service, keytab.at, keytab.size, 86401, EACH_NAME), FEVSTUNIK_BAD_SKEW, 0,
-              0, 0);
-    is_answer("version", fevstunik_acceptor_new(service, keytab.at + 1, keytab.size - 1, 300, EACH_NAME),
-              FEVSTUNIK_FILE_VERSION, 0, 0, 0);
-    is_answer("no file", fevstunik_acceptor_new(service, keytab.at, 0, 300, EACH_NAME), FEVSTUNIK_FILE_VERSION, 0, 0,
-              0);
-    is_answer("cut off", fevstunik_acceptor_new(service, keytab.at, 10, 300, EACH_NAME), FEVSTUNIK_FILE_TRUNCATED, 0, 2,
-              0);
+    is_answer("skew", fevstunik_acceptor_new(service, keytab.at, keytab.size, 86401, EACH_NAME), FEVSTUNIK_BAD_SKEW, 0, 0, 0);
+    is_answer("version", fevstunik_acceptor_new(service, keytab.at + 1, keytab.size - 1, 300, EACH_NAME), FEVSTUNIK_FILE_VERSION, 0, 0, 0);
+    is_answer("no file", fevstunik_acceptor_new(service, keytab.at, 0, 300, EACH_NAME), FEVSTUNIK_FILE_VERSION, 0, 0, 0);
+    is_answer("cut off", fevstunik_acceptor_new(service, keytab.at, 10, 300, EACH_NAME), FEVSTUNIK_FILE_TRUNCATED, 0, 2, 0);
     is("it stays", service->opaque == held, 1);
 }
 
@@ -256,11 +208,9 @@ static void is_accepted(fevstunik_acceptor *service)
     is_answer("no moment", fevstunik_acceptor_latest(service, &latest), FEVSTUNIK_NOTHING_THERE, 0, 0, 0);
     is_answer("ready", fevstunik_accepted_new(&accepted), FEVSTUNIK_OK, 0, 0, 0);
     memset(&known, 0x5a, sizeof known);
-    is_answer("none yet", fevstunik_accepted_known(&accepted, &known, buffer, sizeof buffer), FEVSTUNIK_NOTHING_THERE,
-              0, 0, 0);
+    is_answer("none yet", fevstunik_accepted_known(&accepted, &known, buffer, sizeof buffer), FEVSTUNIK_NOTHING_THERE, 0, 0, 0);
     is("known stays", known.flags == 0x5a5a5a5a && known.client.size == FILLED && known.session_type == 0x5a5a5a5a, 1);
-    is_answer("accept", fevstunik_acceptor_accept(service, &accepted, request.at, request.size, &now), FEVSTUNIK_OK, 0,
-              0, 0);
+    is_answer("accept", fevstunik_acceptor_accept(service, &accepted, request.at, request.size, &now), FEVSTUNIK_OK, 0, 0, 0);
     is("count", (long long)fevstunik_acceptor_count(service), 1);
     is_answer("latest", fevstunik_acceptor_latest(service, &latest), FEVSTUNIK_OK, 0, 0, 0);
     is("latest second", latest.seconds, 1700000101);
@@ -317,23 +267,16 @@ static void is_refused(fevstunik_acceptor *service)
     fevstunik_time now = moment(1700000101, 0), late = moment(1700000400, 6);
     fevstunik_known known;
 
-    is_answer("repeat", fevstunik_acceptor_accept(service, &accepted, request.at, request.size, &now), FEVSTUNIK_REPEAT,
-              34, 0, 0);
-    is_answer("none then", fevstunik_accepted_known(&accepted, &known, buffer, sizeof buffer), FEVSTUNIK_NOTHING_THERE,
-              0, 0, 0);
+    is_answer("repeat", fevstunik_acceptor_accept(service, &accepted, request.at, request.size, &now), FEVSTUNIK_REPEAT, 34, 0, 0);
+    is_answer("none then", fevstunik_accepted_known(&accepted, &known, buffer, sizeof buffer), FEVSTUNIK_NOTHING_THERE, 0, 0, 0);
     is_answer("no reply then", reply_of(16, 0, 0, sizeof buffer), FEVSTUNIK_NOTHING_THERE, 0, 0, 0);
-    is_answer("another message", fevstunik_acceptor_accept(service, &accepted, reply.at, reply.size, &now),
-              FEVSTUNIK_MESSAGE_TYPE, 40, 0, 0);
-    is_answer("no bytes", fevstunik_acceptor_accept(service, &accepted, request.at, 0, &now), FEVSTUNIK_MALFORMED, 60,
-              0, 0);
-    is_answer("one byte", fevstunik_acceptor_accept(service, &accepted, request.at, 1, &now), FEVSTUNIK_MALFORMED, 60,
-              1, 0);
+    is_answer("another message", fevstunik_acceptor_accept(service, &accepted, reply.at, reply.size, &now), FEVSTUNIK_MESSAGE_TYPE, 40, 0, 0);
+    is_answer("no bytes", fevstunik_acceptor_accept(service, &accepted, request.at, 0, &now), FEVSTUNIK_MALFORMED, 60, 0, 0);
+    is_answer("one byte", fevstunik_acceptor_accept(service, &accepted, request.at, 1, &now), FEVSTUNIK_MALFORMED, 60, 1, 0);
     request.at[request.size - 1] ^= 1;
-    is_answer("bent", fevstunik_acceptor_accept(service, &accepted, request.at, request.size, &now),
-              FEVSTUNIK_AUTHENTICATOR_INTEGRITY, 31, 0, 0);
+    is_answer("bent", fevstunik_acceptor_accept(service, &accepted, request.at, request.size, &now), FEVSTUNIK_AUTHENTICATOR_INTEGRITY, 31, 0, 0);
     request.at[request.size - 1] ^= 1;
-    is_answer("late", fevstunik_acceptor_accept(service, &accepted, keyed.at, keyed.size, &late), FEVSTUNIK_SKEW, 37, 0,
-              0);
+    is_answer("late", fevstunik_acceptor_accept(service, &accepted, keyed.at, keyed.size, &late), FEVSTUNIK_SKEW, 37, 0, 0);
     is("count then", (long long)fevstunik_acceptor_count(service), 0);
 }
 
@@ -353,28 +296,22 @@ static void codes_errors(fevstunik_time now)
     uint32_t code;
     int errors = 0;
 
-    is_answer("error by code", error_by(FEVSTUNIK_SKEW, "host/web@EX", now, sizeof buffer), FEVSTUNIK_OK, 0, 0,
-              error.size);
+    is_answer("error by code", error_by(FEVSTUNIK_SKEW, "host/web@EX", now, sizeof buffer), FEVSTUNIK_OK, 0, 0, error.size);
     is_bytes("error by code", buffer, error.at, error.size);
-    is_answer("error by another", error_by(FEVSTUNIK_REPEAT, "host/web@EX", now, sizeof buffer), FEVSTUNIK_OK, 0, 0,
-              error.size);
+    is_answer("error by another", error_by(FEVSTUNIK_REPEAT, "host/web@EX", now, sizeof buffer), FEVSTUNIK_OK, 0, 0, error.size);
     is("another's code", buffer[42], 34);
     for (code = 0; code < 1000; code++)
         if (error_by(code, "host/web@EX", now, sizeof buffer).code == FEVSTUNIK_OK)
             errors++;
     is("causes", errors, 18);
     memset(buffer, 0xaa, sizeof buffer);
-    is_answer("short by code", error_by(FEVSTUNIK_SKEW, "host/web@EX", now, error.size - 1), FEVSTUNIK_SHORT_BUFFER, 0,
-              0, error.size);
-    is_answer("no cause's code", error_by(FEVSTUNIK_OUT_OF_MEMORY, "host/web", now, sizeof buffer), FEVSTUNIK_NO_CODE,
-              0, 0, 0);
+    is_answer("short by code", error_by(FEVSTUNIK_SKEW, "host/web@EX", now, error.size - 1), FEVSTUNIK_SHORT_BUFFER, 0, 0, error.size);
+    is_answer("no cause's code", error_by(FEVSTUNIK_OUT_OF_MEMORY, "host/web", now, sizeof buffer), FEVSTUNIK_NO_CODE, 0, 0, 0);
     is("not written", buffer[0], 0xaa);
-    is_answer("code without a realm", error_by(FEVSTUNIK_SKEW, "host/web", now, sizeof buffer), FEVSTUNIK_NO_REALM, 0,
-              0, 0);
+    is_answer("code without a realm", error_by(FEVSTUNIK_SKEW, "host/web", now, sizeof buffer), FEVSTUNIK_NO_REALM, 0, 0, 0);
     is_answer("code of a bad name", error_by(FEVSTUNIK_SKEW, "a@b@c", now, sizeof buffer), FEVSTUNIK_BAD_TEXT, 0, 3, 0);
     is_answer("code of bytes", error_by(FEVSTUNIK_SKEW, "\xff@EX", now, sizeof buffer), FEVSTUNIK_NOT_UTF8, 0, 0, 0);
-    is_answer("code at no moment", error_by(FEVSTUNIK_SKEW, "host/web@EX", moment(0, 1000000), sizeof buffer),
-              FEVSTUNIK_BAD_MOMENT, 0, 0, 0);
+    is_answer("code at no moment", error_by(FEVSTUNIK_SKEW, "host/web@EX", moment(0, 1000000), sizeof buffer), FEVSTUNIK_BAD_MOMENT, 0, 0, 0);
 }
 
 /* The error of a refusal is the fixture's, to the byte, with its code at the byte 42; and why there is none. */
@@ -385,29 +322,23 @@ static void errors(void)
 
     is_answer("new", fevstunik_acceptor_new(&service, keytab.at, keytab.size, 300, EACH_NAME), FEVSTUNIK_OK, 0, 0, 0);
     is_answer("no error yet", error_of(&service, "host/web@EX", now, sizeof buffer), FEVSTUNIK_NOTHING_THERE, 0, 0, 0);
-    is_answer("accept", fevstunik_acceptor_accept(&service, &accepted, request.at, request.size, &now), FEVSTUNIK_OK, 0,
-              0, 0);
-    is_answer("no error of it", error_of(&service, "host/web@EX", now, sizeof buffer), FEVSTUNIK_NOTHING_THERE, 0, 0,
-              0);
-    is_answer("late", fevstunik_acceptor_accept(&service, &accepted, keyed.at, keyed.size, &late), FEVSTUNIK_SKEW, 37,
-              0, 0);
+    is_answer("accept", fevstunik_acceptor_accept(&service, &accepted, request.at, request.size, &now), FEVSTUNIK_OK, 0, 0, 0);
+    is_answer("no error of it", error_of(&service, "host/web@EX", now, sizeof buffer), FEVSTUNIK_NOTHING_THERE, 0, 0, 0);
+    is_answer("late", fevstunik_acceptor_accept(&service, &accepted, keyed.at, keyed.size, &late), FEVSTUNIK_SKEW, 37, 0, 0);
     memset(buffer, 0xaa, sizeof buffer);
-    is_answer("short error", error_of(&service, "host/web@EX", now, error.size - 1), FEVSTUNIK_SHORT_BUFFER, 0, 0,
-              error.size);
+    is_answer("short error", error_of(&service, "host/web@EX", now, error.size - 1), FEVSTUNIK_SHORT_BUFFER, 0, 0, error.size);
     is("not written", buffer[0], 0xaa);
     is_answer("error", error_of(&service, "host/web@EX", now, error.size), FEVSTUNIK_OK, 0, 0, error.size);
     is_bytes("error", buffer, error.at, error.size);
     is("after it", buffer[error.size], 0xaa);
-    is_answer("another type", fevstunik_acceptor_accept(&service, &accepted, reply.at, reply.size, &now),
-              FEVSTUNIK_MESSAGE_TYPE, 40, 0, 0);
+    is_answer("another type", fevstunik_acceptor_accept(&service, &accepted, reply.at, reply.size, &now), FEVSTUNIK_MESSAGE_TYPE, 40, 0, 0);
     is_answer("its error", error_of(&service, "host/web@EX", now, sizeof buffer), FEVSTUNIK_OK, 0, 0, error.size);
     is("its code", buffer[42], 40);
     codes_errors(now);
     is_answer("error without a realm", error_of(&service, "host/web", now, sizeof buffer), FEVSTUNIK_NO_REALM, 0, 0, 0);
     is_answer("error of a bad name", error_of(&service, "a@b@c", now, sizeof buffer), FEVSTUNIK_BAD_TEXT, 0, 3, 0);
     is_answer("error of bytes", error_of(&service, "\xff@EX", now, sizeof buffer), FEVSTUNIK_NOT_UTF8, 0, 0, 0);
-    is_answer("error at no moment", error_of(&service, "host/web@EX", moment(0, 1000000), sizeof buffer),
-              FEVSTUNIK_BAD_MOMENT, 0, 0, 0);
+    is_answer("error at no moment", error_of(&service, "host/web@EX", moment(0, 1000000), sizeof buffer), FEVSTUNIK_BAD_MOMENT, 0, 0, 0);
     fevstunik_acceptor_free(&service);
 }
 
@@ -415,29 +346,22 @@ static void errors(void)
  * made in a used handle has forgotten it. The types of names don't count. */
 static void wanted_services(void)
 {
-    static const char *const others[] = {"host/web@EY",   "host/mail@EX", "http/web@EX",  "host@EX",
-                                         "host/web/x@EX", "@EX",          "host\\/web@EX"};
+    static const char *const others[] = {"host/web@EY", "host/mail@EX", "http/web@EX", "host@EX", "host/web/x@EX", "@EX", "host\\/web@EX"};
     fevstunik_acceptor service = FEVSTUNIK_ACCEPTOR_INIT;
     fevstunik_time now = moment(1700000101, 7);
     size_t i;
 
     for (i = 0; i < sizeof others / sizeof *others; i++) {
-        is_answer("another",
-                  fevstunik_acceptor_new(&service, keytab.at, keytab.size, 300, (const uint8_t *)others[i],
-                                         strlen(others[i])),
+        is_answer("another", fevstunik_acceptor_new(&service, keytab.at, keytab.size, 300, (const uint8_t *)others[i], strlen(others[i])),
                   FEVSTUNIK_OK, 0, 0, 0);
-        is_answer(others[i], fevstunik_acceptor_accept(&service, &accepted, request.at, request.size, &now),
-                  FEVSTUNIK_NOT_US, 35, 0, 0);
+        is_answer(others[i], fevstunik_acceptor_accept(&service, &accepted, request.at, request.size, &now), FEVSTUNIK_NOT_US, 35, 0, 0);
         is("nothing is seen", (long long)fevstunik_acceptor_count(&service), 0);
     }
     is_answer("this one", fevstunik_acceptor_new(&service, keytab.at, keytab.size, 300, WEB), FEVSTUNIK_OK, 0, 0, 0);
-    is_answer("accept", fevstunik_acceptor_accept(&service, &accepted, request.at, request.size, &now), FEVSTUNIK_OK, 0,
-              0, 0);
-    is_answer("repeat", fevstunik_acceptor_accept(&service, &accepted, request.at, request.size, &now),
-              FEVSTUNIK_REPEAT, 34, 0, 0);
+    is_answer("accept", fevstunik_acceptor_accept(&service, &accepted, request.at, request.size, &now), FEVSTUNIK_OK, 0, 0, 0);
+    is_answer("repeat", fevstunik_acceptor_accept(&service, &accepted, request.at, request.size, &now), FEVSTUNIK_REPEAT, 34, 0, 0);
     is_answer("each", fevstunik_acceptor_new(&service, keytab.at, keytab.size, 300, EACH_NAME), FEVSTUNIK_OK, 0, 0, 0);
-    is_answer("accept anew", fevstunik_acceptor_accept(&service, &accepted, request.at, request.size, &now),
-              FEVSTUNIK_OK, 0, 0, 0);
+    is_answer("accept anew", fevstunik_acceptor_accept(&service, &accepted, request.at, request.size, &now), FEVSTUNIK_OK, 0, 0, 0);
     fevstunik_acceptor_free(&service);
 }
 
@@ -447,8 +371,7 @@ static void constants(void)
     is("no name", strcmp(fevstunik_code_name(1), "FEVSTUNIK_UNKNOWN"), 0);
     is("no text", strcmp(fevstunik_code_text(505), "an unknown code"), 0);
     is("a name", strcmp(fevstunik_code_name(FEVSTUNIK_REPEAT), "FEVSTUNIK_REPEAT"), 0);
-    is("version", fevstunik_version(),
-       FEVSTUNIK_VERSION_MAJOR * 10000 + FEVSTUNIK_VERSION_MINOR * 100 + FEVSTUNIK_VERSION_PATCH);
+    is("version", fevstunik_version(), FEVSTUNIK_VERSION_MAJOR * 10000 + FEVSTUNIK_VERSION_MINOR * 100 + FEVSTUNIK_VERSION_PATCH);
 }
 
 /* The texts of names, and what is wrong with others. */
@@ -471,16 +394,12 @@ static void edits(void)
     struct bytes hole;
     size_t size = keytab.size;
 
-    is_answer("no such entry", fevstunik_keytab_remove(keytab.at, size, ENTRIES, buffer, sizeof buffer),
-              FEVSTUNIK_NO_SUCH_ENTRY, 0, 0, 0);
-    is_answer("remove of none", fevstunik_keytab_remove(keytab.at, 1, 0, buffer, sizeof buffer), FEVSTUNIK_FILE_VERSION,
-              0, 0, 0);
-    is_answer("remove short", fevstunik_keytab_remove(keytab.at, size, 0, buffer, size - 1), FEVSTUNIK_SHORT_BUFFER, 0,
-              0, size);
+    is_answer("no such entry", fevstunik_keytab_remove(keytab.at, size, ENTRIES, buffer, sizeof buffer), FEVSTUNIK_NO_SUCH_ENTRY, 0, 0, 0);
+    is_answer("remove of none", fevstunik_keytab_remove(keytab.at, 1, 0, buffer, sizeof buffer), FEVSTUNIK_FILE_VERSION, 0, 0, 0);
+    is_answer("remove short", fevstunik_keytab_remove(keytab.at, size, 0, buffer, size - 1), FEVSTUNIK_SHORT_BUFFER, 0, 0, size);
     is_answer("remove", fevstunik_keytab_remove(keytab.at, size, 0, hole.at, sizeof hole.at), FEVSTUNIK_OK, 0, 0, size);
     is_bytes("version", hole.at, keytab.at, 2);
-    is("hole",
-       (int32_t)((uint32_t)hole.at[2] << 24 | (uint32_t)hole.at[3] << 16 | (uint32_t)hole.at[4] << 8 | hole.at[5]),
+    is("hole", (int32_t)((uint32_t)hole.at[2] << 24 | (uint32_t)hole.at[3] << 16 | (uint32_t)hole.at[4] << 8 | hole.at[5]),
        6 - (long long)size);
     is_bytes("zeros", hole.at + 6, zeros, size - 6);
     is_answer("no entries then", fevstunik_keytab_check(hole.at, size), FEVSTUNIK_OK, 0, 0, 0);
@@ -488,17 +407,14 @@ static void edits(void)
     is_answer("write short", fevstunik_keytab_write(keytab.at, size, buffer, 0), FEVSTUNIK_SHORT_BUFFER, 0, 0, size);
     is_answer("write", fevstunik_keytab_write(keytab.at, size, buffer, sizeof buffer), FEVSTUNIK_OK, 0, 0, size);
     is_bytes("written", buffer, keytab.at, size);
-    is_answer("write of none", fevstunik_keytab_write(keytab.at, 10, buffer, sizeof buffer), FEVSTUNIK_FILE_TRUNCATED,
-              0, 2, 0);
+    is_answer("write of none", fevstunik_keytab_write(keytab.at, 10, buffer, sizeof buffer), FEVSTUNIK_FILE_TRUNCATED, 0, 2, 0);
 }
 
-static fevstunik_answer added(const struct bytes *file, const char *name, const uint8_t *key, size_t key_size,
-                              size_t room)
+static fevstunik_answer added(const struct bytes *file, const char *name, const uint8_t *key, size_t key_size, size_t room)
 {
     static const fevstunik_key_parts parts = {1700000000, 3, 3, 19};
 
-    return fevstunik_keytab_add(file->at, file->size, (const uint8_t *)name, strlen(name), key, key_size, &parts,
-                                buffer, room);
+    return fevstunik_keytab_add(file->at, file->size, (const uint8_t *)name, strlen(name), key, key_size, &parts, buffer, room);
 }
 
 /* An entry is put in: at the end, or in a hole. The fixture's file is made of its key again. */
@@ -510,8 +426,7 @@ static void additions(void)
 
     is_answer("add", added(&file, "host/web@EX", key, 16, sizeof buffer), FEVSTUNIK_OK, 0, 0, keytab.size);
     is_bytes("the fixture's file", buffer, keytab.at, keytab.size);
-    is_answer("add short", added(&file, "host/web@EX", key, 16, keytab.size - 1), FEVSTUNIK_SHORT_BUFFER, 0, 0,
-              keytab.size);
+    is_answer("add short", added(&file, "host/web@EX", key, 16, keytab.size - 1), FEVSTUNIK_SHORT_BUFFER, 0, 0, keytab.size);
     is_answer("add after", added(&keytab, "a@EX", key, 16, sizeof buffer), FEVSTUNIK_OK, 0, 0, keytab.size + 46);
     is_bytes("what was there", buffer, keytab.at, keytab.size);
     is_answer("two", fevstunik_keytab_check(buffer, keytab.size + 46), FEVSTUNIK_OK, 0, 0, ENTRIES + 1);
@@ -523,8 +438,7 @@ static void additions(void)
     file.size = 1;
     is_answer("add to none", added(&file, "a@EX", key, 16, sizeof buffer), FEVSTUNIK_FILE_VERSION, 0, 0, 0);
     file = keytab;
-    is_answer("a hole", fevstunik_keytab_remove(keytab.at, keytab.size, 0, file.at, sizeof file.at), FEVSTUNIK_OK, 0, 0,
-              keytab.size);
+    is_answer("a hole", fevstunik_keytab_remove(keytab.at, keytab.size, 0, file.at, sizeof file.at), FEVSTUNIK_OK, 0, 0, keytab.size);
     is_answer("add in a hole", added(&file, "a@EX", key, 16, sizeof buffer), FEVSTUNIK_OK, 0, 0, keytab.size);
     is_answer("one", fevstunik_keytab_check(buffer, keytab.size), FEVSTUNIK_OK, 0, 0, 1);
 }
@@ -534,15 +448,9 @@ static void listings(void)
 {
     static const fevstunik_key_entry entry_wanted = {
         .name = {0, 11}, .key = {11, 16}, .timestamp = 1700000000, .kvno = 3, .name_type = 3, .key_type = 19};
-    static const fevstunik_cache_entry credential_wanted = {.client = {0, 8},
-                                                            .server = {8, 11},
-                                                            .key = {19, 16},
-                                                            .ticket = {35, 214},
-                                                            .authtime = 1700000000,
-                                                            .endtime = 1700036000,
-                                                            .client_type = 1,
-                                                            .server_type = 3,
-                                                            .key_type = 19};
+    static const fevstunik_cache_entry credential_wanted = {
+        .client = {0, 8}, .server = {8, 11}, .key = {19, 16}, .ticket = {35, 214}, .authtime = 1700000000, .endtime = 1700036000,
+        .client_type = 1, .server_type = 3, .key_type = 19};
     static const fevstunik_owner owner_wanted = {.name = {0, 8}, .name_type = 1};
     fevstunik_key_entry entry;
     fevstunik_cache_entry credential;
@@ -556,29 +464,23 @@ static void listings(void)
     is_entry("entry", &entry, &entry_wanted);
     is_answer("entry short", entry_in(keytab.at, keytab.size, 0, &entry, buffer, 26), FEVSTUNIK_SHORT_BUFFER, 0, 0, 27);
     memset(&entry, 0x5a, sizeof entry);
-    is_answer("past the last", entry_in(keytab.at, keytab.size, ENTRIES, &entry, buffer, 27), FEVSTUNIK_NO_SUCH_ENTRY,
-              0, 0, 0);
-    is_answer("far past it", entry_in(keytab.at, keytab.size, FAR, &entry, buffer, 27), FEVSTUNIK_NO_SUCH_ENTRY, 0, 0,
-              0);
+    is_answer("past the last", entry_in(keytab.at, keytab.size, ENTRIES, &entry, buffer, 27), FEVSTUNIK_NO_SUCH_ENTRY, 0, 0, 0);
+    is_answer("far past it", entry_in(keytab.at, keytab.size, FAR, &entry, buffer, 27), FEVSTUNIK_NO_SUCH_ENTRY, 0, 0, 0);
     is("the entry stays", entry.kvno == 0x5a5a5a5a && entry.name.size == FILLED && entry.key_type == 0x5a5a, 1);
     is_answer("entry of none", entry_in(keytab.at, 10, 0, &entry, buffer, 27), FEVSTUNIK_FILE_TRUNCATED, 0, 2, 0);
     size = 8 + 11 + 16 + 214;
-    is_answer("credential", credential_in(cache.at, cache.size, 0, &credential, buffer, size), FEVSTUNIK_OK, 0, 0,
-              size);
+    is_answer("credential", credential_in(cache.at, cache.size, 0, &credential, buffer, size), FEVSTUNIK_OK, 0, 0, size);
     is_bytes("names", buffer, "alice@EXhost/web@EX", 19);
     for (i = 0; i < 16; i++)
         is("session key", buffer[19 + i], i);
     is_bytes("ticket", buffer + 35, "\x61\x81\xd3", 3);
     is_credential("credential", &credential, &credential_wanted);
-    is_answer("credential short", credential_in(cache.at, cache.size, 0, &credential, buffer, size - 1),
-              FEVSTUNIK_SHORT_BUFFER, 0, 0, size);
+    is_answer("credential short", credential_in(cache.at, cache.size, 0, &credential, buffer, size - 1), FEVSTUNIK_SHORT_BUFFER,
+              0, 0, size);
     memset(&credential, 0x5a, sizeof credential);
-    is_answer("past the last", credential_in(cache.at, cache.size, 1, &credential, buffer, size),
-              FEVSTUNIK_NO_SUCH_ENTRY, 0, 0, 0);
-    is_answer("far past it", credential_in(cache.at, cache.size, FAR, &credential, buffer, size),
-              FEVSTUNIK_NO_SUCH_ENTRY, 0, 0, 0);
-    is("the credential stays",
-       credential.flags == 0x5a5a5a5a && credential.client.size == FILLED && credential.key_type == 0x5a5a, 1);
+    is_answer("past the last", credential_in(cache.at, cache.size, 1, &credential, buffer, size), FEVSTUNIK_NO_SUCH_ENTRY, 0, 0, 0);
+    is_answer("far past it", credential_in(cache.at, cache.size, FAR, &credential, buffer, size), FEVSTUNIK_NO_SUCH_ENTRY, 0, 0, 0);
+    is("the credential stays", credential.flags == 0x5a5a5a5a && credential.client.size == FILLED && credential.key_type == 0x5a5a, 1);
     is_answer("of none", credential_in(cache.at, 3, 0, &credential, buffer, size), FEVSTUNIK_FILE_HEADER, 0, 0, 0);
     is_answer("owner", owner_in(cache.at, cache.size, &owner, buffer, 8), FEVSTUNIK_OK, 0, 0, 8);
     is_bytes("owner", buffer, "alice@EX", 8);
@@ -596,8 +498,7 @@ static void kept_keytab(void)
 
     memset(&entry, 0x5a, sizeof entry);
     memset(buffer, 0xaa, 32);
-    is_answer("of no keytab", fevstunik_keytab_entry(&keys, 0, &entry, buffer, sizeof buffer), FEVSTUNIK_EMPTY_HANDLE,
-              0, 0, 0);
+    is_answer("of no keytab", fevstunik_keytab_entry(&keys, 0, &entry, buffer, sizeof buffer), FEVSTUNIK_EMPTY_HANDLE, 0, 0, 0);
     is("no entry is written", entry.kvno == 0x5a5a5a5a && buffer[0] == 0xaa, 1);
     is("it stays empty", keys.opaque == NULL, 1);
     fevstunik_keytab_free(&keys);
@@ -609,14 +510,11 @@ static void kept_keytab(void)
     is("it stays", keys.opaque == held, 1);
     is_answer("its entry", fevstunik_keytab_entry(&keys, 0, &entry, buffer, sizeof buffer), FEVSTUNIK_OK, 0, 0, 27);
     is("its version", entry.kvno, 3);
-    is_answer("the same again", fevstunik_keytab_entry(&keys, 0, &entry, buffer, sizeof buffer), FEVSTUNIK_OK, 0, 0,
-              27);
+    is_answer("the same again", fevstunik_keytab_entry(&keys, 0, &entry, buffer, sizeof buffer), FEVSTUNIK_OK, 0, 0, 27);
     is_answer("to no room", fevstunik_keytab_entry(&keys, 0, &entry, NULL, 0), FEVSTUNIK_SHORT_BUFFER, 0, 0, 27);
-    is_answer("no other", fevstunik_keytab_entry(&keys, ENTRIES, &entry, buffer, sizeof buffer),
-              FEVSTUNIK_NO_SUCH_ENTRY, 0, 0, 0);
+    is_answer("no other", fevstunik_keytab_entry(&keys, ENTRIES, &entry, buffer, sizeof buffer), FEVSTUNIK_NO_SUCH_ENTRY, 0, 0, 0);
     is_answer("a keytab of none", fevstunik_keytab_new(&keys, keytab.at, 2), FEVSTUNIK_OK, 0, 0, 0);
-    is_answer("nothing in it", fevstunik_keytab_entry(&keys, 0, &entry, buffer, sizeof buffer), FEVSTUNIK_NO_SUCH_ENTRY,
-              0, 0, 0);
+    is_answer("nothing in it", fevstunik_keytab_entry(&keys, 0, &entry, buffer, sizeof buffer), FEVSTUNIK_NO_SUCH_ENTRY, 0, 0, 0);
     fevstunik_keytab_free(&keys);
     is("it is freed", keys.opaque == NULL, 1);
     fevstunik_keytab_free(&keys);
@@ -631,21 +529,16 @@ static void kept_cache(void)
 
     memset(&credential, 0x5a, sizeof credential);
     memset(&owner, 0x5a, sizeof owner);
-    is_answer("of no cache", fevstunik_cache_credential(&held, 0, &credential, buffer, sizeof buffer),
-              FEVSTUNIK_EMPTY_HANDLE, 0, 0, 0);
-    is_answer("of no owner", fevstunik_cache_owner(&held, &owner, buffer, sizeof buffer), FEVSTUNIK_EMPTY_HANDLE, 0, 0,
-              0);
+    is_answer("of no cache", fevstunik_cache_credential(&held, 0, &credential, buffer, sizeof buffer), FEVSTUNIK_EMPTY_HANDLE, 0, 0, 0);
+    is_answer("of no owner", fevstunik_cache_owner(&held, &owner, buffer, sizeof buffer), FEVSTUNIK_EMPTY_HANDLE, 0, 0, 0);
     is("nothing is written", credential.flags == 0x5a5a5a5a && owner.name_type == 0x5a5a5a5a && held.opaque == NULL, 1);
     is_answer("two credentials", fevstunik_cache_new(&held, two.at, two.size), FEVSTUNIK_OK, 0, 0, 2);
-    is_answer("the second", fevstunik_cache_credential(&held, 1, &credential, buffer, sizeof buffer), FEVSTUNIK_OK, 0,
-              0, 8 + 11 + 16 + 214);
+    is_answer("the second", fevstunik_cache_credential(&held, 1, &credential, buffer, sizeof buffer), FEVSTUNIK_OK, 0, 0, 8 + 11 + 16 + 214);
     is("its flags", credential.flags, 0x40610000);
     is_answer("the owner", fevstunik_cache_owner(&held, &owner, buffer, sizeof buffer), FEVSTUNIK_OK, 0, 0, 8);
     is("its offset", owner.offset_seconds, -2);
-    is_answer("the first", fevstunik_cache_credential(&held, 0, &credential, NULL, 0), FEVSTUNIK_SHORT_BUFFER, 0, 0,
-              56);
-    is_answer("no third", fevstunik_cache_credential(&held, 2, &credential, buffer, sizeof buffer),
-              FEVSTUNIK_NO_SUCH_ENTRY, 0, 0, 0);
+    is_answer("the first", fevstunik_cache_credential(&held, 0, &credential, NULL, 0), FEVSTUNIK_SHORT_BUFFER, 0, 0, 56);
+    is_answer("no third", fevstunik_cache_credential(&held, 2, &credential, buffer, sizeof buffer), FEVSTUNIK_NO_SUCH_ENTRY, 0, 0, 0);
     fevstunik_cache_free(&held);
 }
 
@@ -667,15 +560,12 @@ static void second_entry(void)
     is_bytes("its name", buffer, "a@EX", 4);
     is_bytes("its key", buffer + 4, key, 16);
     is_entry("the second", &entry, &wanted);
-    is_answer("no third", entry_in(file.at, file.size, 2, &entry, buffer, sizeof buffer), FEVSTUNIK_NO_SUCH_ENTRY, 0, 0,
-              0);
-    is_answer("remove it", fevstunik_keytab_remove(file.at, file.size, 1, made, sizeof made), FEVSTUNIK_OK, 0, 0,
-              file.size);
+    is_answer("no third", entry_in(file.at, file.size, 2, &entry, buffer, sizeof buffer), FEVSTUNIK_NO_SUCH_ENTRY, 0, 0, 0);
+    is_answer("remove it", fevstunik_keytab_remove(file.at, file.size, 1, made, sizeof made), FEVSTUNIK_OK, 0, 0, file.size);
     is_bytes("the first stays", made, file.at, keytab.size);
     is_bytes("the second's hole", made + keytab.size, "\xff\xff\xff\xd6", 4);
     is_bytes("its zeros", made + keytab.size + 4, zeros, sizeof zeros);
-    is_answer("write without it", fevstunik_keytab_write(made, file.size, buffer, sizeof buffer), FEVSTUNIK_OK, 0, 0,
-              keytab.size);
+    is_answer("write without it", fevstunik_keytab_write(made, file.size, buffer, sizeof buffer), FEVSTUNIK_OK, 0, 0, keytab.size);
     is_bytes("the first alone", buffer, keytab.at, keytab.size);
 }
 
@@ -683,26 +573,13 @@ static void second_entry(void)
 static void second_credential(void)
 {
     static const char names[] = "alice@EXkrb5_ccache_conf_data/fast_avail@X-CACHECONF:yes";
-    static const fevstunik_owner owner_wanted = {
-        .name = {0, 8}, .name_type = 1, .offset_seconds = -2, .offset_micros = 7, .has_offset = true};
-    static const fevstunik_cache_entry first_wanted = {.client = {0, 8},
-                                                       .server = {8, sizeof names - 12},
-                                                       .key = {sizeof names - 4, 0},
-                                                       .ticket = {sizeof names - 4, 3},
-                                                       .client_type = 1};
-    static const fevstunik_cache_entry second_wanted = {.client = {0, 8},
-                                                        .server = {8, 11},
-                                                        .key = {19, 16},
-                                                        .ticket = {35, 214},
-                                                        .authtime = 1700000000,
-                                                        .starttime = 1700000001,
-                                                        .endtime = 1700036000,
-                                                        .renew_till = 1700600000,
-                                                        .flags = 0x40610000,
-                                                        .client_type = 1,
-                                                        .server_type = 3,
-                                                        .key_type = 19,
-                                                        .is_skey = true};
+    static const fevstunik_owner owner_wanted = {.name = {0, 8}, .name_type = 1, .offset_seconds = -2, .offset_micros = 7, .has_offset = true};
+    static const fevstunik_cache_entry first_wanted = {
+        .client = {0, 8}, .server = {8, sizeof names - 12}, .key = {sizeof names - 4, 0}, .ticket = {sizeof names - 4, 3}, .client_type = 1};
+    static const fevstunik_cache_entry second_wanted = {
+        .client = {0, 8}, .server = {8, 11}, .key = {19, 16}, .ticket = {35, 214}, .authtime = 1700000000, .starttime = 1700000001,
+        .endtime = 1700036000, .renew_till = 1700600000, .flags = 0x40610000, .client_type = 1, .server_type = 3, .key_type = 19,
+        .is_skey = true};
     fevstunik_cache_entry credential;
     fevstunik_owner owner;
     size_t size = 8 + 11 + 16 + 214;
@@ -715,13 +592,11 @@ static void second_credential(void)
               sizeof names - 1);
     is_bytes("what it tells", buffer, names, sizeof names - 1);
     is_credential("the first", &credential, &first_wanted);
-    is_answer("the second", credential_in(two.at, two.size, 1, &credential, buffer, sizeof buffer), FEVSTUNIK_OK, 0, 0,
-              size);
+    is_answer("the second", credential_in(two.at, two.size, 1, &credential, buffer, sizeof buffer), FEVSTUNIK_OK, 0, 0, size);
     is_bytes("its names", buffer, "alice@EXhost/web@EX", 19);
     is_bytes("its ticket", buffer + 35, "\x61\x81\xd3", 3);
     is_credential("the second", &credential, &second_wanted);
-    is_answer("no third", credential_in(two.at, two.size, 2, &credential, buffer, sizeof buffer),
-              FEVSTUNIK_NO_SUCH_ENTRY, 0, 0, 0);
+    is_answer("no third", credential_in(two.at, two.size, 2, &credential, buffer, sizeof buffer), FEVSTUNIK_NO_SUCH_ENTRY, 0, 0, 0);
 }
 
 /* The client's subkey and number are reported. */
@@ -738,8 +613,7 @@ static void keyed_client(void)
     wanted.seq = 4294967295;
     wanted.has_subkey = wanted.has_seq = wanted.wants_reply = true;
     is_answer("new", fevstunik_acceptor_new(&service, keytab.at, keytab.size, 0, EACH_NAME), FEVSTUNIK_OK, 0, 0, 0);
-    is_answer("keyed", fevstunik_acceptor_accept(&service, &accepted, keyed.at, keyed.size, &now), FEVSTUNIK_OK, 0, 0,
-              0);
+    is_answer("keyed", fevstunik_acceptor_accept(&service, &accepted, keyed.at, keyed.size, &now), FEVSTUNIK_OK, 0, 0, 0);
     is_answer("told", fevstunik_accepted_known(&accepted, &known, buffer, sizeof buffer), FEVSTUNIK_OK, 0, 0, 67);
     is_known("keyed", &known, &wanted);
     for (i = 0; i < 32; i++)
@@ -812,18 +686,15 @@ static void lists(void)
         sum[i] = (uint8_t)(0x50 + i);
         far[i] = (uint8_t)(0xf0 + i);
     }
-    is_answer("count of none", fevstunik_accepted_count(&none, FEVSTUNIK_LIST_CHECKSUM), FEVSTUNIK_EMPTY_HANDLE, 0, 0,
-              0);
+    is_answer("count of none", fevstunik_accepted_count(&none, FEVSTUNIK_LIST_CHECKSUM), FEVSTUNIK_EMPTY_HANDLE, 0, 0, 0);
     is_answer("item of none", fevstunik_accepted_item(&none, FEVSTUNIK_LIST_CHECKSUM, 0, &kind, buffer, sizeof buffer),
               FEVSTUNIK_EMPTY_HANDLE, 0, 0, 0);
     is("no type", kind, 77);
     is_answer("ready", fevstunik_accepted_new(&accepted), FEVSTUNIK_OK, 0, 0, 0);
-    is_answer("nothing counted", fevstunik_accepted_count(&accepted, FEVSTUNIK_LIST_CHECKSUM), FEVSTUNIK_NOTHING_THERE,
-              0, 0, 0);
+    is_answer("nothing counted", fevstunik_accepted_count(&accepted, FEVSTUNIK_LIST_CHECKSUM), FEVSTUNIK_NOTHING_THERE, 0, 0, 0);
     is_no_item("nothing there", FEVSTUNIK_LIST_CHECKSUM, 0, FEVSTUNIK_NOTHING_THERE);
     is_answer("new", fevstunik_acceptor_new(&service, keytab.at, keytab.size, 300, EACH_NAME), FEVSTUNIK_OK, 0, 0, 0);
-    is_answer("accept", fevstunik_acceptor_accept(&service, &accepted, listed.at, listed.size, &now), FEVSTUNIK_OK, 0,
-              0, 0);
+    is_answer("accept", fevstunik_acceptor_accept(&service, &accepted, listed.at, listed.size, &now), FEVSTUNIK_OK, 0, 0, 0);
     are_counted(2, 3, 1, 1);
     is_item("an address", FEVSTUNIK_LIST_ADDRESSES, 0, 2, near, 4);
     is_item("another", FEVSTUNIK_LIST_ADDRESSES, 1, 24, far, 16);
@@ -832,10 +703,8 @@ static void lists(void)
     is_item("the third", FEVSTUNIK_LIST_TICKET_AUTHORIZATION, 2, 1, "the third", 9);
     is_item("the authenticator's", FEVSTUNIK_LIST_AUTHENTICATOR_AUTHORIZATION, 0, 1, "alone", 5);
     is_item("the checksum", FEVSTUNIK_LIST_CHECKSUM, 0, -138, sum, 16);
-    is_answer("new again", fevstunik_acceptor_new(&service, keytab.at, keytab.size, 300, EACH_NAME), FEVSTUNIK_OK, 0, 0,
-              0);
-    is_answer("accept one without", fevstunik_acceptor_accept(&service, &accepted, request.at, request.size, &now),
-              FEVSTUNIK_OK, 0, 0, 0);
+    is_answer("new again", fevstunik_acceptor_new(&service, keytab.at, keytab.size, 300, EACH_NAME), FEVSTUNIK_OK, 0, 0, 0);
+    is_answer("accept one without", fevstunik_acceptor_accept(&service, &accepted, request.at, request.size, &now), FEVSTUNIK_OK, 0, 0, 0);
     are_counted(-1, -1, -1, -1);
     fevstunik_acceptor_free(&service);
 }
@@ -855,13 +724,11 @@ static void another_service(void)
     wanted.has_seq = true;
     is("two keys", both.code, FEVSTUNIK_OK);
     is_answer("new", fevstunik_acceptor_new(&service, buffer, both.size, 300, EACH_NAME), FEVSTUNIK_OK, 0, 0, 0);
-    is_answer("accept", fevstunik_acceptor_accept(&service, &accepted, other.at, other.size, &now), FEVSTUNIK_OK, 0, 0,
-              0);
+    is_answer("accept", fevstunik_acceptor_accept(&service, &accepted, other.at, other.size, &now), FEVSTUNIK_OK, 0, 0, 0);
     is_answer("told", fevstunik_accepted_known(&accepted, &known, buffer, sizeof buffer), FEVSTUNIK_OK, 0, 0, 31);
     is_known("another service", &known, &wanted);
     is_bytes("service", buffer + 24, "a\\/b@EX", 7);
-    is_answer("the fixture's", fevstunik_acceptor_accept(&service, &accepted, request.at, request.size, &now),
-              FEVSTUNIK_OK, 0, 0, 0);
+    is_answer("the fixture's", fevstunik_acceptor_accept(&service, &accepted, request.at, request.size, &now), FEVSTUNIK_OK, 0, 0, 0);
     is_answer("told then", fevstunik_accepted_known(&accepted, &known, buffer, sizeof buffer), FEVSTUNIK_OK, 0, 0, 35);
     is_bytes("its service", buffer + known.service.at, "host/web@EX", 11);
     is("its type", known.service_type, 3);
@@ -871,42 +738,31 @@ static void another_service(void)
 /* A text of RFC 8009's profile: sealed, opened, and its tag (the values are of the fixture's key and of a confounder of zeros). */
 static void texts(void)
 {
-    static const uint8_t key[] = {0x37, 0x05, 0xd9, 0x60, 0x80, 0xc1, 0x77, 0x28,
-                                  0xa0, 0xe8, 0x00, 0xea, 0xb6, 0xe0, 0xd2, 0x3c};
-    static const uint8_t confounder[] = {0x7e, 0x58, 0x95, 0xea, 0xf2, 0x67, 0x24, 0x35,
-                                         0xba, 0xd8, 0x17, 0xf5, 0x45, 0xa3, 0x71, 0x48};
+    static const uint8_t key[] = {0x37, 0x05, 0xd9, 0x60, 0x80, 0xc1, 0x77, 0x28, 0xa0, 0xe8, 0x00, 0xea, 0xb6, 0xe0, 0xd2, 0x3c};
+    static const uint8_t confounder[] = {0x7e, 0x58, 0x95, 0xea, 0xf2, 0x67, 0x24, 0x35, 0xba, 0xd8, 0x17, 0xf5, 0x45, 0xa3, 0x71, 0x48};
     struct bytes empty;
     uint8_t sealed[64], tag[24];
 
     from_hex(&empty, "ef85fb890bb8472f4dab20394dca781dad877eda39d50c870c0d5a0a8e48c718");
-    is_answer("seal", fevstunik_seal(19, key, 16, 2, confounder, 16, key, 0, sealed, sizeof sealed), FEVSTUNIK_OK, 0, 0,
-              32);
+    is_answer("seal", fevstunik_seal(19, key, 16, 2, confounder, 16, key, 0, sealed, sizeof sealed), FEVSTUNIK_OK, 0, 0, 32);
     is_bytes("sealed", sealed, empty.at, 32);
-    is_answer("seal short", fevstunik_seal(19, key, 16, 2, confounder, 16, key, 0, sealed, 31), FEVSTUNIK_SHORT_BUFFER,
-              0, 0, 32);
-    is_answer("seal type", fevstunik_seal(18, key, 16, 2, confounder, 16, key, 0, sealed, 64), FEVSTUNIK_KEY_TYPE, 0, 0,
-              0);
-    is_answer("seal length", fevstunik_seal(20, key, 16, 2, confounder, 16, key, 0, sealed, 64), FEVSTUNIK_KEY_LENGTH,
-              0, 0, 0);
-    is_answer("seal confounder", fevstunik_seal(19, key, 16, 2, confounder, 15, key, 0, sealed, 64),
-              FEVSTUNIK_BAD_CONFOUNDER, 0, 0, 0);
-    is_answer("seal text", fevstunik_seal(19, key, 16, 2, confounder, 16, key, 5, sealed, sizeof sealed), FEVSTUNIK_OK,
-              0, 0, 37);
+    is_answer("seal short", fevstunik_seal(19, key, 16, 2, confounder, 16, key, 0, sealed, 31), FEVSTUNIK_SHORT_BUFFER, 0, 0, 32);
+    is_answer("seal type", fevstunik_seal(18, key, 16, 2, confounder, 16, key, 0, sealed, 64), FEVSTUNIK_KEY_TYPE, 0, 0, 0);
+    is_answer("seal length", fevstunik_seal(20, key, 16, 2, confounder, 16, key, 0, sealed, 64), FEVSTUNIK_KEY_LENGTH, 0, 0, 0);
+    is_answer("seal confounder", fevstunik_seal(19, key, 16, 2, confounder, 15, key, 0, sealed, 64), FEVSTUNIK_BAD_CONFOUNDER, 0, 0, 0);
+    is_answer("seal text", fevstunik_seal(19, key, 16, 2, confounder, 16, key, 5, sealed, sizeof sealed), FEVSTUNIK_OK, 0, 0, 37);
     is_answer("open", fevstunik_open(19, key, 16, 2, sealed, 37, buffer, 5), FEVSTUNIK_OK, 0, 0, 5);
     is_bytes("opened", buffer, key, 5);
     is_answer("open short", fevstunik_open(19, key, 16, 2, sealed, 37, buffer, 4), FEVSTUNIK_SHORT_BUFFER, 0, 0, 5);
-    is_answer("another usage", fevstunik_open(19, key, 16, 3, sealed, 37, buffer, 5), FEVSTUNIK_TEXT_INTEGRITY, 0, 0,
-              0);
+    is_answer("another usage", fevstunik_open(19, key, 16, 3, sealed, 37, buffer, 5), FEVSTUNIK_TEXT_INTEGRITY, 0, 0, 0);
     is_answer("short text", fevstunik_open(19, key, 16, 2, sealed, 31, buffer, 5), FEVSTUNIK_TEXT_SHORT, 0, 0, 0);
     is_answer("open type", fevstunik_open(0, key, 16, 2, sealed, 37, buffer, 5), FEVSTUNIK_KEY_TYPE, 0, 0, 0);
     is_answer("tag", fevstunik_checksum(19, key, 16, 6, key, 5, tag, sizeof tag), FEVSTUNIK_OK, 0, 0, 16);
     is_answer("tag short", fevstunik_checksum(19, key, 16, 6, key, 5, tag, 15), FEVSTUNIK_SHORT_BUFFER, 0, 0, 16);
     is_answer("tag type", fevstunik_checksum(21, key, 16, 6, key, 5, tag, sizeof tag), FEVSTUNIK_KEY_TYPE, 0, 0, 0);
     is_answer("its tag", fevstunik_checksum_check(19, key, 16, 6, key, 5, tag, 16), FEVSTUNIK_OK, 0, 0, 0);
-    is_answer("less of it", fevstunik_checksum_check(19, key, 16, 6, key, 5, tag, 15), FEVSTUNIK_TEXT_INTEGRITY, 0, 0,
-              0);
-    is_answer("of another", fevstunik_checksum_check(19, key, 16, 6, key, 6, tag, 16), FEVSTUNIK_TEXT_INTEGRITY, 0, 0,
-              0);
+    is_answer("less of it", fevstunik_checksum_check(19, key, 16, 6, key, 5, tag, 15), FEVSTUNIK_TEXT_INTEGRITY, 0, 0, 0);
+    is_answer("of another", fevstunik_checksum_check(19, key, 16, 6, key, 6, tag, 16), FEVSTUNIK_TEXT_INTEGRITY, 0, 0, 0);
     is_answer("no key", fevstunik_checksum_check(19, key, 15, 6, key, 5, tag, 16), FEVSTUNIK_KEY_LENGTH, 0, 0, 0);
 }
 
@@ -920,8 +776,8 @@ static fevstunik_answer asked(const char *service, fevstunik_time at, size_t con
     choice.subkey_type = type;
     choice.wants_reply = choice.has_seq = type != 0;
     choice.seq = 4294967295;
-    return fevstunik_request(&credentials, &pending, (const uint8_t *)service, strlen(service), &at, confounder,
-                             confounder_size, &choice, subkey, sizeof subkey, buffer, room);
+    return fevstunik_request(&credentials, &pending, (const uint8_t *)service, strlen(service), &at, confounder, confounder_size, &choice,
+                             subkey, sizeof subkey, buffer, room);
 }
 
 /* The credential's end, and a second after the last that a moment may have. */
@@ -945,8 +801,7 @@ static void are_refused(const struct refused *cases, size_t count)
 
     for (it = cases; it < cases + count; it++)
         is_answer(it->what,
-                  asked(it->service ? it->service : "host/web@EX",
-                        it->seconds ? moment(it->seconds, 0) : moment(1700000100, 5),
+                  asked(it->service ? it->service : "host/web@EX", it->seconds ? moment(it->seconds, 0) : moment(1700000100, 5),
                         it->confounder_size ? it->confounder_size : 16, it->type, sizeof buffer),
                   it->code, 0, it->at, 0);
 }
@@ -971,13 +826,10 @@ static void requests(void)
     is_bytes("request", buffer, request.at, request.size);
     is_answer("keyed request", asked("host/web@EX", at, 16, 20, sizeof buffer), FEVSTUNIK_OK, 0, 0, keyed.size);
     is_bytes("keyed request", buffer, keyed.at, keyed.size);
-    is_answer("short request", asked("host/web@EX", at, 16, 0, request.size - 1), FEVSTUNIK_SHORT_BUFFER, 0, 0,
-              request.size);
+    is_answer("short request", asked("host/web@EX", at, 16, 0, request.size - 1), FEVSTUNIK_SHORT_BUFFER, 0, 0, request.size);
     are_refused(cases, sizeof cases / sizeof *cases);
-    is_answer("cut off", fevstunik_cache_new(&credentials, cache.at, cache.size - 1), FEVSTUNIK_FILE_BAD_ITEM, 0,
-              CREDENTIAL_AT, 0);
-    is_answer("version", fevstunik_cache_new(&credentials, cache.at + 1, cache.size - 1), FEVSTUNIK_FILE_VERSION, 0, 0,
-              0);
+    is_answer("cut off", fevstunik_cache_new(&credentials, cache.at, cache.size - 1), FEVSTUNIK_FILE_BAD_ITEM, 0, CREDENTIAL_AT, 0);
+    is_answer("version", fevstunik_cache_new(&credentials, cache.at + 1, cache.size - 1), FEVSTUNIK_FILE_VERSION, 0, 0, 0);
     is_answer("the cache stays", asked("host/web@EX", at, 16, 0, sizeof buffer), FEVSTUNIK_OK, 0, 0, request.size);
     is_answer("a cache of none", fevstunik_cache_new(&credentials, cache.at, CREDENTIAL_AT), FEVSTUNIK_OK, 0, 0, 0);
     is_answer("no credential", asked("host/web@EX", at, 16, 0, sizeof buffer), FEVSTUNIK_NO_CREDENTIAL, 0, 0, 0);
@@ -996,17 +848,14 @@ static uint32_t flags_read(fevstunik_acceptor *service, fevstunik_time at, bool 
     fevstunik_answer answer;
     int32_t kind = 0;
 
-    answer = fevstunik_context_request(&credentials, &pending, WEB, &at, confounder, 16, &choice, confounder, 0,
-                                       &wanted, buffer, sizeof buffer);
+    answer = fevstunik_context_request(&credentials, &pending, WEB, &at, confounder, 16, &choice, confounder, 0, &wanted, buffer, sizeof buffer);
     is("with flags", answer.code, FEVSTUNIK_OK);
     is_answer("ready", fevstunik_accepted_new(&accepted), FEVSTUNIK_OK, 0, 0, 0);
-    is_answer("accepted", fevstunik_acceptor_accept(service, &accepted, buffer, answer.size, &at), FEVSTUNIK_OK, 0, 0,
-              0);
+    is_answer("accepted", fevstunik_acceptor_accept(service, &accepted, buffer, answer.size, &at), FEVSTUNIK_OK, 0, 0, 0);
     is("known", fevstunik_accepted_known(&accepted, &known, buffer, sizeof buffer).code, FEVSTUNIK_OK);
     is("a reply", known.wants_reply, wants_reply);
-    is_answer("checksum",
-              fevstunik_accepted_item(&accepted, FEVSTUNIK_LIST_CHECKSUM, 0, &kind, checksum, sizeof checksum),
-              FEVSTUNIK_OK, 0, 0, 24);
+    is_answer("checksum", fevstunik_accepted_item(&accepted, FEVSTUNIK_LIST_CHECKSUM, 0, &kind, checksum, sizeof checksum), FEVSTUNIK_OK, 0,
+              0, 24);
     is_answer("context", fevstunik_context_read(checksum, 24, &found, parts, sizeof parts), FEVSTUNIK_OK, 0, 0, 16);
     fevstunik_accepted_free(&accepted);
     return found.flags;
@@ -1028,27 +877,19 @@ static void contexts(void)
 
     for (i = 0; i < 16; i++)
         wanted.bindings[i] = (uint8_t)(0xf0 + i);
-    is_answer("context of no cache",
-              fevstunik_context_request(&(fevstunik_cache)FEVSTUNIK_CACHE_INIT, &pending, WEB, &at, confounder, 16,
-                                        &choice, confounder, 0, &wanted, buffer, sizeof buffer),
-              FEVSTUNIK_EMPTY_HANDLE, 0, 0, 0);
-    is_answer("confounder in a context",
-              fevstunik_context_request(&credentials, &pending, WEB, &at, confounder, 15, &choice, confounder, 0,
-                                        &wanted, buffer, sizeof buffer),
-              FEVSTUNIK_BAD_CONFOUNDER, 0, 0, 0);
-    answer = fevstunik_context_request(&credentials, &pending, WEB, &at, confounder, 16, &choice, confounder, 0,
-                                       &wanted, buffer, 0);
+    is_answer("context of no cache", fevstunik_context_request(&(fevstunik_cache)FEVSTUNIK_CACHE_INIT, &pending, WEB, &at, confounder, 16, &choice,
+                                                               confounder, 0, &wanted, buffer, sizeof buffer), FEVSTUNIK_EMPTY_HANDLE, 0, 0, 0);
+    is_answer("confounder in a context", fevstunik_context_request(&credentials, &pending, WEB, &at, confounder, 15, &choice, confounder, 0,
+                                                                   &wanted, buffer, sizeof buffer), FEVSTUNIK_BAD_CONFOUNDER, 0, 0, 0);
+    answer = fevstunik_context_request(&credentials, &pending, WEB, &at, confounder, 16, &choice, confounder, 0, &wanted, buffer, 0);
     is("short", answer.code, FEVSTUNIK_SHORT_BUFFER);
-    answer = fevstunik_context_request(&credentials, &pending, WEB, &at, confounder, 16, &choice, confounder, 0,
-                                       &wanted, buffer, sizeof buffer);
+    answer = fevstunik_context_request(&credentials, &pending, WEB, &at, confounder, 16, &choice, confounder, 0, &wanted, buffer, sizeof buffer);
     is("in a context", answer.code, FEVSTUNIK_OK);
     is_answer("service", fevstunik_acceptor_new(&service, keytab.at, keytab.size, 300, WEB), FEVSTUNIK_OK, 0, 0, 0);
     is_answer("ready", fevstunik_accepted_new(&accepted), FEVSTUNIK_OK, 0, 0, 0);
-    is_answer("accepted", fevstunik_acceptor_accept(&service, &accepted, buffer, answer.size, &at), FEVSTUNIK_OK, 0, 0,
-              0);
-    is_answer("checksum",
-              fevstunik_accepted_item(&accepted, FEVSTUNIK_LIST_CHECKSUM, 0, &kind, checksum, sizeof checksum),
-              FEVSTUNIK_OK, 0, 0, 24);
+    is_answer("accepted", fevstunik_acceptor_accept(&service, &accepted, buffer, answer.size, &at), FEVSTUNIK_OK, 0, 0, 0);
+    is_answer("checksum", fevstunik_accepted_item(&accepted, FEVSTUNIK_LIST_CHECKSUM, 0, &kind, checksum, sizeof checksum), FEVSTUNIK_OK, 0,
+              0, 24);
     is("its type", kind, 0x8003);
     is_answer("context", fevstunik_context_read(checksum, 24, &found, parts, sizeof parts), FEVSTUNIK_OK, 0, 0, 16);
     is("flags", found.flags, 0xfffffffe);
@@ -1072,30 +913,20 @@ static void empty_askings(void)
     fevstunik_agreement told;
 
     memset(buffer, 0xaa, sizeof buffer);
-    is_answer(
-        "of no cache",
-        fevstunik_request(&none, &nobody, WEB, &at, confounder, 16, &nothing, confounder, 0, buffer, sizeof buffer),
-        FEVSTUNIK_EMPTY_HANDLE, 0, 0, 0);
-    is("nothing is awaited", none.opaque == NULL && nobody.opaque == NULL, 1);
-    is_answer("finish of none", fevstunik_finish(&nobody, reply.at, reply.size, &told, buffer, sizeof buffer),
+    is_answer("of no cache", fevstunik_request(&none, &nobody, WEB, &at, confounder, 16, &nothing, confounder, 0, buffer, sizeof buffer),
               FEVSTUNIK_EMPTY_HANDLE, 0, 0, 0);
+    is("nothing is awaited", none.opaque == NULL && nobody.opaque == NULL, 1);
+    is_answer("finish of none", fevstunik_finish(&nobody, reply.at, reply.size, &told, buffer, sizeof buffer), FEVSTUNIK_EMPTY_HANDLE, 0, 0, 0);
     is("not written", buffer[0], 0xaa);
-    is_answer("no realm",
-              fevstunik_request(&credentials, &nobody, confounder, 0, &at, confounder, 16, &nothing, confounder, 0,
-                                buffer, sizeof buffer),
-              FEVSTUNIK_NO_REALM, 0, 0, 0);
+    is_answer("no realm", fevstunik_request(&credentials, &nobody, confounder, 0, &at, confounder, 16, &nothing, confounder, 0, buffer,
+                                            sizeof buffer), FEVSTUNIK_NO_REALM, 0, 0, 0);
     is("nothing is awaited yet", nobody.opaque == NULL, 1);
-    is_answer("short",
-              fevstunik_request(&credentials, &nobody, WEB, &at, confounder, 16, &nothing, confounder, 0, buffer, 0),
+    is_answer("short", fevstunik_request(&credentials, &nobody, WEB, &at, confounder, 16, &nothing, confounder, 0, buffer, 0),
               FEVSTUNIK_SHORT_BUFFER, 0, 0, request.size);
-    is_answer("awaited", fevstunik_finish(&nobody, reply.at, reply.size, &told, buffer, sizeof buffer), FEVSTUNIK_OK, 0,
-              0, 24);
-    is_answer("no realm again",
-              fevstunik_request(&credentials, &nobody, confounder, 0, &at, confounder, 16, &nothing, confounder, 0,
-                                buffer, sizeof buffer),
-              FEVSTUNIK_NO_REALM, 0, 0, 0);
-    is_answer("awaited still", fevstunik_finish(&nobody, reply.at, reply.size, &told, buffer, sizeof buffer),
-              FEVSTUNIK_OK, 0, 0, 24);
+    is_answer("awaited", fevstunik_finish(&nobody, reply.at, reply.size, &told, buffer, sizeof buffer), FEVSTUNIK_OK, 0, 0, 24);
+    is_answer("no realm again", fevstunik_request(&credentials, &nobody, confounder, 0, &at, confounder, 16, &nothing, confounder, 0, buffer,
+                                                  sizeof buffer), FEVSTUNIK_NO_REALM, 0, 0, 0);
+    is_answer("awaited still", fevstunik_finish(&nobody, reply.at, reply.size, &told, buffer, sizeof buffer), FEVSTUNIK_OK, 0, 0, 24);
     fevstunik_pending_free(&nobody);
     fevstunik_pending_free(&nobody);
     is("freed", nobody.opaque == NULL, 1);
@@ -1113,8 +944,7 @@ static void negative_answer(void)
 {
     fevstunik_agreement told;
 
-    is_answer("ask", asked("host/web@EX", moment(1700000100, 5), 16, 0, sizeof buffer), FEVSTUNIK_OK, 0, 0,
-              request.size);
+    is_answer("ask", asked("host/web@EX", moment(1700000100, 5), 16, 0, sizeof buffer), FEVSTUNIK_OK, 0, 0, request.size);
     is("finish", finished(&negative_reply, &told, sizeof buffer).code, FEVSTUNIK_OK);
     is("a number", told.has_service_seq, 1);
     is("the number", told.service_seq, 2147483648);
@@ -1125,21 +955,14 @@ static void agreements(void)
 {
     static const fevstunik_agreement plain = {
         .client = {0, 8}, .session_key = {8, 16}, .service_subkey = {24, 0}, .name_type = 1, .session_type = 19};
-    static const fevstunik_agreement with_subkey = {.client = {0, 8},
-                                                    .session_key = {8, 16},
-                                                    .service_subkey = {24, 16},
-                                                    .service_seq = 128,
-                                                    .name_type = 1,
-                                                    .session_type = 19,
-                                                    .service_subkey_type = 19,
-                                                    .has_service_subkey = true,
-                                                    .has_service_seq = true};
+    static const fevstunik_agreement with_subkey = {
+        .client = {0, 8}, .session_key = {8, 16}, .service_subkey = {24, 16}, .service_seq = 128, .name_type = 1, .session_type = 19,
+        .service_subkey_type = 19, .has_service_subkey = true, .has_service_seq = true};
     fevstunik_agreement told;
     struct bytes none;
     size_t i;
 
-    is_answer("ask", asked("host/web@EX", moment(1700000100, 5), 16, 0, sizeof buffer), FEVSTUNIK_OK, 0, 0,
-              request.size);
+    is_answer("ask", asked("host/web@EX", moment(1700000100, 5), 16, 0, sizeof buffer), FEVSTUNIK_OK, 0, 0, request.size);
     is_answer("finish", finished(&reply, &told, sizeof buffer), FEVSTUNIK_OK, 0, 0, 24);
     is_agreement("finish", &told, &plain);
     is_bytes("client", buffer, "alice@EX", 8);
@@ -1152,16 +975,14 @@ static void agreements(void)
         is("subkey", buffer[24 + i], (long long)(0x40 + i));
     memset(&told, 0x5a, sizeof told);
     is_answer("a request", finished(&request, &told, sizeof buffer), FEVSTUNIK_REPLY_TYPE, 0, 0, 0);
-    is("the agreement stays",
-       told.service_seq == 0x5a5a5a5a && told.client.size == FILLED && told.session_type == 0x5a5a5a5a, 1);
+    is("the agreement stays", told.service_seq == 0x5a5a5a5a && told.client.size == FILLED && told.session_type == 0x5a5a5a5a, 1);
     none = reply;
     none.size = 1;
     is_answer("one byte", finished(&none, &told, sizeof buffer), FEVSTUNIK_REPLY_MALFORMED, 0, 1, 0);
     none = reply;
     none.at[none.size - 1] ^= 1;
     is_answer("bent", finished(&none, &told, sizeof buffer), FEVSTUNIK_REPLY_INTEGRITY, 0, 0, 0);
-    is_answer("ask later", asked("host/web@EX", moment(1700000100, 6), 16, 0, sizeof buffer), FEVSTUNIK_OK, 0, 0,
-              request.size);
+    is_answer("ask later", asked("host/web@EX", moment(1700000100, 6), 16, 0, sizeof buffer), FEVSTUNIK_OK, 0, 0, request.size);
     is_answer("mismatch", finished(&reply, &told, sizeof buffer), FEVSTUNIK_REPLY_MISMATCH, 46, 0, 0);
 }
 
@@ -1174,8 +995,7 @@ static void files(void)
     is_answer("no entries", fevstunik_keytab_check(keytab.at, 2), FEVSTUNIK_OK, 0, 0, 0);
     is_answer("cache", fevstunik_cache_check(cache.at, cache.size), FEVSTUNIK_OK, 0, 0, 1);
     is_answer("no credentials", fevstunik_cache_check(cache.at, CREDENTIAL_AT), FEVSTUNIK_OK, 0, 0, 0);
-    is_answer("cache cut off", fevstunik_cache_check(cache.at, cache.size - 1), FEVSTUNIK_FILE_BAD_ITEM, 0,
-              CREDENTIAL_AT, 0);
+    is_answer("cache cut off", fevstunik_cache_check(cache.at, cache.size - 1), FEVSTUNIK_FILE_BAD_ITEM, 0, CREDENTIAL_AT, 0);
     is_answer("no header", fevstunik_cache_check(cache.at, 3), FEVSTUNIK_FILE_HEADER, 0, 0, 0);
     is_answer("a keytab as a cache", fevstunik_cache_check(keytab.at, keytab.size), FEVSTUNIK_FILE_VERSION, 0, 0, 0);
 }
@@ -1208,35 +1028,26 @@ static void two_faults(void)
     fevstunik_acceptor service = FEVSTUNIK_ACCEPTOR_INIT;
     fevstunik_time now = moment(1700000100, 7), bad = moment(0, 1000000);
 
-    is_answer("seal type and confounder", fevstunik_seal(17, key, 16, 2, key, 15, key, 0, buffer, 64),
-              FEVSTUNIK_KEY_TYPE, 0, 0, 0);
-    is_answer("seal length and confounder", fevstunik_seal(19, key, 17, 2, key, 15, key, 0, buffer, 64),
-              FEVSTUNIK_KEY_LENGTH, 0, 0, 0);
+    is_answer("seal type and confounder", fevstunik_seal(17, key, 16, 2, key, 15, key, 0, buffer, 64), FEVSTUNIK_KEY_TYPE, 0, 0, 0);
+    is_answer("seal length and confounder", fevstunik_seal(19, key, 17, 2, key, 15, key, 0, buffer, 64), FEVSTUNIK_KEY_LENGTH, 0, 0, 0);
     is_answer("open type and short", fevstunik_open(17, key, 16, 2, key, 3, buffer, 64), FEVSTUNIK_KEY_TYPE, 0, 0, 0);
-    is_answer("open length and tag", fevstunik_open(20, key, 16, 2, long_key, 64, buffer, 64), FEVSTUNIK_KEY_LENGTH, 0,
-              0, 0);
+    is_answer("open length and tag", fevstunik_open(20, key, 16, 2, long_key, 64, buffer, 64), FEVSTUNIK_KEY_LENGTH, 0, 0, 0);
     is_answer("open short and tag", fevstunik_open(19, key, 16, 2, key, 16, buffer, 64), FEVSTUNIK_TEXT_SHORT, 0, 0, 0);
-    is_answer("tag type and tag", fevstunik_checksum_check(17, key, 16, 2, key, 3, key, 16), FEVSTUNIK_KEY_TYPE, 0, 0,
-              0);
-    is_answer("tag length and tag", fevstunik_checksum_check(20, key, 16, 2, key, 3, key, 16), FEVSTUNIK_KEY_LENGTH, 0,
-              0, 0);
-    is_answer("skew and keytab", fevstunik_acceptor_new(&service, none.at, none.size, 86401, EACH_NAME),
-              FEVSTUNIK_BAD_SKEW, 0, 0, 0);
+    is_answer("tag type and tag", fevstunik_checksum_check(17, key, 16, 2, key, 3, key, 16), FEVSTUNIK_KEY_TYPE, 0, 0, 0);
+    is_answer("tag length and tag", fevstunik_checksum_check(20, key, 16, 2, key, 3, key, 16), FEVSTUNIK_KEY_LENGTH, 0, 0, 0);
+    is_answer("skew and keytab", fevstunik_acceptor_new(&service, none.at, none.size, 86401, EACH_NAME), FEVSTUNIK_BAD_SKEW, 0, 0, 0);
     is_answer("new", fevstunik_acceptor_new(&service, keytab.at, keytab.size, 300, EACH_NAME), FEVSTUNIK_OK, 0, 0, 0);
     is_answer("nothing and name", error_of(&service, "host/web", now, sizeof buffer), FEVSTUNIK_NOTHING_THERE, 0, 0, 0);
-    is_answer("accept", fevstunik_acceptor_accept(&service, &accepted, request.at, request.size, &now), FEVSTUNIK_OK, 0,
-              0, 0);
+    is_answer("accept", fevstunik_acceptor_accept(&service, &accepted, request.at, request.size, &now), FEVSTUNIK_OK, 0, 0, 0);
     is_answer("reply confounder and type", reply_of(17, 17, 32, sizeof buffer), FEVSTUNIK_BAD_CONFOUNDER, 0, 0, 0);
     is_answer("reply confounder and length", reply_of(15, 20, 16, sizeof buffer), FEVSTUNIK_BAD_CONFOUNDER, 0, 0, 0);
-    is_answer("repeat", fevstunik_acceptor_accept(&service, &accepted, request.at, request.size, &now),
-              FEVSTUNIK_REPEAT, 34, 0, 0);
+    is_answer("repeat", fevstunik_acceptor_accept(&service, &accepted, request.at, request.size, &now), FEVSTUNIK_REPEAT, 34, 0, 0);
     is_answer("error name and moment", error_of(&service, "host/web", bad, sizeof buffer), FEVSTUNIK_NO_REALM, 0, 0, 0);
     is_answer("error bytes and moment", error_of(&service, "\xff@EX", bad, sizeof buffer), FEVSTUNIK_NOT_UTF8, 0, 0, 0);
     fevstunik_acceptor_free(&service);
     is_answer("add name and key", added(&none, "a", long_key, 65536, sizeof buffer), FEVSTUNIK_NO_REALM, 0, 0, 0);
     is_answer("add key and keytab", added(&none, "a@EX", long_key, 65536, sizeof buffer), FEVSTUNIK_TOO_LONG, 0, 0, 0);
-    is_answer("name that is no text", fevstunik_name_check((const uint8_t *)" \xff@b@c", 6), FEVSTUNIK_NOT_UTF8, 0, 0,
-              0);
+    is_answer("name that is no text", fevstunik_name_check((const uint8_t *)" \xff@b@c", 6), FEVSTUNIK_NOT_UTF8, 0, 0, 0);
 }
 
 /* After an invalid moment nothing accepted and no refusal is kept; what is remembered and the latest moment stay. */
@@ -1247,24 +1058,18 @@ static void bad_moments(void)
     fevstunik_known known;
 
     is_answer("new", fevstunik_acceptor_new(&service, keytab.at, keytab.size, 300, EACH_NAME), FEVSTUNIK_OK, 0, 0, 0);
-    is_answer("accept", fevstunik_acceptor_accept(&service, &accepted, request.at, request.size, &now), FEVSTUNIK_OK, 0,
-              0, 0);
-    is_answer("no moment", fevstunik_acceptor_accept(&service, &accepted, request.at, request.size, &bad),
-              FEVSTUNIK_BAD_MOMENT, 0, 0, 0);
-    is_answer("none told", fevstunik_accepted_known(&accepted, &known, buffer, sizeof buffer), FEVSTUNIK_NOTHING_THERE,
-              0, 0, 0);
+    is_answer("accept", fevstunik_acceptor_accept(&service, &accepted, request.at, request.size, &now), FEVSTUNIK_OK, 0, 0, 0);
+    is_answer("no moment", fevstunik_acceptor_accept(&service, &accepted, request.at, request.size, &bad), FEVSTUNIK_BAD_MOMENT, 0, 0, 0);
+    is_answer("none told", fevstunik_accepted_known(&accepted, &known, buffer, sizeof buffer), FEVSTUNIK_NOTHING_THERE, 0, 0, 0);
     is_answer("no reply", reply_of(16, 0, 0, sizeof buffer), FEVSTUNIK_NOTHING_THERE, 0, 0, 0);
     is_answer("no error", error_of(&service, "host/web@EX", now, sizeof buffer), FEVSTUNIK_NOTHING_THERE, 0, 0, 0);
     is("count", (long long)fevstunik_acceptor_count(&service), 1);
     is_answer("latest", fevstunik_acceptor_latest(&service, &latest), FEVSTUNIK_OK, 0, 0, 0);
     is("latest second", latest.seconds, 1700000101);
     is("latest micros", latest.micros, 7);
-    is_answer("repeat", fevstunik_acceptor_accept(&service, &accepted, request.at, request.size, &now),
-              FEVSTUNIK_REPEAT, 34, 0, 0);
-    is_answer("no moment again", fevstunik_acceptor_accept(&service, &accepted, request.at, request.size, &bad),
-              FEVSTUNIK_BAD_MOMENT, 0, 0, 0);
-    is_answer("no error of it", error_of(&service, "host/web@EX", now, sizeof buffer), FEVSTUNIK_NOTHING_THERE, 0, 0,
-              0);
+    is_answer("repeat", fevstunik_acceptor_accept(&service, &accepted, request.at, request.size, &now), FEVSTUNIK_REPEAT, 34, 0, 0);
+    is_answer("no moment again", fevstunik_acceptor_accept(&service, &accepted, request.at, request.size, &bad), FEVSTUNIK_BAD_MOMENT, 0, 0, 0);
+    is_answer("no error of it", error_of(&service, "host/web@EX", now, sizeof buffer), FEVSTUNIK_NOTHING_THERE, 0, 0, 0);
     fevstunik_acceptor_free(&service);
 }
 
@@ -1292,48 +1097,33 @@ static void no_bytes(void)
     is_answer("no credential", credential_in(NULL, 0, 0, &credential, NULL, 0), FEVSTUNIK_FILE_VERSION, 0, 0, 0);
     is_answer("owner", owner_in(cache.at, cache.size, &owner, NULL, 0), FEVSTUNIK_SHORT_BUFFER, 0, 0, 8);
     is_answer("no owner", owner_in(NULL, 0, &owner, NULL, 0), FEVSTUNIK_FILE_VERSION, 0, 0, 0);
-    is("a key of none", fevstunik_keytab_add(keytab.at, keytab.size, WEB, NULL, 0, &parts, buffer, sizeof buffer).code,
-       FEVSTUNIK_OK);
-    is_answer("a name of none", fevstunik_keytab_add(keytab.at, keytab.size, NULL, 0, NULL, 0, &parts, NULL, 0),
-              FEVSTUNIK_NO_REALM, 0, 0, 0);
-    is_answer("add to none", fevstunik_keytab_add(NULL, 0, WEB, key, 16, &parts, NULL, 0), FEVSTUNIK_FILE_VERSION, 0, 0,
-              0);
+    is("a key of none", fevstunik_keytab_add(keytab.at, keytab.size, WEB, NULL, 0, &parts, buffer, sizeof buffer).code, FEVSTUNIK_OK);
+    is_answer("a name of none", fevstunik_keytab_add(keytab.at, keytab.size, NULL, 0, NULL, 0, &parts, NULL, 0), FEVSTUNIK_NO_REALM, 0, 0, 0);
+    is_answer("add to none", fevstunik_keytab_add(NULL, 0, WEB, key, 16, &parts, NULL, 0), FEVSTUNIK_FILE_VERSION, 0, 0, 0);
     is_answer("remove", fevstunik_keytab_remove(NULL, 0, 0, NULL, 0), FEVSTUNIK_FILE_VERSION, 0, 0, 0);
-    is_answer("removed", fevstunik_keytab_remove(keytab.at, keytab.size, 0, NULL, 0), FEVSTUNIK_SHORT_BUFFER, 0, 0,
-              keytab.size);
+    is_answer("removed", fevstunik_keytab_remove(keytab.at, keytab.size, 0, NULL, 0), FEVSTUNIK_SHORT_BUFFER, 0, 0, keytab.size);
     is_answer("write", fevstunik_keytab_write(NULL, 0, NULL, 0), FEVSTUNIK_FILE_VERSION, 0, 0, 0);
     is_answer("name", fevstunik_name_check(NULL, 0), FEVSTUNIK_NO_REALM, 0, 0, 0);
     is_answer("no service", fevstunik_acceptor_new(&service, NULL, 0, 300, NULL, 0), FEVSTUNIK_FILE_VERSION, 0, 0, 0);
-    is_answer("each name", fevstunik_acceptor_new(&service, keytab.at, keytab.size, 300, NULL, 0), FEVSTUNIK_OK, 0, 0,
-              0);
-    is_answer("no request", fevstunik_acceptor_accept(&service, &accepted, NULL, 0, &now), FEVSTUNIK_MALFORMED, 60, 0,
-              0);
+    is_answer("each name", fevstunik_acceptor_new(&service, keytab.at, keytab.size, 300, NULL, 0), FEVSTUNIK_OK, 0, 0, 0);
+    is_answer("no request", fevstunik_acceptor_accept(&service, &accepted, NULL, 0, &now), FEVSTUNIK_MALFORMED, 60, 0, 0);
     is_answer("no name", fevstunik_acceptor_error(&service, NULL, 0, 3, &now, NULL, 0), FEVSTUNIK_NO_REALM, 0, 0, 0);
-    is_answer("an error", fevstunik_acceptor_error(&service, WEB, 3, &now, NULL, 0), FEVSTUNIK_SHORT_BUFFER, 0, 0,
-              error.size);
-    is_answer("no name by code", fevstunik_error(FEVSTUNIK_SKEW, NULL, 0, 3, &now, NULL, 0), FEVSTUNIK_NO_REALM, 0, 0,
-              0);
-    is_answer("an error by code", fevstunik_error(FEVSTUNIK_SKEW, WEB, 3, &now, NULL, 0), FEVSTUNIK_SHORT_BUFFER, 0, 0,
-              error.size);
-    is_answer("accept", fevstunik_acceptor_accept(&service, &accepted, listed.at, listed.size, &now), FEVSTUNIK_OK, 0,
-              0, 0);
+    is_answer("an error", fevstunik_acceptor_error(&service, WEB, 3, &now, NULL, 0), FEVSTUNIK_SHORT_BUFFER, 0, 0, error.size);
+    is_answer("no name by code", fevstunik_error(FEVSTUNIK_SKEW, NULL, 0, 3, &now, NULL, 0), FEVSTUNIK_NO_REALM, 0, 0, 0);
+    is_answer("an error by code", fevstunik_error(FEVSTUNIK_SKEW, WEB, 3, &now, NULL, 0), FEVSTUNIK_SHORT_BUFFER, 0, 0, error.size);
+    is_answer("accept", fevstunik_acceptor_accept(&service, &accepted, listed.at, listed.size, &now), FEVSTUNIK_OK, 0, 0, 0);
     is_answer("known", fevstunik_accepted_known(&accepted, &known, NULL, 0), FEVSTUNIK_SHORT_BUFFER, 0, 0, 35);
-    is_answer("of no bytes", fevstunik_accepted_item(&accepted, FEVSTUNIK_LIST_TICKET_AUTHORIZATION, 1, &kind, NULL, 0),
-              FEVSTUNIK_OK, 0, 0, 0);
-    is_answer("no confounder", fevstunik_accepted_reply(&accepted, NULL, 0, &nothing, NULL, 0, NULL, 0),
-              FEVSTUNIK_BAD_CONFOUNDER, 0, 0, 0);
-    is_answer("reply", fevstunik_accepted_reply(&accepted, key, 16, &nothing, NULL, 0, NULL, 0), FEVSTUNIK_SHORT_BUFFER,
-              0, 0, reply.size);
+    is_answer("of no bytes", fevstunik_accepted_item(&accepted, FEVSTUNIK_LIST_TICKET_AUTHORIZATION, 1, &kind, NULL, 0), FEVSTUNIK_OK, 0, 0, 0);
+    is_answer("no confounder", fevstunik_accepted_reply(&accepted, NULL, 0, &nothing, NULL, 0, NULL, 0), FEVSTUNIK_BAD_CONFOUNDER, 0, 0, 0);
+    is_answer("reply", fevstunik_accepted_reply(&accepted, key, 16, &nothing, NULL, 0, NULL, 0), FEVSTUNIK_SHORT_BUFFER, 0, 0, reply.size);
     fevstunik_acceptor_free(&service);
     is_answer("no cache", fevstunik_cache_new(&none, NULL, 0), FEVSTUNIK_FILE_VERSION, 0, 0, 0);
-    is_answer("no service",
-              fevstunik_request(&credentials, &pending, NULL, 0, &now, NULL, 0, &nothing, NULL, 0, NULL, 0),
-              FEVSTUNIK_NO_REALM, 0, 0, 0);
-    is_answer("ask", fevstunik_request(&credentials, &pending, WEB, &now, key, 16, &nothing, NULL, 0, NULL, 0),
-              FEVSTUNIK_SHORT_BUFFER, 0, 0, request.size);
+    is_answer("no service", fevstunik_request(&credentials, &pending, NULL, 0, &now, NULL, 0, &nothing, NULL, 0, NULL, 0), FEVSTUNIK_NO_REALM,
+              0, 0, 0);
+    is_answer("ask", fevstunik_request(&credentials, &pending, WEB, &now, key, 16, &nothing, NULL, 0, NULL, 0), FEVSTUNIK_SHORT_BUFFER, 0, 0,
+              request.size);
     is_answer("no reply", fevstunik_finish(&pending, NULL, 0, &told, NULL, 0), FEVSTUNIK_REPLY_MALFORMED, 0, 0, 0);
-    is_answer("finish", fevstunik_finish(&pending, reply.at, reply.size, &told, NULL, 0), FEVSTUNIK_SHORT_BUFFER, 0, 0,
-              24);
+    is_answer("finish", fevstunik_finish(&pending, reply.at, reply.size, &told, NULL, 0), FEVSTUNIK_SHORT_BUFFER, 0, 0, 24);
     is_answer("no key", fevstunik_seal(19, NULL, 0, 2, NULL, 0, NULL, 0, NULL, 0), FEVSTUNIK_KEY_LENGTH, 0, 0, 0);
     is_answer("seal", fevstunik_seal(19, key, 16, 2, key, 16, NULL, 0, buffer, sizeof buffer), FEVSTUNIK_OK, 0, 0, 32);
     is_answer("open", fevstunik_open(19, key, 16, 2, buffer, 32, NULL, 0), FEVSTUNIK_OK, 0, 0, 0);
@@ -1361,22 +1151,15 @@ static void is_stamp(const char *what, uint32_t skew, size_t room, unsigned code
 /* What stands for a request in a store that services share: its names and its time, and until when it is kept. */
 static void stamps(void)
 {
-    static const char wanted[] = "00000000000000024558"
-                                 "0000000000000002"
-                                 "0000000000000004686f7374"
-                                 "0000000000000003776562"
-                                 "00000000000000024558"
-                                 "0000000000000001"
-                                 "0000000000000005616c696365"
-                                 "00060a241e142105";
+    static const char wanted[] = "00000000000000024558" "0000000000000002" "0000000000000004686f7374" "0000000000000003776562"
+                                 "00000000000000024558" "0000000000000001" "0000000000000005616c696365" "00060a241e142105";
     fevstunik_acceptor service = FEVSTUNIK_ACCEPTOR_INIT;
     fevstunik_accepted none = FEVSTUNIK_ACCEPTED_INIT;
     fevstunik_time until = {7, 7};
     struct bytes stamp;
 
     from_hex(&stamp, wanted);
-    is_answer("stamp of none", fevstunik_accepted_stamp(&none, 300, &until, buffer, sizeof buffer),
-              FEVSTUNIK_EMPTY_HANDLE, 0, 0, 0);
+    is_answer("stamp of none", fevstunik_accepted_stamp(&none, 300, &until, buffer, sizeof buffer), FEVSTUNIK_EMPTY_HANDLE, 0, 0, 0);
     is_answer("ready", fevstunik_accepted_new(&accepted), FEVSTUNIK_OK, 0, 0, 0);
     is_stamp("nothing yet", 300, sizeof buffer, FEVSTUNIK_NOTHING_THERE, 0);
     is_answer("new", fevstunik_acceptor_new(&service, keytab.at, keytab.size, 300, EACH_NAME), FEVSTUNIK_OK, 0, 0, 0);
@@ -1422,30 +1205,25 @@ static void new_keytabs(void)
     fevstunik_time latest;
     void *held;
 
-    is_answer("none", fevstunik_acceptor_replace_keytab(&service, keytab.at, keytab.size, EACH_NAME),
-              FEVSTUNIK_EMPTY_HANDLE, 0, 0, 0);
+    is_answer("none", fevstunik_acceptor_replace_keytab(&service, keytab.at, keytab.size, EACH_NAME), FEVSTUNIK_EMPTY_HANDLE, 0, 0, 0);
     is("none then", service.opaque == NULL, 1);
     is_answer("new", fevstunik_acceptor_new(&service, keytab.at, keytab.size, 300, WEB), FEVSTUNIK_OK, 0, 0, 0);
     is("accept", accepted_by(&service, &request, moment(1700000101, 5)), FEVSTUNIK_OK);
     held = service.opaque;
-    is_answer("no keytab", fevstunik_acceptor_replace_keytab(&service, keytab.at, keytab.size - 1, WEB),
-              FEVSTUNIK_FILE_TRUNCATED, 0, 2, 0);
-    is_answer("no name",
-              fevstunik_acceptor_replace_keytab(&service, keytab.at, keytab.size, (const uint8_t *)"host", 4),
-              FEVSTUNIK_NO_REALM, 0, 0, 0);
-    is_answer("the keytab first", fevstunik_acceptor_replace_keytab(&service, keytab.at, 1, (const uint8_t *)"host", 4),
-              FEVSTUNIK_FILE_VERSION, 0, 0, 0);
+    is_answer("no keytab", fevstunik_acceptor_replace_keytab(&service, keytab.at, keytab.size - 1, WEB), FEVSTUNIK_FILE_TRUNCATED, 0, 2, 0);
+    is_answer("no name", fevstunik_acceptor_replace_keytab(&service, keytab.at, keytab.size, (const uint8_t *)"host", 4), FEVSTUNIK_NO_REALM,
+              0, 0, 0);
+    is_answer("the keytab first", fevstunik_acceptor_replace_keytab(&service, keytab.at, 1, (const uint8_t *)"host", 4), FEVSTUNIK_FILE_VERSION,
+              0, 0, 0);
     is("a repeat", accepted_by(&service, &request, moment(1700000101, 5)), FEVSTUNIK_REPEAT);
     is_answer("no entries", fevstunik_acceptor_replace_keytab(&service, keytab.at, 2, WEB), FEVSTUNIK_OK, 0, 0, 0);
     is("no key", accepted_by(&service, &request, moment(1700000101, 5)), FEVSTUNIK_NOT_US);
-    is_answer("the same", fevstunik_acceptor_replace_keytab(&service, keytab.at, keytab.size, WEB), FEVSTUNIK_OK, 0, 0,
-              0);
+    is_answer("the same", fevstunik_acceptor_replace_keytab(&service, keytab.at, keytab.size, WEB), FEVSTUNIK_OK, 0, 0, 0);
     is("a repeat still", accepted_by(&service, &request, moment(1700000100, 5)), FEVSTUNIK_REPEAT);
     is("remembered", (long long)fevstunik_acceptor_count(&service), 1);
     is_answer("latest", fevstunik_acceptor_latest(&service, &latest), FEVSTUNIK_OK, 0, 0, 0);
     is("the latest", latest.seconds, 1700000101);
-    is_answer("another name",
-              fevstunik_acceptor_replace_keytab(&service, keytab.at, keytab.size, (const uint8_t *)"host/mail@EX", 12),
+    is_answer("another name", fevstunik_acceptor_replace_keytab(&service, keytab.at, keytab.size, (const uint8_t *)"host/mail@EX", 12),
               FEVSTUNIK_OK, 0, 0, 0);
     is("not us", accepted_by(&service, &request, moment(1700000101, 5)), FEVSTUNIK_NOT_US);
     is("one service", held != NULL && service.opaque != NULL, 1);
@@ -1462,8 +1240,7 @@ static void whole_life(void)
     is_accepted(&service);
     replies();
     is_refused(&service);
-    is_answer("new again", fevstunik_acceptor_new(&service, keytab.at, keytab.size, 300, EACH_NAME), FEVSTUNIK_OK, 0, 0,
-              0);
+    is_answer("new again", fevstunik_acceptor_new(&service, keytab.at, keytab.size, 300, EACH_NAME), FEVSTUNIK_OK, 0, 0, 0);
     is("count anew", (long long)fevstunik_acceptor_count(&service), 0);
     fevstunik_acceptor_free(&service);
     fevstunik_acceptor_free(&service);
@@ -1478,44 +1255,13 @@ static void kept_credentials(void)
 
 int main(int count, char **words)
 {
-    static void (*const parts[])(void) = {empty_handles,
-                                          started_again,
-                                          negative_number,
-                                          unready,
-                                          kept_apart,
-                                          ready_again,
-                                          wanted_services,
-                                          constants,
-                                          whole_life,
-                                          keyed_client,
-                                          another_service,
-                                          lists,
-                                          stamps,
-                                          starts,
-                                          new_keytabs,
-                                          errors,
-                                          names,
-                                          files,
-                                          listings,
-                                          kept_keytab,
-                                          kept_cache,
-                                          second_credential,
-                                          edits,
-                                          additions,
-                                          second_entry,
-                                          kept_credentials,
-                                          requests,
-                                          negative_answer,
-                                          contexts,
-                                          empty_askings,
-                                          agreements,
-                                          texts,
-                                          two_faults_of_requests,
-                                          two_faults,
-                                          bad_moments,
-                                          no_bytes};
-    struct bytes *const inputs[] = {&keytab, &cache, &request, &keyed,    &reply,          &keyed_reply, &error,
-                                    &two,    &other, &listed,  &negative, &negative_reply, &with_start,  &at_the_end};
+    static void (*const parts[])(void) = {
+        empty_handles, started_again, negative_number, unready, kept_apart, ready_again, wanted_services, constants, whole_life, keyed_client,
+        another_service, lists, stamps, starts, new_keytabs, errors, names, files, listings, kept_keytab, kept_cache, second_credential, edits,
+        additions, second_entry, kept_credentials, requests, negative_answer, contexts, empty_askings, agreements, texts, two_faults_of_requests,
+        two_faults, bad_moments, no_bytes};
+    struct bytes *const inputs[] = {&keytab, &cache, &request, &keyed, &reply, &keyed_reply, &error, &two, &other, &listed, &negative,
+                                    &negative_reply, &with_start, &at_the_end};
     size_t part;
 
     if (count != 15)

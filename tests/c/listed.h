@@ -4,8 +4,7 @@
 
 #include "fevstunik.h"
 
-static inline fevstunik_answer entry_in(const uint8_t *file, size_t size, size_t index, fevstunik_key_entry *entry,
-                                        uint8_t *to, size_t room)
+static inline fevstunik_answer entry_in(const uint8_t *file, size_t size, size_t index, fevstunik_key_entry *entry, uint8_t *to, size_t room)
 {
     fevstunik_keytab keytab = FEVSTUNIK_KEYTAB_INIT;
     fevstunik_answer answer = fevstunik_keytab_new(&keytab, file, size);
@@ -17,27 +16,25 @@ static inline fevstunik_answer entry_in(const uint8_t *file, size_t size, size_t
 }
 
 /* The owner of a cache or, without a place for that, a credential of it. */
-static inline fevstunik_answer part_in(const uint8_t *file, size_t size, fevstunik_owner *owner, size_t index,
-                                       fevstunik_cache_entry *credential, uint8_t *to, size_t room)
+static inline fevstunik_answer part_in(const uint8_t *file, size_t size, fevstunik_owner *owner, size_t index, fevstunik_cache_entry *credential,
+                                       uint8_t *to, size_t room)
 {
     fevstunik_cache cache = FEVSTUNIK_CACHE_INIT;
     fevstunik_answer answer = fevstunik_cache_new(&cache, file, size);
 
     if (answer.code == FEVSTUNIK_OK)
-        answer = owner != NULL ? fevstunik_cache_owner(&cache, owner, to, room)
-                               : fevstunik_cache_credential(&cache, index, credential, to, room);
+        answer = owner != NULL ? fevstunik_cache_owner(&cache, owner, to, room) : fevstunik_cache_credential(&cache, index, credential, to, room);
     fevstunik_cache_free(&cache);
     return answer;
 }
 
-static inline fevstunik_answer credential_in(const uint8_t *file, size_t size, size_t index,
-                                             fevstunik_cache_entry *credential, uint8_t *to, size_t room)
+static inline fevstunik_answer credential_in(const uint8_t *file, size_t size, size_t index, fevstunik_cache_entry *credential, uint8_t *to,
+                                             size_t room)
 {
     return part_in(file, size, NULL, index, credential, to, room);
 }
 
-static inline fevstunik_answer owner_in(const uint8_t *file, size_t size, fevstunik_owner *owner, uint8_t *to,
-                                        size_t room)
+static inline fevstunik_answer owner_in(const uint8_t *file, size_t size, fevstunik_owner *owner, uint8_t *to, size_t room)
 {
     return part_in(file, size, owner, 0, NULL, to, room);
 }

@@ -115,16 +115,15 @@ static fevstunik_answer refusing(void)
 
 static fevstunik_answer asking(void)
 {
-    return fevstunik_request(&credentials, &pending, service_name, 11, &now, cache.at, 16, &keyed, cache.at, 16, buffer,
-                             sizeof buffer);
+    return fevstunik_request(&credentials, &pending, service_name, 11, &now, cache.at, 16, &keyed, cache.at, 16, buffer, sizeof buffer);
 }
 
 static fevstunik_answer asking_in_context(void)
 {
     static const fevstunik_context_choice context = {0, {0}};
 
-    return fevstunik_context_request(&credentials, &pending, service_name, 11, &now, cache.at, 16, &keyed, cache.at, 16,
-                                     &context, buffer, sizeof buffer);
+    return fevstunik_context_request(&credentials, &pending, service_name, 11, &now, cache.at, 16, &keyed, cache.at, 16, &context, buffer,
+                                     sizeof buffer);
 }
 
 static fevstunik_answer reading_cache(void)
@@ -257,8 +256,7 @@ static void is_told(const char *what, fevstunik_answer (*call)(void))
 {
     long at, before = held;
     size_t count = fevstunik_acceptor_count(&service), i;
-    void *opaque = service.opaque, *kept = accepted.opaque, *read = credentials.opaque, *awaited = pending.opaque,
-         *listed = keys.opaque;
+    void *opaque = service.opaque, *kept = accepted.opaque, *read = credentials.opaque, *awaited = pending.opaque, *listed = keys.opaque;
     fevstunik_time moment_before = latest();
     fevstunik_answer answer;
 
@@ -272,8 +270,7 @@ static void is_told(const char *what, fevstunik_answer (*call)(void))
         is_at("size", at, (long long)answer.size, 0);
         is_at("pieces held", at, held, before);
         is_at("the handle", at, service.opaque == opaque && accepted.opaque == kept, 1);
-        is_at("the client's handles", at,
-              credentials.opaque == read && pending.opaque == awaited && keys.opaque == listed, 1);
+        is_at("the client's handles", at, credentials.opaque == read && pending.opaque == awaited && keys.opaque == listed, 1);
         is_at("what is remembered", at, (long long)fevstunik_acceptor_count(&service), (long long)count);
         is_at("the latest second", at, latest().seconds, moment_before.seconds);
         is_at("the latest microsecond", at, latest().micros, moment_before.micros);
@@ -351,8 +348,7 @@ static void keep_ticket(void)
     fevstunik_time early = now;
 
     early.seconds -= 1000;
-    is_at("too early", 0, fevstunik_acceptor_accept(&service, &accepted, request.at, request.size, &early).code,
-          FEVSTUNIK_SKEW);
+    is_at("too early", 0, fevstunik_acceptor_accept(&service, &accepted, request.at, request.size, &early).code, FEVSTUNIK_SKEW);
 }
 
 /* A service that takes another keytab frees the ticket that it kept. */
@@ -388,10 +384,8 @@ static void refusals_without_memory(void)
 {
     is_at("new", 2, making().code, FEVSTUNIK_OK);
     left = 0;
-    is_at("another message", 0, fevstunik_acceptor_accept(&service, &accepted, reply.at, reply.size, &now).code,
-          FEVSTUNIK_MESSAGE_TYPE);
-    is_at("half a request", 0, fevstunik_acceptor_accept(&service, &accepted, request.at, request.size / 2, &now).code,
-          FEVSTUNIK_MALFORMED);
+    is_at("another message", 0, fevstunik_acceptor_accept(&service, &accepted, reply.at, reply.size, &now).code, FEVSTUNIK_MESSAGE_TYPE);
+    is_at("half a request", 0, fevstunik_acceptor_accept(&service, &accepted, request.at, request.size / 2, &now).code, FEVSTUNIK_MALFORMED);
     request.at[OPTIONS_AT] ^= 0x40;
     is_at("user to user", 0, accepting().code, FEVSTUNIK_USER_TO_USER);
     request.at[OPTIONS_AT] ^= 0x40;
@@ -417,29 +411,21 @@ static void faults_without_memory(void)
     left = 0;
     is_at("version", 0, fevstunik_cache_check(cache.at, 1).code, FEVSTUNIK_FILE_VERSION);
     is_at("cut off", 0, fevstunik_cache_check(cache.at, cache.size - 1).code, FEVSTUNIK_FILE_BAD_ITEM);
-    is_at("credential", 0, credential_in(cache.at, cache.size - 1, 0, &entry, buffer, sizeof buffer).code,
-          FEVSTUNIK_FILE_BAD_ITEM);
+    is_at("credential", 0, credential_in(cache.at, cache.size - 1, 0, &entry, buffer, sizeof buffer).code, FEVSTUNIK_FILE_BAD_ITEM);
     is_at("owner", 0, owner_in(cache.at, 3, &owner, buffer, sizeof buffer).code, FEVSTUNIK_FILE_HEADER);
     is_at("cache", 0, fevstunik_cache_new(&credentials, cache.at, 1).code, FEVSTUNIK_FILE_VERSION);
-    is_at("seal type", 0, fevstunik_seal(17, cache.at, 16, 2, cache.at, 16, cache.at, 5, buffer, sizeof buffer).code,
-          FEVSTUNIK_KEY_TYPE);
-    is_at("seal confounder", 0,
-          fevstunik_seal(19, cache.at, 16, 2, cache.at, 15, cache.at, 5, buffer, sizeof buffer).code,
-          FEVSTUNIK_BAD_CONFOUNDER);
-    is_at("open length", 0, fevstunik_open(20, cache.at, 16, 2, cache.at, 64, buffer, sizeof buffer).code,
-          FEVSTUNIK_KEY_LENGTH);
-    is_at("open short", 0, fevstunik_open(19, cache.at, 16, 2, cache.at, 31, buffer, sizeof buffer).code,
-          FEVSTUNIK_TEXT_SHORT);
-    is_at("open tag", 0, fevstunik_open(19, cache.at, 16, 2, cache.at, 64, buffer, sizeof buffer).code,
-          FEVSTUNIK_TEXT_INTEGRITY);
+    is_at("seal type", 0, fevstunik_seal(17, cache.at, 16, 2, cache.at, 16, cache.at, 5, buffer, sizeof buffer).code, FEVSTUNIK_KEY_TYPE);
+    is_at("seal confounder", 0, fevstunik_seal(19, cache.at, 16, 2, cache.at, 15, cache.at, 5, buffer, sizeof buffer).code,
+       FEVSTUNIK_BAD_CONFOUNDER);
+    is_at("open length", 0, fevstunik_open(20, cache.at, 16, 2, cache.at, 64, buffer, sizeof buffer).code, FEVSTUNIK_KEY_LENGTH);
+    is_at("open short", 0, fevstunik_open(19, cache.at, 16, 2, cache.at, 31, buffer, sizeof buffer).code, FEVSTUNIK_TEXT_SHORT);
+    is_at("open tag", 0, fevstunik_open(19, cache.at, 16, 2, cache.at, 64, buffer, sizeof buffer).code, FEVSTUNIK_TEXT_INTEGRITY);
     is_at("seal", 0, sealing().code, FEVSTUNIK_OK);
     is_at("open", 0, opening().code, FEVSTUNIK_OK);
-    is_at("reply confounder", 0,
-          fevstunik_accepted_reply(&accepted, cache.at, 15, &plain, cache.at, 0, buffer, sizeof buffer).code,
-          FEVSTUNIK_BAD_CONFOUNDER);
-    is_at("reply type", 0,
-          fevstunik_accepted_reply(&accepted, cache.at, 16, &other, cache.at, 16, buffer, sizeof buffer).code,
-          FEVSTUNIK_KEY_TYPE);
+    is_at("reply confounder", 0, fevstunik_accepted_reply(&accepted, cache.at, 15, &plain, cache.at, 0, buffer, sizeof buffer).code,
+       FEVSTUNIK_BAD_CONFOUNDER);
+    is_at("reply type", 0, fevstunik_accepted_reply(&accepted, cache.at, 16, &other, cache.at, 16, buffer, sizeof buffer).code,
+       FEVSTUNIK_KEY_TYPE);
     is_at("none was asked for", 0, left, 0);
     left = -1;
     fevstunik_acceptor_free(&service);

@@ -42,8 +42,8 @@ static void read_error(const krb5_data *message)
 }
 
 /* Takes the reply, and goes on as the service of the example awaits. */
-static void agree(int peer, krb5_auth_context state, const krb5_data *reply, const krb5_creds *credential,
-                  const char *text, const krb5_keyblock *ours)
+static void agree(int peer, krb5_auth_context state, const krb5_data *reply, const krb5_creds *credential, const char *text,
+                  const krb5_keyblock *ours)
 {
     krb5_ap_rep_enc_part *part;
     char *name;
@@ -69,9 +69,7 @@ int main(int count, char **words)
         return 2;
     must(krb5_init_context(&context), "a context");
     credential = credential_for(words[1], words[2]);
-    must(krb5_mk_req_extended(context, &state, AP_OPTS_MUTUAL_REQUIRED | AP_OPTS_USE_SUBKEY, NULL, &credential,
-                              &request),
-         "a request");
+    must(krb5_mk_req_extended(context, &state, AP_OPTS_MUTUAL_REQUIRED | AP_OPTS_USE_SUBKEY, NULL, &credential, &request), "a request");
     must(krb5_auth_con_getsendsubkey(context, state, &subkey), "a subkey");
     subkey = copied(subkey);
     for (times = count - 4; times > 0; times--) {

@@ -17,8 +17,8 @@ static fevstunik_answer ask(const fevstunik_cache *cache, const char *service, l
     fevstunik_answer answer;
 
     memset(confounder, (int)number, sizeof confounder);
-    answer = fevstunik_request(cache, &pending, (const uint8_t *)service, strlen(service), &now, confounder,
-                               sizeof confounder, &choice, confounder, 0, bytes, sizeof kept_bytes);
+    answer = fevstunik_request(cache, &pending, (const uint8_t *)service, strlen(service), &now, confounder, sizeof confounder, &choice,
+                               confounder, 0, bytes, sizeof kept_bytes);
     fevstunik_pending_free(&pending);
     return answer;
 }

@@ -2,12 +2,11 @@
 import pytest
 
 from support import c_header, c_programs
-from support.checks import slug
 
 
-@pytest.mark.parametrize("name", c_header.CHECKS, ids=slug)
-def test_header(name):
-    assert c_header.CHECKS[name]() is None
+def test_header(checks):
+    """The header says what the crate does."""
+    checks.all(c_header.header_checks())
 
 
 def test_functions_are_the_archives(archive):

@@ -42,8 +42,8 @@ static void make(int at)
     fevstunik_time sent = moment(1700000100, (uint32_t)(at / CLIENTS));
     fevstunik_owner owner;
     uint8_t name[64];
-    fevstunik_answer answer = fevstunik_request(&held[at % CLIENTS], &pending, WEB, &sent, none, 16, &choice, none, 0,
-                                                requests[at].at, sizeof requests[at].at);
+    fevstunik_answer answer = fevstunik_request(&held[at % CLIENTS], &pending, WEB, &sent, none, 16, &choice, none, 0, requests[at].at,
+                                                sizeof requests[at].at);
 
     is("a request", answer.code, FEVSTUNIK_OK);
     requests[at].size = answer.size;

@@ -1,4 +1,4 @@
-/* Tokens of GSS-API. Each line of standard input is a call and what it answers, as tests/support/c_tokens.py makes them; bytes are hexadecimal
+/* Tokens of GSS-API. Each line of standard input is a call and what it answers, as tests/c_tokens.py makes them; bytes are hexadecimal
  * digits, `-` if there are none:
  *
  *     open CODE AT MECHANISM NEGOTIATED TOKEN REQUEST
@@ -50,8 +50,7 @@ static void opened(void)
     if (!is_ok || count == 0)
         return;
     clear();
-    is_answer("short", fevstunik_token_open(given, size, &wrapped, buffer, count - 1), FEVSTUNIK_SHORT_BUFFER, 0, 0,
-              count);
+    is_answer("short", fevstunik_token_open(given, size, &wrapped, buffer, count - 1), FEVSTUNIK_SHORT_BUFFER, 0, 0, count);
     is_written(wanted, 0);
 }
 
@@ -94,8 +93,7 @@ static void answered(void)
         is_written(wanted, is_ok ? count : 0);
         is("is an error", is_error, is_ok ? atoi(word[3]) : was);
         if (is_ok && count > 0)
-            is_answer("short", fevstunik_token_answer(given, size, &is_error, buffer, count - 1),
-                      FEVSTUNIK_SHORT_BUFFER, 0, 0, count);
+            is_answer("short", fevstunik_token_answer(given, size, &is_error, buffer, count - 1), FEVSTUNIK_SHORT_BUFFER, 0, 0, count);
     }
 }
 
@@ -134,8 +132,7 @@ static void contexts(void)
     count = is_part("extensions", context.extensions, count, word[7]);
     is_answer(text, answer, code, 0, 0, count);
     clear();
-    is_answer("short", fevstunik_context_read(given, size, &context, buffer, count - 1), FEVSTUNIK_SHORT_BUFFER, 0, 0,
-              count);
+    is_answer("short", fevstunik_context_read(given, size, &context, buffer, count - 1), FEVSTUNIK_SHORT_BUFFER, 0, 0, count);
     is_written(wanted, 0);
 }
 
@@ -150,19 +147,13 @@ static void too_long(void)
 
     message[0] = 0x60;
     for (int i = 0; i < 3; i++) {
-        is_answer("long request", fevstunik_token_request(&wrapped, message, sizes[i], buffer, ROOM),
-                  FEVSTUNIK_TOO_LONG, 0, 0, 0);
-        is_answer("long reply", fevstunik_token_reply(&wrapped, message, sizes[i], buffer, ROOM), FEVSTUNIK_TOO_LONG, 0,
-                  0, 0);
-        is_answer("long error", fevstunik_token_error(&wrapped, message, sizes[i], buffer, ROOM), FEVSTUNIK_TOO_LONG, 0,
-                  0, 0);
+        is_answer("long request", fevstunik_token_request(&wrapped, message, sizes[i], buffer, ROOM), FEVSTUNIK_TOO_LONG, 0, 0, 0);
+        is_answer("long reply", fevstunik_token_reply(&wrapped, message, sizes[i], buffer, ROOM), FEVSTUNIK_TOO_LONG, 0, 0, 0);
+        is_answer("long error", fevstunik_token_error(&wrapped, message, sizes[i], buffer, ROOM), FEVSTUNIK_TOO_LONG, 0, 0, 0);
     }
-    is_answer("almost", fevstunik_token_request(&wrapped, message, 1048558, buffer, ROOM), FEVSTUNIK_SHORT_BUFFER, 0, 0,
-              1048576);
-    is_answer("long token", fevstunik_token_open(message, sizeof message, &found, buffer, ROOM),
-              FEVSTUNIK_TOKEN_MALFORMED, 0, 0, 0);
-    is_answer("long answer", fevstunik_token_answer(message, sizeof message, &is_error, buffer, ROOM),
-              FEVSTUNIK_TOKEN_MALFORMED, 0, 0, 0);
+    is_answer("almost", fevstunik_token_request(&wrapped, message, 1048558, buffer, ROOM), FEVSTUNIK_SHORT_BUFFER, 0, 0, 1048576);
+    is_answer("long token", fevstunik_token_open(message, sizeof message, &found, buffer, ROOM), FEVSTUNIK_TOKEN_MALFORMED, 0, 0, 0);
+    is_answer("long answer", fevstunik_token_answer(message, sizeof message, &is_error, buffer, ROOM), FEVSTUNIK_TOKEN_MALFORMED, 0, 0, 0);
 }
 
 int main(void)

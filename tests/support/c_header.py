@@ -160,19 +160,12 @@ def prototypes():
     return differs({" ".join(it.split()) for it in header}, crate)
 
 
-def answered():
-    """Each code is one that a function returns."""
-    return differs(set().union(*documented().values()), set(header_codes()))
-
-
-# What tests/c/test_header.py looks at.
-CHECKS = {
-    "the header's codes are the crate's": codes,
-    "the codes' names and texts are those of the enum": names_and_texts,
-    "the codes are in order": order,
-    "the header's numbers of lists are the crate's": lists,
-    "the header's structs are the crate's": structs,
-    "the header's prototypes are the crate's": prototypes,
-    "each function has an example in the header": examples,
-    "each code is one that a function answers": answered,
-}
+def header_checks():
+    yield "the header's codes are the crate's", codes()
+    yield "the codes' names and texts are those of the enum", names_and_texts()
+    yield "the codes are in order", order()
+    yield "the header's numbers of lists are the crate's", lists()
+    yield "the header's structs are the crate's", structs()
+    yield "the header's prototypes are the crate's", prototypes()
+    yield "each function has an example in the header", examples()
+    yield "each code is one that a function answers", differs(set().union(*documented().values()), set(header_codes()))
