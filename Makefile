@@ -87,3 +87,25 @@ dist: all
 
 clean:
 	rm -rf $(BUILD)
+
+# ---- for contributors ----
+PYTEST := /usr/bin/python3 -m pytest
+SHELL_FILES := test krbtool packaging/build-library packaging/dist packaging/version
+
+.PHONY: help lint test
+help:
+	@echo 'make              builds krbtool and the library for C (it proves them first)'
+	@echo 'make install      installs them; packaging/INSTALL says which variables there are'
+	@echo 'make check        proves, builds and tests everything: ./test'
+	@echo 'make test         runs the tests of what is built'
+	@echo 'make test T=NAME  runs the tests whose names contain NAME'
+	@echo 'make lint         checks the layout of Python, C and shell, and looks for common mistakes'
+	@echo 'make dist         makes the source tarball'
+
+test:
+	$(PYTEST) $(if $(T),-k '$(T)',-n auto --dist loadgroup) tests
+
+lint:
+	flake8 tests
+	clang-format --dry-run --Werror $$(git ls-files 'tests/peers/*.[ch]' 'tests/support/*.[ch]')
+	shellcheck --severity=warning --exclude=SC2164 $(SHELL_FILES)

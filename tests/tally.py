@@ -2,7 +2,8 @@
 
 
 def told(checks):
-    """Prints each check that failed, and the line 'N passed, M failed'. Returns the exit status: 1 if one failed, or there was none.
+    """Prints each check that failed, and the line 'N passed, M failed'. Returns the exit status: 1 if one failed, or
+    there was none.
 
     A check is a pair: its name, and what is wrong, or None.
     """

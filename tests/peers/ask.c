@@ -45,7 +45,8 @@ static krb5_auth_context ask(krb5_creds *ticket, int count, char **words)
 #endif
     text.data = (void *)"what the checksum covers";
     text.length = strlen(text.data);
-    must(krb5_mk_req_extended(context, &state, options, has_word(count, words, "checksum") ? &text : NULL, ticket, &request),
+    must(krb5_mk_req_extended(context, &state, options, has_word(count, words, "checksum") ? &text : NULL, ticket,
+                              &request),
          "a request");
     print_hex(&request);
     printf("\n");

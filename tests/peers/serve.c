@@ -60,7 +60,8 @@ static krb5_error_code look(krb5_auth_context state, krb5_ticket *ticket, struct
     seen->subkey = authenticator->subkey ? authenticator->subkey->enctype : 0;
     seen->number = authenticator->seq_number;
     seen->has_checksum = authenticator->checksum != NULL;
-    must(krb5_find_authdata(context, ticket->enc_part2->authorization_data, NULL, KRB5_AUTHDATA_WIN2K_PAC, &pac), "a PAC");
+    must(krb5_find_authdata(context, ticket->enc_part2->authorization_data, NULL, KRB5_AUTHDATA_WIN2K_PAC, &pac),
+         "a PAC");
     seen->has_pac = pac != NULL;
     return 0;
 }

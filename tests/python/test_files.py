@@ -1,12 +1,13 @@
 """Keytabs and caches: what is read, what is written, and faults with their offsets."""
 import struct
 
-import c_cases
-import fixture as der
+from support import c_cases, fixture
+
 import pytest
 from fevstunik import Credential, CredentialCache, Fault, Key, Keytab, KeytabEntry, Owner, TicketFlags
 
-ENTRY = KeytabEntry("host/web@EX", Key(19, der.SERVICE_KEY), 3, 1_700_000_000)
+
+ENTRY = KeytabEntry("host/web@EX", Key(19, fixture.SERVICE_KEY), 3, 1_700_000_000)
 LIMIT = 16_777_216
 
 
@@ -17,16 +18,17 @@ def fault_of(call):
 
 
 def test_entries():
-    assert Keytab(der.keytab()).entries == (ENTRY,)
-    assert Keytab.read("examples/service.keytab").data == der.keytab()
-    assert Keytab(bytearray(der.keytab())).data == Keytab(memoryview(der.keytab())).data == der.keytab()
+    assert Keytab(fixture.keytab()).entries == (ENTRY,)
+    assert Keytab.read("examples/service.keytab").data == fixture.keytab()
+    assert Keytab(bytearray(fixture.keytab())).data == Keytab(memoryview(fixture.keytab())).data == fixture.keytab()
 
 
 def test_keytab_faults():
     assert fault_of(lambda: Keytab(b"")) == ("FILE_VERSION", 500, 0)
     assert fault_of(lambda: Keytab(b"\x05\x01")) == ("FILE_VERSION", 500, 0)
-    assert fault_of(lambda: Keytab(der.keytab()[:-1])) == ("FILE_TRUNCATED", 502, 2)
-    assert fault_of(lambda: Keytab(der.keytab() + struct.pack(">i", 1) + b"x")) == ("FILE_BAD_ITEM", 503, len(der.keytab()))
+    assert fault_of(lambda: Keytab(fixture.keytab()[:-1])) == ("FILE_TRUNCATED", 502, 2)
+    longer, size = fixture.keytab() + struct.pack(">i", 1) + b"x", len(fixture.keytab())
+    assert fault_of(lambda: Keytab(longer)) == ("FILE_BAD_ITEM", 503, size)
     assert fault_of(lambda: Keytab(b"\x05\x02" + bytes(LIMIT - 1))) == ("TOO_LONG", 404, 0)
     for strange in ("text", 5, None):
         with pytest.raises(TypeError):
@@ -53,7 +55,8 @@ def test_a_keytab_is_changed():
 
 
 def test_numbers_are_not_cut():
-    for entry in (KeytabEntry("a@EX", Key(19, b""), 2**32), KeytabEntry("a@EX", Key(2**15, b""), 1), KeytabEntry("a@EX", Key(19, b""), 1, -1),
+    for entry in (KeytabEntry("a@EX", Key(19, b""), 2**32), KeytabEntry("a@EX", Key(2**15, b""), 1),
+                  KeytabEntry("a@EX", Key(19, b""), 1, -1),
                   KeytabEntry("a@EX", Key(19, b""), 1, 1, 2**31)):
         with pytest.raises(OverflowError):
             Keytab(b"\x05\x02").added(entry)
@@ -65,20 +68,22 @@ def test_credentials():
     configuration, credential = cache.credentials
     assert configuration.server.endswith("@X-CACHECONF:") and configuration.ticket == b"yes"
     assert credential == Credential(
-        "alice@EX", "host/web@EX", Key(19, der.SESSION_KEY), der.ticket(), 1_700_000_000, 1_700_000_001, 1_700_036_000, 1_700_600_000,
+        "alice@EX", "host/web@EX", Key(19, fixture.SESSION_KEY), fixture.ticket(), 1_700_000_000, 1_700_000_001,
+        1_700_036_000, 1_700_600_000,
         TicketFlags(0x4061_0000), 1, 3, True)
     assert TicketFlags.FORWARDABLE in credential.flags and TicketFlags.PROXY not in credential.flags
-    assert CredentialCache(der.old_cache()).owner.clock_offset is None
+    assert CredentialCache(fixture.old_cache()).owner.clock_offset is None
 
 
 def test_cache_faults():
     assert fault_of(lambda: CredentialCache(b"\x05\x02")) == ("FILE_VERSION", 500, 0)
     assert fault_of(lambda: CredentialCache(b"\x05\x04\x00\x05"))[0] == "FILE_HEADER"
-    assert fault_of(lambda: CredentialCache(der.cache()[:-1])) == ("FILE_BAD_ITEM", 503, 4 + len(der.principal(1, b"EX", b"alice")))
+    start = 4 + len(fixture.principal(1, b"EX", b"alice"))
+    assert fault_of(lambda: CredentialCache(fixture.cache()[:-1])) == ("FILE_BAD_ITEM", 503, start)
 
 
 def test_keys_are_not_shown():
-    cache, keytab = CredentialCache(der.cache()), Keytab(der.keytab())
+    cache, keytab = CredentialCache(fixture.cache()), Keytab(fixture.keytab())
     shown = " ".join(map(repr, (keytab, keytab.entries, cache, cache.credentials, cache.owner)))
-    for secret in (der.SERVICE_KEY, der.SESSION_KEY):
+    for secret in (fixture.SERVICE_KEY, fixture.SESSION_KEY):
         assert repr(secret)[2:-1] not in shown and secret.hex() not in shown

@@ -1,4 +1,5 @@
-"""How the shared library is found, that the package says what the header says, the examples in its doc strings, and its types."""
+"""How the shared library is found, that the package says what the header says, the examples in its doc strings, and its
+types."""
 import ctypes
 import doctest
 import os
@@ -12,7 +13,8 @@ import fevstunik
 import pytest
 from fevstunik import _library
 
-TOP = Path(__file__).resolve().parent.parent.parent
+from support import TOP
+
 HEADER = (TOP / "include/fevstunik.h").read_text()
 # Functions for which the package has another way: an error is made from its code alone.
 LEFT_OUT = {"acceptor_error"}
@@ -39,18 +41,22 @@ def test_functions_are_the_headers():
 
 def test_structs_are_the_headers(tmp_path):
     """Their sizes and places are those that a C compiler gives them."""
-    structs = {"answer": _library.Answer, "time": _library.Time, "span": _library.Span, "known": _library.Known, "agreement": _library.Agreement,
-               "choice": _library.Choice, "key_entry": _library.KeyEntry, "key_parts": _library.KeyParts, "cache_entry": _library.CacheEntry,
+    structs = {"answer": _library.Answer, "time": _library.Time, "span": _library.Span, "known": _library.Known,
+               "agreement": _library.Agreement,
+               "choice": _library.Choice, "key_entry": _library.KeyEntry, "key_parts": _library.KeyParts,
+               "cache_entry": _library.CacheEntry,
                "owner": _library.Owner, "acceptor": _library.Opaque}
     asked, wanted = [], []
     for name, struct in structs.items():
         asked.append(f'printf("{name} %zu\\n", sizeof(fevstunik_{name}));')
         wanted.append(f"{name} {ctypes.sizeof(struct)}")
         for field, *_ in struct._fields_:
-            asked.append(f'printf("{field} %zu %zu\\n", offsetof(fevstunik_{name}, {field}), sizeof(((fevstunik_{name} *)0)->{field}));')
+            size = f"sizeof(((fevstunik_{name} *)0)->{field})"
+            asked.append(f'printf("{field} %zu %zu\\n", offsetof(fevstunik_{name}, {field}), {size});')
             place = getattr(struct, field)
             wanted.append(f"{field} {place.offset} {place.size}")
-    (tmp_path / "sizes.c").write_text('#include <stdio.h>\n#include "fevstunik.h"\nint main(void)\n{\n' + "\n".join(asked) + "\n}\n")
+    (tmp_path / "sizes.c").write_text('#include <stdio.h>\n#include "fevstunik.h"\nint main(void)\n{\n'
+                                      + "\n".join(asked) + "\n}\n")
     subprocess.run(["gcc", f"-I{TOP}/include", str(tmp_path / "sizes.c"), "-o", str(tmp_path / "sizes")], check=True)
     assert subprocess.run([tmp_path / "sizes"], capture_output=True, text=True).stdout.splitlines() == wanted
 
@@ -71,9 +77,11 @@ def test_it_is_found(tmp_path):
 
 
 def test_it_is_not_there(tmp_path):
-    said = python("import fevstunik; print('imported'); fevstunik.version()", FEVSTUNIK_LIBRARY=str(tmp_path / "none.so"))
+    said = python("import fevstunik; print('imported'); fevstunik.version()",
+                  FEVSTUNIK_LIBRARY=str(tmp_path / "none.so"))
     assert said.stdout == "imported\n"
-    assert re.search(r"^fevstunik.LibraryError: the shared library \S*/none.so can't be loaded: .*libfevstunik0.*FEVSTUNIK", said.stderr, re.M)
+    form = r"^fevstunik.LibraryError: the shared library \S*/none.so can't be loaded: .*libfevstunik0.*FEVSTUNIK"
+    assert re.search(form, said.stderr, re.M)
     with pytest.raises(fevstunik.LibraryError, match="has no function fevstunik_version"):
         fevstunik.load("libc.so.6")
     with pytest.raises(OSError):
@@ -81,9 +89,11 @@ def test_it_is_not_there(tmp_path):
     assert fevstunik.version()[0] == 0
 
 
-@pytest.mark.parametrize("last, wanted", [("", []), ("del service", ["acceptor_free"]), ("service.close()", ["acceptor_free"])])
+@pytest.mark.parametrize("last, wanted", [("", []), ("del service", ["acceptor_free"]),
+                                          ("service.close()", ["acceptor_free"])])
 def test_what_is_freed(last, wanted):
-    """What nobody uses any more is freed, but nothing at the end of the process, when threads may be in a call still."""
+    """What nobody uses any more is freed, but nothing at the end of the process, when threads may be in a call
+    still."""
     ended = python(f"""
 from fevstunik import Acceptor, Keytab, _library
 call = _library.Library.call
@@ -107,19 +117,23 @@ def public():
 @pytest.mark.parametrize("name, thing", [("fevstunik", fevstunik), *public()])
 def test_example(name, thing):
     """Each has an example, which runs as it says."""
-    found, = doctest.DocTestFinder(recurse=False).find(getattr(thing, "__func__", thing), name, module=False, globs=dict(vars(fevstunik)))
+    found, = doctest.DocTestFinder(recurse=False).find(getattr(thing, "__func__", thing), name, module=False,
+                                                       globs=dict(vars(fevstunik)))
     assert found.examples
     assert doctest.DocTestRunner(optionflags=doctest.ELLIPSIS).run(found).failed == 0
 
 
 def test_types(tmp_path):
-    ran = subprocess.run(["mypy", "--strict", "--cache-dir", str(tmp_path), "fevstunik"], cwd=TOP / "python", capture_output=True, text=True)
+    ran = subprocess.run(["mypy", "--strict", "--cache-dir", str(tmp_path), "fevstunik"], cwd=TOP / "python",
+                         capture_output=True, text=True)
     assert ran.returncode == 0, ran.stdout
 
 
 def test_types_are_seen(tmp_path):
     """A program that uses the package is held to its types."""
-    (tmp_path / "user.py").write_text("from fevstunik import Keytab\nentries = Keytab(b'').entries\nreveal_type(entries[0].key.data)\nKeytab(3)\n")
+    lines = ["from fevstunik import Keytab", "entries = Keytab(b'').entries", "reveal_type(entries[0].key.data)",
+             "Keytab(3)", ""]
+    (tmp_path / "user.py").write_text("\n".join(lines))
     ran = subprocess.run(["mypy", "--strict", "--cache-dir", str(tmp_path), str(tmp_path / "user.py")],
                          env={**os.environ, "MYPYPATH": str(TOP / "python")}, capture_output=True, text=True)
     assert 'Revealed type is "builtins.bytes"' in ran.stdout and "Found 1 error" in ran.stdout

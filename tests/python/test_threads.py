@@ -1,13 +1,15 @@
-"""Eight threads over one Acceptor: each request is answered with its own client, and accepted once. And over one cache and one Pending."""
+"""Eight threads over one Acceptor: each request is answered with its own client, and accepted once. And over one cache
+and one Pending."""
 import os
 import signal
 import threading
 from collections import Counter
 
-import c_cases
-import fixture as der
+from support import c_cases, fixture
+
 import pytest
 from fevstunik import Acceptor, CredentialCache, Keytab, Moment, Refused, _values, make_request
+
 
 THREADS, EACH, AT, SERVICE = 8, 400, 1_700_000_100, "host/web@EX"
 
@@ -15,7 +17,8 @@ THREADS, EACH, AT, SERVICE = 8, 400, 1_700_000_100, "host/web@EX"
 def each_of(items, work):
     """What the threads find, each of them working on all that items(number) has: a list."""
     found = [[] for _ in range(THREADS)]
-    threads = [threading.Thread(target=lambda n=number: found[n].extend(map(work, items(n)))) for number in range(THREADS)]
+    threads = [threading.Thread(target=lambda n=number: found[n].extend(map(work, items(n))))
+               for number in range(THREADS)]
     for thread in threads:
         thread.start()
     for thread in threads:
@@ -37,11 +40,12 @@ def answer_of(service, client, request):
 def sent():
     """Requests of 40 clients, 400 of each, one after the other."""
     caches = [(f"{client}@EX", CredentialCache(c_cases.cache_of(client))) for client in c_cases.CLIENTS]
-    return [(name, make_request(cache, SERVICE, now=Moment(AT, micros))[0]) for micros in range(EACH) for name, cache in caches]
+    return [(name, make_request(cache, SERVICE, now=Moment(AT, micros))[0]) for micros in range(EACH) for name,
+            cache in caches]
 
 
 def test_one_acceptor(sent):
-    service = Acceptor(Keytab(der.keytab()), SERVICE, started=None)
+    service = Acceptor(Keytab(fixture.keytab()), SERVICE, started=None)
     found = Counter(each_of(lambda number: sent[number::THREADS], lambda it: answer_of(service, *it)))
     assert found == Counter({(f"{client}@EX", f"{client}@EX"): EACH for client in c_cases.CLIENTS})
     assert service.remembered == len(sent)
@@ -50,14 +54,16 @@ def test_one_acceptor(sent):
 
 
 def test_the_same_requests_by_all(sent):
-    service = Acceptor(Keytab(der.keytab()), SERVICE, started=None)
+    service = Acceptor(Keytab(fixture.keytab()), SERVICE, started=None)
     found = Counter(each_of(lambda number: sent[number:800] + sent[:number], lambda it: answer_of(service, *it)))
-    assert found.pop(220) == (THREADS - 1) * 800 and sum(found.values()) == 800 and all(one == other for one, other in found)
+    assert found.pop(220) == (THREADS - 1) * 800 and sum(found.values()) == 800
+    assert all(one == other for one, other in found)
 
 
 def test_one_cache_and_one_pending():
-    cache, service = CredentialCache(der.cache()), Acceptor(Keytab(der.keytab()), SERVICE, started=None)
-    made = each_of(lambda number: range(number, 1_600, THREADS), lambda micros: make_request(cache, SERVICE, now=Moment(AT, micros))[0])
+    cache, service = CredentialCache(fixture.cache()), Acceptor(Keytab(fixture.keytab()), SERVICE, started=None)
+    made = each_of(lambda number: range(number, 1_600, THREADS),
+                   lambda micros: make_request(cache, SERVICE, now=Moment(AT, micros))[0])
     assert {answer_of(service, "alice@EX", request) for request in made} == {("alice@EX", "alice@EX")}
     request, pending = make_request(cache, SERVICE, now=Moment(AT, 1_600))
     accepted = service.accept(request, AT)
@@ -67,7 +73,7 @@ def test_one_cache_and_one_pending():
 
 def test_closed_while_it_is_used(sent):
     """A thread closes the service in the middle: each answer is the client, or that the handle is empty."""
-    service = Acceptor(Keytab(der.keytab()), SERVICE, started=None)
+    service = Acceptor(Keytab(fixture.keytab()), SERVICE, started=None)
 
     def work(it):
         if it == sent[2_000]:
@@ -84,7 +90,8 @@ def test_closed_while_it_is_used(sent):
 def test_each_request_has_a_moment_of_its_own(monkeypatch):
     """Also while the clock stands still: no request is refused as the repeat of another."""
     monkeypatch.setattr("time.time_ns", lambda: AT * 1_000_000_000)
-    with CredentialCache(der.cache()) as cache, Acceptor(Keytab(der.keytab()), SERVICE, started=None) as service:
+    with CredentialCache(fixture.cache()) as cache, Acceptor(Keytab(fixture.keytab()), SERVICE,
+                                                             started=None) as service:
         made = each_of(lambda _: range(EACH), lambda _: make_request(cache, SERVICE)[0])
         times = Counter(service.accept(request, AT).time for request in made)
     assert len(times) == THREADS * EACH and set(times.values()) == {1}
@@ -96,7 +103,8 @@ def test_a_clock_that_is_set_back(monkeypatch):
     nanoseconds = iter([second * 1_000_000_000, second * 1_000_000_000 - 500_000_000, (second - 60) * 1_000_000_000,
                         (second - 60) * 1_000_000_000 + 3_000])
     monkeypatch.setattr("time.time_ns", lambda: next(nanoseconds))
-    with CredentialCache(der.cache()) as cache, Acceptor(Keytab(der.keytab()), SERVICE, started=None) as service:
+    with CredentialCache(fixture.cache()) as cache, Acceptor(Keytab(fixture.keytab()), SERVICE,
+                                                             started=None) as service:
         times = [service.accept(make_request(cache, SERVICE)[0], AT).time for _ in range(4)]
     assert times == [Moment(second), Moment(second, 1), Moment(second - 60), Moment(second - 60, 3)]
 

@@ -1,0 +1,7 @@
+"""The archive of the library, which programs in C are linked with."""
+import pytest
+
+
+@pytest.fixture(scope="session")
+def archive(library):
+    return library.parent / "libkrb_c.a"

@@ -1,0 +1,108 @@
+"""Programs in C over the library: the exchange that tests share, each fault, memory that is refused, large files, and
+threads."""
+import functools
+
+import pytest
+
+from support import c_cases, c_header, c_programs, c_tokens, fixture
+from support.c_programs import CACHE, KEYED, KEYTAB, VALGRIND, linked, message, of_tests, run
+
+# Of a large keytab and a large cache.
+ITEMS = 30_000
+
+
+class Programs:
+    """The programs that note what each function answers; each runs once."""
+
+    def __init__(self, archive, room):
+        self.archive, self.room, self.answered = archive, room, c_programs.Answered()
+        c_programs.watch(room)
+        self.ran = functools.cache(self.ran)
+
+    def built(self, name, *words):
+        return linked(self.archive, self.room / name, "-include", self.room / "watch.h", of_tests(name), *words)
+
+    def exchange(self):
+        """The exchange that the tests share, with exact answers."""
+        return run(self.built("library", "-static"), KEYTAB, CACHE, *messages())
+
+    def faults(self):
+        """Each fault, with ample memory."""
+        text = c_cases.lines(c_header.header_codes(), c_header.kerberos_codes())
+        return run(*VALGRIND, self.built("faults"), KEYTAB, CACHE, message("reply"), input=text)
+
+    def tokens(self):
+        """Tokens of GSS-API are opened and written."""
+        text = "".join(f"{it}\n" for it in c_tokens.lines(c_header.header_codes()))
+        return run(*VALGRIND, self.built("tokens"), input=text)
+
+    def memory(self):
+        """Each allocation of each call fails in turn."""
+        program = self.built("memory", "-Wl,--wrap=malloc", "-Wl,--wrap=realloc", "-Wl,--wrap=free")
+        return run(program, KEYTAB, CACHE, message(KEYED), message("reply"))
+
+    def ran(self, name):
+        return getattr(self, name)()
+
+
+NAMES = ("exchange", "faults", "tokens", "memory")
+
+
+def messages():
+    stored = [message(it) for it in ("request", KEYED, "reply", "reply with a subkey and a number", "error")]
+    made = [c_cases.two_credentials(), c_cases.for_another_service(), c_cases.with_lists(), fixture.request(number=-1),
+            fixture.reply(number=-2**31), c_cases.with_start(), c_cases.at_the_end()]
+    return [*stored, *(it.hex() for it in made)]
+
+
+@pytest.fixture(scope="module")
+def programs(archive, tmp_path_factory):
+    return Programs(archive, tmp_path_factory.mktemp("programs"))
+
+
+# The programs run once, so these tests run in one process.
+@pytest.mark.xdist_group("programs in C")
+@pytest.mark.parametrize("name", NAMES)
+def test_program(programs, checks, name):
+    c_programs.counted(checks, programs.ran(name), programs.answered)
+
+
+@pytest.mark.xdist_group("programs in C")
+def test_codes(programs, checks):
+    """Each function returns all codes that the header lists for it, and no others."""
+    for name in NAMES:
+        programs.answered.read(programs.ran(name).stdout)
+    for function, codes in sorted(c_header.documented().items()):
+        checks.equal(function, programs.answered.codes.get(function, set()), codes)
+
+
+def test_leaks(archive, tmp_path):
+    """The program of the exchange under valgrind, linked to the system's C library, whose allocations valgrind sees."""
+    program = linked(archive, tmp_path / "library", of_tests("library"))
+    c_programs.well(run(*VALGRIND, program, KEYTAB, CACHE, *messages()))
+
+
+@pytest.mark.slow
+def test_large_files(archive, tmp_path, checks):
+    """Files of thousands of items, and messages of more than 100,000 bytes."""
+    made = {"large.keytab": c_cases.keytab_of(ITEMS), "large.ccache": c_cases.cache_with(ITEMS),
+            "large.request": c_cases.request(c_cases.large_ticket())}
+    for name, data in made.items():
+        (tmp_path / name).write_bytes(data)
+    program = linked(archive, tmp_path / "large", of_tests("large"))
+    c_programs.counted(checks, run(program, ITEMS, ITEMS, *(tmp_path / name for name in made)))
+
+
+def test_kept_keys(archive, tmp_path, checks):
+    """Requests with keys that the handle of a cache has kept."""
+    cache, count = tmp_path / "services.ccache", 100
+    cache.write_bytes(c_cases.cache_of_services(count))
+    c_programs.counted(checks, run(linked(archive, tmp_path / "requests", of_tests("requests")), cache, count))
+
+
+def test_threads(archive, tmp_path, checks):
+    """Threads that share a service, each with a handle of its own for what is accepted."""
+    caches = tmp_path / "caches"
+    caches.write_text("".join(c_cases.cache_of(client).hex() + "\n" for client in c_cases.CLIENTS))
+    program = linked(archive, tmp_path / "threads", "-D_POSIX_C_SOURCE=200809L", "-pthread", of_tests("threads"))
+    c_programs.counted(checks, run(program, KEYTAB, caches))

@@ -1,0 +1,51 @@
+"""The service and the client of examples/service talk to each other over TCP."""
+import contextlib
+import re
+import subprocess
+import time
+
+import pytest
+
+from support import TOP, c_programs
+from support.c_programs import KEYTAB, linked, run
+
+SERVICE = "host/web@EX"
+
+
+@pytest.fixture(scope="module")
+def room(archive, tmp_path_factory):
+    """A folder with both programs, and a cache with a ticket that is valid now."""
+    folder = tmp_path_factory.mktemp("service")
+    for name in ("service", "client"):
+        linked(archive, folder / name, "-D_DEFAULT_SOURCE", TOP / f"examples/service/{name}.c")
+    (folder / "cache").write_bytes(c_programs.current_cache(int(time.time()) - 60))
+    return folder
+
+
+@contextlib.contextmanager
+def serving(room, *words):
+    service = subprocess.Popen([room / "service", KEYTAB, SERVICE, *words], stdout=subprocess.PIPE, text=True)
+    try:
+        yield service, service.stdout.readline().strip()
+    finally:
+        service.kill()
+        service.wait()
+
+
+def test_started_again(room):
+    """A service that may have run before is quiet at first."""
+    with serving(room, "1") as (service, port):
+        run(room / "client", room / "cache", SERVICE, port, "hello", timeout=60)
+        assert service.communicate(timeout=60)[0].splitlines() == ["refused FEVSTUNIK_JUST_STARTED"]
+
+
+def test_exchange(room):
+    """A request is accepted once, the same one is refused, and a second client is accepted."""
+    with serving(room, "3", "first") as (service, port):
+        twice = run(room / "client", room / "cache", SERVICE, port, "hello", "twice", timeout=60)
+        assert re.fullmatch(r"agreed as alice@EX\nrefused: 7[345] bytes of type 7e\n", twice.stdout), twice.stderr
+        again = run(room / "client", room / "cache", SERVICE, port, "hello again", timeout=60)
+        assert set(again.stdout.splitlines()) == {"agreed as alice@EX"}
+        lines = service.communicate(timeout=60)[0].splitlines()
+        assert lines == ["alice@EX: hello", "refused FEVSTUNIK_REPEAT", "alice@EX: hello again"]
+        assert service.returncode == 0

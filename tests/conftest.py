@@ -1,0 +1,190 @@
+"""What all tests share: the built program and libraries, checks within a test, the order of tests, and how many there
+have to be.
+
+Fixtures that cost much are made once for all processes of pytest-xdist, and only if a test asks for them.
+"""
+import fcntl
+import random
+import subprocess
+
+import pytest
+
+from support import TOP
+from support.checks import Checks
+
+TARGET = "build/x86-64-v2/libfevstunik.a"
+# Instances of pytest that build or that download wait for each other here.
+LOCK = TOP / "build/.lock"
+
+
+def pytest_addoption(parser):
+    parser.addoption("--seed", type=int, help="the order of the tests: the seed that an earlier run printed")
+    parser.addoption("--case", default="", metavar="WORD",
+                     help="of tests that look at many cases, only cases whose names contain WORD")
+    parser.addoption("--inputs", type=int, default=50_000, help="how many files and messages are drawn for fuzzing")
+    parser.addoption("--tokens", type=int, default=1_000_000, help="how many tokens are drawn for fuzzing")
+    parser.addini("least_tests", "how many tests a run of the whole suite has")
+    parser.addini("least_checks", "how many checks these tests make")
+
+
+# ---------------------------------------------------------------- order
+
+
+def pytest_configure(config):
+    config.checked = config.failing = config.passing = 0
+    seed = config.getoption("seed")
+    given = getattr(config, "workerinput", {}).get("seed", seed)
+    config.seed = random.SystemRandom().randrange(1_000_000) if given is None else given
+
+
+def pytest_configure_node(node):
+    """All processes of a run collect the tests in one order."""
+    node.workerinput["seed"] = node.config.seed
+
+
+def pytest_report_header(config):
+    return f"order of the tests: --seed {config.seed}"
+
+
+def pytest_collection_modifyitems(config, items):
+    """Shuffles the modules, and the tests of each. Those that take long come first, so that no process is left with one
+    at the end."""
+    draw, modules = random.Random(config.seed), {}
+    for it in items:
+        modules.setdefault(it.path, []).append(it)
+    blocks = list(modules.values())
+    draw.shuffle(blocks)
+    for block in blocks:
+        draw.shuffle(block)
+        block.sort(key=is_quick)
+    blocks.sort(key=lambda block: is_quick(block[0]))
+    items[:] = [it for block in blocks for it in block]
+
+
+def is_quick(item):
+    return item.get_closest_marker("slow") is None
+
+
+# ---------------------------------------------------------------- checks
+
+
+@pytest.fixture
+def checks(request, record_property):
+    """Collects checks; the test fails at its end if one of them is wrong."""
+    found = Checks(request.config.getoption("case"))
+    yield found
+    record_property("checks", found.count)
+
+
+@pytest.hookimpl(hookwrapper=True)
+def pytest_pyfunc_call(pyfuncitem):
+    outcome = yield
+    found = pyfuncitem.funcargs.get("checks")
+    if found is None:
+        return
+    if outcome.excinfo is None:
+        try:
+            found.end()
+        except AssertionError as error:
+            outcome.force_exception(error)
+    elif found.wrong:
+        print(*found.wrong[:20], sep="\n")
+
+
+# ---------------------------------------------------------------- counts
+
+
+def pytest_runtest_logreport(report):
+    count = dict(report.user_properties).get("checks", 1)
+    if report.when == "call" and report.passed:
+        TOTALS["passed"] += 1
+    elif report.failed:
+        TOTALS["failed"] += 1
+    if report.when == "teardown":
+        TOTALS["checks"] += count
+
+
+TOTALS = {"passed": 0, "failed": 0, "checks": 0}
+
+
+def is_whole(config):
+    """Whether all tests were asked for."""
+    narrowed = ("keyword", "markexpr", "deselect", "lf", "failedfirst", "case", "collectonly")
+    asked = {(config.invocation_params.dir / it).resolve() for it in config.args}
+    return asked == {TOP / "tests"} and not any(config.getoption(it, None) for it in narrowed)
+
+
+@pytest.hookimpl(trylast=True)
+def pytest_sessionfinish(session):
+    config = session.config
+    if hasattr(config, "workerinput") or not is_whole(config):
+        return
+    ran = TOTALS["passed"] + TOTALS["failed"]
+    for name, count in (("least_tests", ran), ("least_checks", TOTALS["checks"])):
+        least = int(config.getini(name))
+        if count < least:
+            TOTALS["failed"] += 1
+            what = name.partition("_")[2]
+            TOTALS[name] = f"FAILED: the whole suite has {least} {what} (pyproject.toml), and {count} ran"
+            session.exitstatus = pytest.ExitCode.TESTS_FAILED
+
+
+def pytest_unconfigure(config):
+    """The last line."""
+    if hasattr(config, "workerinput") or config.getoption("collectonly"):
+        return
+    for name in ("least_tests", "least_checks"):
+        if name in TOTALS:
+            print(TOTALS[name])
+    print(f"{TOTALS['checks']} checks in {TOTALS['passed'] + TOTALS['failed']} tests")
+    print(f"{TOTALS['passed']} passed, {TOTALS['failed']} failed")
+
+
+# ---------------------------------------------------------------- what is built
+
+
+@pytest.fixture(scope="session")
+def top():
+    """The top of the repository."""
+    return TOP
+
+
+@pytest.fixture(scope="session")
+def program():
+    """The built krbtool."""
+    return built(TOP / "crates/krbtool/out/krbtool", "./krbtool --version")
+
+
+def built(path, how):
+    if not path.is_file():
+        pytest.fail(f"{path.relative_to(TOP)} isn't built: `{how}` builds it")
+    return path
+
+
+@pytest.fixture(scope="session")
+def library():
+    """The built shared library for C and Python."""
+    with locked():
+        ran = subprocess.run(["make", "-s", TARGET], cwd=TOP, capture_output=True, text=True)
+    if ran.returncode:
+        pytest.fail(f"make {TARGET}: {(ran.stdout + ran.stderr)[-2000:]}")
+    version = subprocess.run([TOP / "packaging/version"], capture_output=True, text=True).stdout.strip()
+    return TOP / TARGET.replace(".a", f".so.{version}")
+
+
+@pytest.fixture(scope="session")
+def lock():
+    """One process at a time has it, of all that run tests here."""
+    return locked()
+
+
+class locked:
+    """One process at a time."""
+
+    def __enter__(self):
+        LOCK.parent.mkdir(exist_ok=True)
+        self.file = open(LOCK, "w")
+        fcntl.flock(self.file, fcntl.LOCK_EX)
+
+    def __exit__(self, *_):
+        self.file.close()

@@ -1,0 +1,182 @@
+"""What tests and crates keep beside the scripts that make it, layout aside.
+
+Answers of the libraries' calls that are copied from a published document, or that were drawn once, are compared with
+what the second implementation computes.
+"""
+import contextlib
+import io
+import re
+import runpy
+import subprocess
+import sys
+
+import pytest
+
+from support import TESTS, TOP, aes, calls, codes, fixture, msg_values, readable, sealing, stealing
+from support.checks import slug
+
+
+def source(path):
+    return (TOP / "crates" / path).read_text()
+
+
+def same(found, wanted):
+    return None if found == wanted else "it isn't what the script gives"
+
+
+def printed(script):
+    """What a script prints."""
+    out = io.StringIO()
+    with contextlib.redirect_stdout(out):
+        runpy.run_path(str(TOP / script), run_name="__main__")
+    return out.getvalue()
+
+
+def numbers(text):
+    return [int(it.replace("_", ""), 0) for it in re.findall(r"\b(?:0x[0-9a-fA-F_]+|[0-9][0-9_]*)\b", text)]
+
+
+def messages():
+    """The sources and definitions of messages that packaging/messages.py makes from their table."""
+    ran = subprocess.run([sys.executable, TOP / "packaging/messages.py", "--check"], capture_output=True, text=True)
+    return ran.stderr.strip() or same(ran.returncode, 0)
+
+
+def tower_tables():
+    made = re.findall(r"static (\w+): [^=]*=\s*\[(.*?)\];", printed("crates/krb_aes/docs/tower_tables.py"), re.S)
+    found = re.findall(r"static (\w+): [^=]*=\s*\[(.*?)\];", source("krb_aes/src/tower.rt"), re.S)
+    return same([(name, numbers(it)) for name, it in found], [(name, numbers(it)) for name, it in made])
+
+
+# The calls of the ciphers and of the codes, as the second implementation computes them from the call's bytes.
+COMPUTED = {
+    "aes encrypt": aes.encrypted,
+    "aes decrypt": aes.decrypted,
+    "aes plain-encrypt": aes.encrypted,
+    "aes plain-decrypt": aes.decrypted,
+    "cts encrypt": stealing.stolen,
+    "kdf sha256": lambda key, *parts: codes.code("sha256", key, *parts),
+    "kdf sha384": lambda key, *parts: codes.code("sha384", key, *parts),
+}
+PURPOSES = {"kc": 0x99, "ke": 0xAA, "ki": 0x55}
+# Longer texts take the second implementation minutes.
+LONG = 10_000
+
+
+def computed(line):
+    """What a call answers, in hexadecimal digits, or None where it isn't computed here."""
+    layer, call, *words = line.split(" ")
+    if call in ("derive-19", "derive-20", "derive-20-ke"):
+        key, usage, purpose = *words, *["ke"] * (3 - len(words))
+        return sealing.derived(int(call[7:9]), bytes.fromhex(key), int(usage), PURPOSES[purpose]).hex()
+    compute = COMPUTED.get(f"{layer} {call}")
+    texts = [calls.bytes_of(it) for it in words]
+    if compute is None or (layer == "cts" and len(texts[1]) < 16):
+        return None
+    return compute(*texts).hex()
+
+
+def computed_by_key(etype, key, line):
+    """The same of a call of a key."""
+    _, call, *words = line.split(" ")
+    if call == "seal" and len(calls.bytes_of(words[2])) < LONG:
+        usage, *texts = words
+        return sealing.sealed(etype, key, int(usage), *map(calls.bytes_of, texts)).hex()
+    if call == "checksum":
+        return sealing.checksum(etype, key, int(words[0]), calls.bytes_of(words[1])).hex()
+    return None
+
+
+def wrong_answers(lines, answers):
+    """The lines of a case whose answers aren't what the second implementation computes, and how many it computes."""
+    etype, key, count, wrong = 0, b"", 0, []
+    for line, answer in zip(lines, answers):
+        if line.startswith("enc key ") and answer.startswith("Key("):
+            etype, key = int(line.split(" ")[2]), calls.bytes_of(line.split(" ")[3])
+        found = computed_by_key(etype, key, line) if line.startswith("enc ") else computed(line)
+        count += found is not None
+        if found is not None and calls.wanted(found) != answer:
+            wrong.append(f"{line[:80]}: {found[:80]}")
+    return wrong, count
+
+
+def stored_answers():
+    sealing.check()
+    count, wrong = 0, []
+    for _, name, lines, answers in calls.stored("crypto"):
+        found, several = wrong_answers(lines, answers)
+        wrong, count = wrong + found, count + several
+    return (None if count > 300 else f"of only {count} answers") if not wrong else f"wrong: {wrong}"
+
+
+def messages_of_fixture():
+    """The fixture's ticket and what is sealed in it, where they are stored in hexadecimal digits."""
+    return same((msg_values.TICKET, msg_values.ENC_TICKET), (fixture.ticket(), fixture.ticket_part()))
+
+
+def caches():
+    """The fixture's caches stand among the cases of list-ccache."""
+    text = (TESTS / "program/list-ccache.toml").read_text()
+    missing = [name for name in ("cache", "configured cache") if f'"{fixture.made()[name].hex()}"' not in text]
+    return f"not there: {missing}" if missing else None
+
+
+def exchange():
+    """The requests, replies and the error of the fixture stand among the cases of the exchange, and have the sizes that
+    they had when they were made."""
+    made = fixture.made()
+    text = "".join((TESTS / f"exchange/{it}.toml").read_text() for it in ("request", "replies"))
+    names = ["configured cache", "request", "mutual request with a subkey and a number", "reply",
+             "reply with a subkey and a number", "error"]
+    missing = [name for name in names if not re.search(rf'["\b ]{made[name].hex()}"', text)]
+    sizes = [len(made[it]) for it in ("ticket part", "ticket", "cache", "configured cache", "request", "reply",
+                                      "error")]
+    return f"not there: {missing}" if missing else same(sizes, [119, 214, 352, 178, 348, 87, 73])
+
+
+# A client's call for a request in a context: whether it asks for a reply, its number, its flags and its bindings.
+IN_CONTEXT = re.compile(r"(?:request|initiate) \S+ 1700000100 5 202122232425262728292a2b2c2d2e2f "
+                        r"(\w+) none (\w+) (\d+)/([0-9a-f]{32})")
+
+
+def contexts():
+    """The requests of a client of GSS-API are those of the fixture."""
+    count, wrong = 0, []
+    for program, name, lines, answers in calls.stored("exchange"):
+        for line, answer in zip(calls.spelled(program, lines), calls.spelled(program, answers)):
+            if it := IN_CONTEXT.fullmatch(line):
+                is_mutual, number = it[1] == "mutual", None if it[2] == "none" else int(it[2])
+                checksum = fixture.context(is_mutual, int(it[3]), bytes.fromhex(it[4]))
+                made = fixture.request(0x20000000 if is_mutual else 0, number=number, checksum=checksum)
+                count += 1
+                wrong += [] if made.hex() == answer else [f"{name}: {line}"]
+    return (None if count >= 10 else f"of only {count} requests") if not wrong else f"wrong: {wrong}"
+
+
+def example():
+    """The files that the example of LIBRARY.md runs on."""
+    found = [(TOP / "crates/krb_example/data" / name).read_bytes()
+             for name in ("service.keytab", "client.ccache", "request")]
+    return same(found, [fixture.keytab(), fixture.cache(), fixture.request()])
+
+
+TABLES = {
+    "the fixture's messages": messages_of_fixture,
+    "the fixture's caches": caches,
+    "the fixture's requests and replies": exchange,
+    "the fixture's requests in a context": contexts,
+    "the example's keytab, cache and request": example,
+    "the tables of the S-box on lanes": tower_tables,
+    "the messages' sources and definitions": messages,
+    "stored answers of the ciphers, codes and keys": stored_answers,
+}
+
+
+@pytest.mark.parametrize("table", TABLES, ids=slug)
+def test_table(table):
+    assert TABLES[table]() is None
+
+
+def test_readable():
+    """The second reading of tables says what other sources say."""
+    readable.check()

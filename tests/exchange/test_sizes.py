@@ -1,0 +1,118 @@
+"""Calls of many sizes, with ample memory: each is answered as it should be, and not by out of memory."""
+import hashlib
+import subprocess
+
+import pytest
+
+from support import calls, fixture, reference
+from support.checks import slug
+from support.exchange_made import name_word, parts_of
+from support.model import CODES
+
+EXCHANGE, FILES = "krb_calls_exchange", "krb_calls_files"
+CONFOUNDER = b"\x5a" * 16
+SERVICE = name_word(3, *parts_of("host/web@EX"))
+
+
+def begins(text):
+    return lambda answer: answer.startswith(text)
+
+
+def ends(first, last):
+    return lambda answer: answer.startswith(first) and answer.endswith(last)
+
+
+def keytabs():
+    """Keytabs of 0 to 300 entries are read and written, and each entry is removed and added again."""
+    file = b"\5\2"
+    for count in range(301):
+        yield f"keytab read slice {file.hex()}", begins(f"ok {count} ")
+        yield f"keytab write {file.hex()}", f"ok {calls.shown(file)}"
+        yield f"keytab turned {file.hex()}", "same"
+        entry = {"realm": b"EX", "components": [b"host", b"web%d" % count], "name_type": 1, "timestamp": 0,
+                 "kvno": count, "etype": 20, "key": b"\7" * 32}
+        file += reference.record_of(entry)
+
+
+def caches():
+    """Caches of 0 to 300 credentials, each for another service: the files, and the names."""
+    client = fixture.principal(1, b"EX", b"alice")
+    file = b"\5\4\0\0" + client
+    for count in range(301):
+        yield count, file, name_word(3, b"EX", [b"host", b"web%d" % (count - 1)])
+        server = fixture.principal(3, b"EX", b"host", b"web%d" % count)
+        file += fixture.credential(client, server, 19, fixture.SESSION_KEY, (1_700_000_000, 0, 1_700_036_000, 0),
+                                   fixture.ticket())
+
+
+def read_caches():
+    """Each is read, written and searched for the last credential; then a cache of 300 parts is searched, three of them
+    for one server."""
+    for count, file, name in caches():
+        yield f"cache read slice {file.hex()}", begins("ok ")
+        yield f"cache write {file.hex()}", f"ok {calls.shown(file)}"
+        yield f"cache find {name} {file.hex()}", f"found {count - 1}" if count else "found"
+    client = name_word(1, b"EX", [b"alice"])
+    servers = [name_word(3, b"EX", [b"host", b"web%d" % it]) for it in range(100)]
+    parts = " ".join(f"{client}:{servers[it % 100]}:19:-:0:0:0:0:0:0:.:.:-:-" for it in range(300))
+    yield f"cache found {servers[7]} . {client} {parts}", "found 7 107 207"
+    yield f"cache found {client} . {client} {parts}", "found"
+
+
+def asked_caches():
+    """A request is made with the last credential of each."""
+    for count, file, name in caches():
+        yield f"cache {file.hex()}", "cache"
+        line = f"request {name} 1700000100 5 {CONFOUNDER.hex()} plain none none"
+        yield line, begins("6e82") if count else "refused NoCredential"
+
+
+def names():
+    """Names of 1 to 300 components become texts and names again."""
+    for count in range(1, 301):
+        parts = [*(b"c%d" % it for it in range(1, count)), b"last"]
+        text, word = b"/".join(parts).decode() + "@EX", name_word(1, b"EX", parts)
+        kind, realm, listed = word.split("/")
+        told = listed if len(listed) <= 2048 else f"#{len(listed)}:{hashlib.sha256(listed.encode()).hexdigest()}"
+        yield f"name read 1 ={text}", f"{kind}/{realm}/{told}"
+        yield f"name text {word}", f"={text}" if len(text) <= 1024 else calls.shown(text.encode())
+
+
+def requests(memory):
+    """A thousand requests, 1 µs apart, are accepted by one service, replied to and finished."""
+    yield f"service {memory} 300 {fixture.keytab().hex()}", "service"
+    yield f"cache {fixture.cache().hex()}", "cache"
+    for micros in range(1_000):
+        yield f"request {SERVICE} 1700000100 {micros} {CONFOUNDER.hex()} mutual none {micros}", begins("6e82")
+        yield f"accept 1700000100 1000 made:{micros}", begins("accepted ")
+        yield f"reply {CONFOUNDER.hex()} none {micros}", begins("6f")
+        yield f"finish {micros} replied", ends("agreed ", f" none {micros} none {micros}")
+    yield "held", "1000 1700000100 1000"
+
+
+def errors():
+    """The error of each code is built, and has that code (field 6 of a KRB-ERROR, RFC 4120, section 5.9.1)."""
+    for cause, code in CODES.items():
+        has_code = f"a6030201{code:02x}"
+        yield f"error {cause} 1700000100 5 {SERVICE}", lambda it, word=has_code: it.startswith("7e") and word in it
+    yield f"error OutOfMemory 1700000100 5 {SERVICE}", lambda answer: not answer.startswith("7e")
+
+
+SWEEPS = {
+    "keytabs": (FILES, keytabs), "caches": (FILES, read_caches),
+    "the last credential of caches": (EXCHANGE, asked_caches), "names": (FILES, names),
+    "requests, list": (EXCHANGE, lambda: requests("list")), "requests, timed": (EXCHANGE, lambda: requests("timed")),
+    "errors": (EXCHANGE, errors),
+}
+
+
+@pytest.mark.parametrize("name", SWEEPS, ids=slug)
+def test_sizes(name):
+    program, trials = SWEEPS[name]
+    lines, are_right = zip(*trials())
+    done = subprocess.run([calls.built(program)], input="".join(f"{it}\n" for it in lines), capture_output=True,
+                          text=True)
+    found = done.stdout.splitlines()
+    assert (done.returncode, len(found)) == (0, len(lines))
+    for line, answer, right in zip(lines, found, are_right):
+        assert right(answer) if callable(right) else answer == right, f"{line[:100]} is answered {answer[:200]}"

@@ -1,0 +1,509 @@
+"""The web service of examples/negotiate beside real clients, with a KDC of MIT krb5: curl, MIT's GSS-API by
+python3-gssapi, Heimdal's GSS-API, Java's GSS-API and HttpURLConnection, gokrb5, our own client, and curl through nginx
+with auth_request.
+
+Our client, and the tokens of krbtool, log in at a service over MIT's GSS-API, too.
+
+Each is let in with its own name, and verifies the answer token if it can. A ticket for another service, an expired
+ticket, a wrong clock, a repeat, a bent token, another mechanism, a service's start and what isn't a token are refused,
+by name in the service's log. Java gets each ticket from the KDC, which refuses a client with a wrong clock, and gokrb5
+asks the kernel for the time. So these two have a right clock, and the service's is wrong; and they have no expired
+ticket. gokrb5 looks at no answer token; nor does curl.
+"""
+import base64
+import contextlib
+import functools
+import http.client
+import os
+import re
+import socket
+import struct
+import subprocess
+import time
+
+import pytest
+
+from support import TESTS, TOP, kdc, tickets
+
+pytestmark = [pytest.mark.packages, pytest.mark.slow, pytest.mark.xdist_group("web")]
+WEB = TESTS / "peers/web"
+REALM, SERVICE, OTHER = "WEB.TEST", "HTTP/localhost", "HTTP/other.test"
+ALICE = f"alice@{REALM}"
+PYTHON = "/usr/bin/python3"
+SECONDS = 60
+# How far a clock is wrong that is refused, and how far both are ahead when a ticket of ten hours has expired.
+WRONG, LATER = 3_600, 39_600
+REPEAT = "REPEAT: a request of this service, client and time was seen before"
+EXPIRED, SKEW = "EXPIRED: the ticket has expired", "SKEW: the clocks differ by more than the skew"
+NOT_US = "NOT_US: the ticket is for a service that isn't served here"
+BENT = "AUTHENTICATOR_INTEGRITY: the session key doesn't open the authenticator"
+
+
+def realm_in(folder):
+    """A realm with a KDC, the service's keytab, and a user with a ticket for the KDC and for two services."""
+    permitted, _, ktadd = tickets.advice()
+    realm = kdc.MitRealm(folder / "web", REALM, None, f"{tickets.AES256}:normal {tickets.AES128}:normal")
+    realm.kadmin("addprinc", "-pw", kdc.PASSWORD, "alice")
+    for name in (SERVICE, OTHER):
+        realm.kadmin("addprinc", "-randkey", name)
+    realm.kadmin(*tickets.filled_in(ktadd, realm.folder / "www.keytab", SERVICE))
+    try:
+        realm.start("default", [permitted])
+        cache = realm.cache("alice", "default", [SERVICE, OTHER])
+        (realm.folder / "later.ccache").write_bytes(valid_for_longer(cache.read_bytes()))
+        # Heimdal reads no cache that others may read.
+        (realm.folder / "later.ccache").chmod(0o600)
+    except kdc.Trouble:
+        realm.stop()
+        raise
+    return realm
+
+
+def valid_for_longer(cache):
+    """The cache, which says of each ticket that it ends a day later than it does: so a client uses one that has
+    expired."""
+    now, cache = int(time.time()), bytearray(cache)
+    for at in range(len(cache) - 12):
+        begins, starts, ends = struct.unpack_from(">3I", cache, at)
+        if begins <= starts <= now and now - begins < SECONDS and 0 < ends - now <= 36_000:
+            struct.pack_into(">I", cache, at + 8, ends + 86_400)
+    return bytes(cache)
+
+
+class Service:
+    """The running service: where it listens, and what it logged. Its clock may be ahead."""
+
+    def __init__(self, folder, realm, library, *words, ahead=0):
+        self.log = folder / f"serve-{ahead}.log"
+        where = {**os.environ, "FEVSTUNIK_LIBRARY": str(library), "PYTHONPATH": str(TOP / "python"),
+                 **clock(folder, ahead)}
+        command = [PYTHON, "-B", TOP / "examples/negotiate/serve.py", realm.folder / "www.keytab", f"{SERVICE}@{REALM}",
+                   "--port", "0", *words]
+        with open(self.log, "wb") as log:
+            self.process = subprocess.Popen([str(it) for it in command], stdout=subprocess.PIPE, stderr=log, text=True,
+                                            env=where)
+        self.url = self.process.stdout.readline().strip().replace("127.0.0.1", "localhost")
+        self.port = self.url.rstrip("/").rpartition(":")[2]
+
+    def __enter__(self):
+        return self
+
+    def __exit__(self, *_):
+        self.process.kill()
+        self.process.wait()
+
+    def asked(self, header=None):
+        """The status, the words of WWW-Authenticate, and the text that a request with this header Authorization is
+        answered."""
+        connection = http.client.HTTPConnection("127.0.0.1", int(self.port), timeout=SECONDS)
+        connection.request("GET", "/", headers={} if header is None else {"Authorization": header})
+        response = connection.getresponse()
+        return response.status, (response.headers["WWW-Authenticate"] or "").split(), response.read().decode()
+
+    def last(self):
+        """The last reason in the log."""
+        found = re.findall("denied: (.*)", self.log.read_text())
+        return found[-1] if found else ""
+
+
+def clock(folder, ahead):
+    """The environment of a program whose clock is ahead by so many seconds."""
+    if not ahead:
+        return {}
+    (folder / f"ahead-{ahead}").write_text(str(ahead))
+    return {"LD_PRELOAD": str(folder / "clock.so"), "CLOCK_FILE": str(folder / f"ahead-{ahead}")}
+
+
+def is_it(found, wanted):
+    return None if found == wanted else f"{found!r}, not {wanted!r}"
+
+
+class Client:
+    """A program that prints a token, and reads the answer: the kinds of token that it has; how it names a host's
+    service; whether it verifies the answer; and whether it can have a wrong clock, and an expired ticket."""
+
+    def __init__(self, name, words, kinds, host="HTTP@", verifies=True, has_clock=True):
+        self.name, self.words, self.kinds, self.host = name, words, kinds, host
+        self.verifies, self.has_clock = verifies, has_clock
+
+    def begun(self, env, host, kind, *more):
+        """The process, and the header Authorization with its token."""
+        words = [str(it) for it in (*self.words, self.host + host, kind, *more)]
+        process = subprocess.Popen(words, stdin=subprocess.PIPE, stdout=subprocess.PIPE, stderr=subprocess.PIPE,
+                                   text=True, env=env)
+        line = process.stdout.readline().strip()
+        if not line:
+            raise kdc.Trouble(f"{self.name} makes no token: {process.communicate(timeout=SECONDS)[1][-600:]}")
+        return process, header_of(bytes.fromhex(line))
+
+    def ended(self, process, words=()):
+        """What the program says after the service's answer."""
+        answer = base64.b64decode(words[-1]).hex() if len(words) == 2 else ""
+        return process.communicate(f"{answer}\n", timeout=SECONDS)[0].strip()
+
+    def header(self, env, host, kind):
+        process, header = self.begun(env, host, kind)
+        self.ended(process)
+        return header
+
+
+def header_of(token):
+    return f"Negotiate {base64.b64encode(token).decode()}"
+
+
+def bent(header):
+    """The header with another last byte of its token, which is of the authenticator's tag."""
+    token = base64.b64decode(header.split()[1])
+    return header_of(token[:-1] + bytes([token[-1] ^ 1]))
+
+
+def refused(service, what, header, why):
+    """A header is refused, with an error in a token, and the log says why."""
+    status, words, _ = service.asked(header)
+    yield f"{what} is refused", is_it((status, len(words)), (401, 2))
+    yield f"{what} is refused by name", is_it(service.last(), why)
+
+
+class World:
+    """The realm, the service and one whose clock is ahead, and where the clients find them."""
+
+    def __init__(self, folder, realm, service, later):
+        self.folder, self.realm, self.service, self.later = folder, realm, service, later
+
+    def env(self, cache="alice", ahead=0):
+        name = str(self.realm.folder / f"{cache}.ccache")
+        return self.realm.environment("default", KRB5CCNAME=name, **clock(self.folder, ahead))
+
+    def lets_in(self, client, kind, *more):
+        process, header = client.begun(self.env(), "localhost", kind, *more)
+        status, words, text = self.service.asked(header)
+        what = " ".join([client.name, kind, *more])
+        yield f"{what} is let in", is_it((status, text), (200, f"hello {ALICE}\n"))
+        said = client.ended(process, words)
+        if client.verifies:
+            yield f"{what} verifies the answer", is_it(said, "complete")
+        yield from refused(self.service, f"{what}, sent again,", header, REPEAT)
+
+    def refuses(self, client):
+        kind, name = client.kinds[-1], client.name
+        yield from refused(self.service, f"{name}, bent,", bent(client.header(self.env(), "localhost", kind)), BENT)
+        yield from refused(self.service, f"{name} for another service", client.header(self.env(), "other.test", kind),
+                           NOT_US)
+        yield from refused(self.later, f"{name} at a service with a wrong clock",
+                           client.header(self.env(), "localhost", kind), SKEW)
+        if client.has_clock:
+            yield from refused(self.service, f"{name} with a wrong clock",
+                               client.header(self.env(ahead=WRONG), "localhost", kind), SKEW)
+            expired = client.header(self.env("later", LATER), "localhost", kind)
+            yield from refused(self.later, f"{name} with an expired ticket", expired, EXPIRED)
+
+
+def java_words(folder, realm):
+    return ["java", "-XX:TieredStopAtLevel=1", f"-Djava.security.krb5.conf={realm.folder}/default.conf",
+            "-Djavax.security.auth.useSubjectCredsOnly=false", "-cp", folder / "java", "Client"]
+
+
+def in_java(folder, realm):
+    kdc.ran(["javac", "-d", folder / "java", WEB / "Client.java"])
+    return Client("Java's GSS-API", java_words(folder, realm), ["bare", "spnego"], has_clock=False)
+
+
+def over_heimdal(folder, _):
+    flags = kdc.ran(["krb5-config.heimdal", "--cflags", "--libs", "gssapi"]).split()
+    kdc.ran(["gcc", "-std=c99", "-Wall", "-Wextra", "-Werror", "-pedantic", WEB / "client.c", *flags, "-o",
+             folder / "heimdal"])
+    return Client("Heimdal's GSS-API", [folder / "heimdal"], ["bare", "spnego"])
+
+
+def in_go(folder, _):
+    env = {**os.environ, "GO111MODULE": "off", "GOPATH": "/usr/share/gocode", "GOCACHE": str(folder / "gocache"),
+           "GOFLAGS": ""}
+    kdc.ran(["go", "build", "-o", folder / "gokrb5", WEB / "client.go"], env=env)
+    return Client("gokrb5", [folder / "gokrb5"], ["spnego"], host="HTTP/", verifies=False, has_clock=False)
+
+
+def over_mit(*_):
+    return Client("MIT's GSS-API", [PYTHON, "-B", WEB / "client.py"], ["bare", "spnego"])
+
+
+CLIENTS = {"MIT": over_mit, "Heimdal": over_heimdal, "Java": in_java, "gokrb5": in_go}
+
+
+def curl(world, port, *words, host="localhost", **more):
+    """What curl says of a page at a port of this machine: its lines, and on standard error those that it sent."""
+    command = ["curl", "-sS", "-i", "-v", "--negotiate", "-u", ":", *words, "--connect-to",
+               f"{host}:80:127.0.0.1:{port}", f"http://{host}/"]
+    return kdc.done(command, seconds=SECONDS, env=world.env(**more))
+
+
+def with_curl(world):
+    for time_of_day in ("first", "second"):
+        ran = curl(world, world.service.port)
+        heads, _, body = ran.stdout.replace("\r", "").rpartition("\n\n")
+        yield f"curl logs in, {time_of_day} time", is_it(body, f"hello {ALICE}\n")
+        for held in ("HTTP/1.1 200 ", f"\nRemote-User: {ALICE}\n", "\nWWW-Authenticate: Negotiate o"):
+            yield f"its answer has {held.strip()}", None if held in heads else heads
+    sent = re.findall(r"^> Authorization: (Negotiate \S+)", ran.stderr, re.M)[-1]
+    yield from refused(world.service, "what curl sent, sent again,", sent, REPEAT)
+    yield from refused(world.service, "what curl sent, bent,", bent(sent), BENT)
+    for what, service, why, words in (
+        ("for another service", world.service, NOT_US, {"host": "other.test"}),
+        ("with a wrong clock", world.service, SKEW, {"ahead": WRONG}),
+        ("with an expired ticket", world.later, EXPIRED, {"cache": "later", "ahead": LATER}),
+    ):
+        said = curl(world, service.port, **words).stdout
+        yield f"curl {what} is refused", None if said.endswith("who are you?\n") else said
+        yield f"curl {what} is refused by name", is_it(service.last(), why)
+
+
+OWN = """
+import base64, sys
+from fevstunik import CredentialCache, make_request, open_answer, wrap_request
+request, pending = make_request(CredentialCache.read(sys.argv[1]), sys.argv[2])
+print(base64.b64encode(wrap_request(request, negotiated=sys.argv[3] == "spnego")).decode(), flush=True)
+answer = open_answer(base64.b64decode(sys.stdin.readline()))
+print("error" if answer.is_error else pending.finish(answer.message).client)
+"""
+
+
+def with_ours(realm, service, library, kind):
+    """Our client, whose token is sent twice."""
+    where = {**os.environ, "FEVSTUNIK_LIBRARY": str(library), "PYTHONPATH": str(TOP / "python")}
+    client = subprocess.Popen([PYTHON, "-B", "-c", OWN, str(realm.folder / "alice.ccache"), f"{SERVICE}@{REALM}", kind],
+                              stdin=subprocess.PIPE, stdout=subprocess.PIPE, text=True, env=where)
+    header = f"Negotiate {client.stdout.readline().strip()}"
+    status, words, text = service.asked(header)
+    yield f"our client, {kind}, is let in", is_it((status, text), (200, f"hello {ALICE}\n"))
+    yield f"our client, {kind}, reads the answer", is_it(client.communicate(words[-1] + "\n", timeout=SECONDS)[0],
+                                                         f"{ALICE}\n")
+    yield from refused(service, f"a repeat, {kind},", header, REPEAT)
+
+
+IN_CONTEXT = """
+import sys
+from fevstunik import ContextFlags, CredentialCache, make_request, open_answer, wrap_request
+cache, service, kind, flags, *bindings = sys.argv[1:]
+bound = bindings[0].encode() if bindings else None
+request, pending = make_request(CredentialCache.read(cache), service, context=ContextFlags(int(flags)), bindings=bound)
+print(wrap_request(request, negotiated=kind == "spnego").hex(), flush=True)
+answer = open_answer(bytes.fromhex(sys.stdin.readline()))
+print("error" if answer.is_error else pending.finish(answer.message).client)
+"""
+# Replay, sequence, confidentiality and integrity; and with a reply that is asked for, and a delegation, which is left
+# out.
+ASKED, DELEGATED = 0x3C, 0x3D
+BINDINGS = "tls-server-end-point:abc"
+
+
+def answered_by_mit(realm, token, *bindings):
+    """What a service over MIT's GSS-API says of a token in hex."""
+    env = realm.environment("default", KRB5_KTNAME=str(realm.folder / "www.keytab"), KRB5RCACHENAME="none:")
+    return kdc.ran([PYTHON, "-B", WEB / "service.py", *bindings], seconds=SECONDS, env=env, input=f"{token}\n").split()
+
+
+def at_mits_service(realm, library, kind, flags, *bindings):
+    """Our client logs in at a service over MIT's GSS-API, and reads its answer."""
+    where = {**os.environ, "FEVSTUNIK_LIBRARY": str(library), "PYTHONPATH": str(TOP / "python")}
+    words = [PYTHON, "-B", "-c", IN_CONTEXT, str(realm.folder / "alice.ccache"), f"{SERVICE}@{REALM}", kind, str(flags),
+             *bindings]
+    client = subprocess.Popen(words, stdin=subprocess.PIPE, stdout=subprocess.PIPE, text=True, env=where)
+    what = f"our client, {' '.join([kind, hex(flags), *bindings])}, at a service of MIT's GSS-API"
+    token = client.stdout.readline().strip()
+    said = answered_by_mit(realm, token, *bindings)
+    yield f"{what} is let in", is_it((said[0], said[2:3]), (ALICE, ["complete"]))
+    yield f"{what} has its flags", is_it(int(said[1]) & 0x3F, ASKED | 2)
+    yield f"{what} reads the answer", is_it(client.communicate(said[3] + "\n", timeout=SECONDS)[0], f"{ALICE}\n")
+    if bindings:
+        said = answered_by_mit(realm, token, "tls-server-end-point:abd")
+        yield f"{what}, on another channel, is refused", is_it(said[0], "refused")
+
+
+def reply_in(token):
+    """The reply in a token, after the identifier of such tokens. (It has a length of one byte, or of two or three with
+    0x81 or 0x82.)"""
+    reply = token[token.index(b"\2\0\x6f") + 2:]
+    more = max(0, reply[1] - 0x80)
+    return reply[:2 + more + (int.from_bytes(reply[2:2 + more], "big") if more else reply[1])]
+
+
+def of_the_program(program, realm, kind):
+    """A token of krbtool logs in at a service over MIT's GSS-API, and krbtool reads its answer."""
+    cache, now = realm.folder / "alice.ccache", int(time.time())
+    moment = ["--time", now, "--usec", "5"]
+    token = kdc.ran([program, "request", cache, f"{SERVICE}@{REALM}", *moment, "--confounder", os.urandom(16).hex(),
+                     "--mutual", "--token", kind])
+    said = answered_by_mit(realm, token.strip())
+    found = said[0], int(said[1]) & 0x3F, said[2]
+    yield f"a token of krbtool, {kind}, is accepted by MIT's GSS-API", is_it(found, (ALICE, 2, "complete"))
+    agreed = kdc.ran([program, "finish", cache, f"{SERVICE}@{REALM}", *moment, "--reply",
+                      reply_in(bytes.fromhex(said[3])).hex()])
+    yield f"krbtool reads the answer, {kind}", is_it(agreed.split()[:2], ["agreed", ALICE])
+
+
+def refusals(service):
+    for header, why in ((None, "no token"), ("Basic YTpi", "no token"), ("Negotiate *", "Only base64 data is allowed"),
+                        ("Negotiate " + base64.b64encode(b"NTLMSSP\0\1").decode(),
+                         "NOT_A_TOKEN: the first byte isn't that of a token"),
+                        ("Negotiate " + base64.b64encode(bytes.fromhex("600a06062b0601050205 0000")).decode(),
+                         "IAKERB: the mechanism at `at` is IAKERB, at 4")):
+        yield f"{header} is refused", is_it(service.asked(header)[:2], (401, ["Negotiate"]))
+        yield f"the log says why of {header}", is_it(service.last(), why)
+
+
+NGINX = """
+user root;
+daemon off;
+worker_processes 1;
+pid {folder}/nginx.pid;
+error_log {folder}/nginx.log;
+events {{ }}
+http {{
+    access_log off;
+    client_body_temp_path {folder}/nginx-body;
+    proxy_temp_path {folder}/nginx-proxy;
+    fastcgi_temp_path {folder}/nginx-fastcgi;
+    uwsgi_temp_path {folder}/nginx-uwsgi;
+    scgi_temp_path {folder}/nginx-scgi;
+    server {{
+        listen 127.0.0.1:{front};
+{locations}
+    }}
+    server {{
+        listen 127.0.0.1:{application};
+        location / {{ return 200 "the application sees $http_x_remote_user, and the token: '$http_authorization'\\n"; }}
+    }}
+}}
+"""
+
+
+@contextlib.contextmanager
+def nginx(folder, service):
+    """nginx in front of the service and of an application, with the lines of docs/OPERATING.md; gives its port."""
+    front, application = kdc.free_port(), kdc.free_port()
+    locations = re.search(r"^ *```nginx\n(.*?)^ *```$", (TOP / "docs/OPERATING.md").read_text(), re.S | re.M)[1]
+    for port, to in ((9000, application), (8080, service.port)):
+        locations = locations.replace(f"127.0.0.1:{port}", f"127.0.0.1:{to}")
+    (folder / "nginx.conf").write_text(NGINX.format(folder=folder, front=front, application=application,
+                                                    locations=locations))
+    process = kdc.Process(["/usr/sbin/nginx", "-p", folder, "-e", folder / "nginx.log", "-c", folder / "nginx.conf"],
+                          folder / "nginx.out", os.environ)
+    try:
+        process.wait_for(front)
+        yield front
+    finally:
+        process.stop()
+
+
+def through_nginx(world):
+    with nginx(world.folder, world.service) as port:
+        ran = curl(world, port)
+        heads, _, body = ran.stdout.replace("\r", "").rpartition("\n\n")
+        yield "nginx lets curl in", is_it(body, f"the application sees {ALICE}, and the token: ''\n")
+        is_through = re.search("HTTP/1.1 200 .*\nWWW-Authenticate: Negotiate o", heads, re.S)
+        yield "the answer token comes through", None if is_through else heads
+        ran = curl(world, port, ahead=WRONG)
+        is_out = ran.stdout and "HTTP/1.1 200" not in ran.stdout and "the application" not in ran.stdout
+        yield "nginx lets nobody in with a wrong clock", None if is_out else ran.stdout
+        yield "and the service says why", is_it(world.service.last(), SKEW)
+        with socket.create_connection(("127.0.0.1", port), timeout=SECONDS) as stream:
+            stream.sendall(b"GET / HTTP/1.0\r\nX-Remote-User: mallory\r\n\r\n")
+            status = stream.makefile("rb").readline()
+        yield "nor anybody without a token", is_it(status, b"HTTP/1.1 401 Unauthorized\r\n")
+
+
+# ---------------------------------------------------------------- tests
+
+
+@pytest.fixture(scope="module")
+def folder(tmp_path_factory):
+    """A folder with clock.so, which sets a program's clock when it is preloaded."""
+    made = tmp_path_factory.mktemp("web")
+    kdc.ran(["gcc", "-shared", "-fPIC", "-Wall", "-Wextra", "-Werror", TESTS / "support/clock.c", "-o",
+             made / "clock.so"])
+    return made
+
+
+@pytest.fixture(scope="module")
+def realm(folder):
+    made = realm_in(folder)
+    yield made
+    made.stop()
+
+
+@pytest.fixture(scope="module")
+def web(folder, realm, library):
+    """The running service, and one whose clock is ahead."""
+    later = Service(folder, realm, library, "--first", ahead=LATER)
+    with Service(folder, realm, library, "--first") as service, later:
+        yield World(folder, realm, service, later)
+
+
+@pytest.fixture(scope="module")
+def clients(folder, realm):
+    """Gives the client of a name, which is compiled once."""
+    return functools.cache(lambda name: CLIENTS[name](folder, realm))
+
+
+def test_what_is_no_token(web, checks):
+    checks.all(refusals(web.service))
+
+
+def test_curl(web, checks):
+    checks.all(with_curl(web))
+
+
+@pytest.mark.parametrize("kind", ["bare", "spnego"])
+def test_our_client(web, realm, library, checks, kind):
+    checks.all(with_ours(realm, web.service, library, kind))
+
+
+@pytest.mark.parametrize("kind", ["bare", "spnego"])
+def test_our_client_at_mits_service(realm, library, checks, kind):
+    checks.all(at_mits_service(realm, library, kind, ASKED))
+    checks.all(at_mits_service(realm, library, kind, DELEGATED, BINDINGS))
+
+
+@pytest.mark.parametrize("kind", ["gss", "spnego"])
+def test_krbtool_at_mits_service(program, realm, checks, kind):
+    checks.all(of_the_program(program, realm, kind))
+
+
+@pytest.mark.parametrize("name, kind", [("MIT", "bare"), ("MIT", "spnego"), ("Heimdal", "bare"), ("Heimdal", "spnego"),
+                                        ("Java", "bare"),
+                                        ("Java", "spnego"), ("gokrb5", "spnego")])
+def test_login(web, clients, checks, name, kind):
+    checks.all(web.lets_in(clients(name), kind))
+
+
+@pytest.mark.parametrize("kind", ["bare", "spnego"])
+def test_login_with_bindings(web, clients, checks, kind):
+    checks.all(web.lets_in(clients("MIT"), kind, "tls-server-end-point:x"))
+
+
+@pytest.mark.parametrize("name", CLIENTS)
+def test_refusals(web, clients, checks, name):
+    checks.all(web.refuses(clients(name)))
+
+
+@pytest.mark.parametrize("name", ["Java", "gokrb5"])
+def test_page(web, clients, name):
+    """Clients that get a page by themselves: HttpURLConnection and gokrb5's client of HTTP."""
+    said = kdc.ran([*clients(name).words, web.service.url], seconds=SECONDS, env=web.env())
+    assert said == f"200 hello {ALICE}\n"
+
+
+def test_page_at_a_service_with_a_wrong_clock(web, clients):
+    kdc.done([*clients("Java").words, web.later.url], seconds=SECONDS, env=web.env())
+    assert web.later.last() == SKEW
+
+
+def test_nginx(web, checks):
+    checks.all(through_nginx(web))
+
+
+def test_a_service_that_has_just_started(folder, realm, library):
+    began = time.time()
+    with Service(folder, realm, library) as service:
+        assert curl(World(folder, realm, service, None), service.port).stdout.endswith("who are you?\n")
+        assert service.last() == "JUST_STARTED: the service has just started"
+    assert time.time() - began < SECONDS

@@ -1,0 +1,945 @@
+"""Draws cases of keytabs, credential caches and names, for the calls of crates/krb_calls_files (calls.py runs them).
+
+What is answered is worked out here: of whole files by tests/support/reference.py, of readers by a second walk over a
+source that gives a few bytes a read. Nothing is taken from the program's sources. Fields are asked of a source one
+after another; the numbers after a session key's bytes, up to the flags, at once, and an encryption type that stands
+twice, too.
+"""
+import hashlib
+import random
+import struct
+
+from support import fixture, reference
+from support.calls import TOP, shown
+from support.reference import Fault, Reader, Short
+
+PROGRAM = "krb_calls_files"
+LIMIT = reference.LIMIT
+# A longer list is shown by its length and its hash.
+LIST = 2048
+
+HOLES = (TOP / "examples/mit-holes.keytab").read_bytes()
+KEY = bytes.fromhex("3705d96080c17728a0e800eab6e0d23c")
+
+
+class Spelled:
+    """Bytes, and the word that stands for them."""
+
+    def __init__(self, data=b"", word=None):
+        self.data = data
+        self.word = word or data.hex() or "-"
+
+    def __add__(self, other):
+        other = other if isinstance(other, Spelled) else Spelled(other)
+        if not self.data or not other.data:
+            return self if self.data else other
+        return Spelled(self.data + other.data, f"{self.word}+{other.word}")
+
+    def times(self, count):
+        return Spelled(self.data * count, f"{self.data.hex()}*{count}") if count and self.data else Spelled()
+
+
+def run_of(byte, count):
+    return Spelled(bytes([byte])).times(count)
+
+
+# What the program shows.
+
+
+def list_shown(items, between=","):
+    text = between.join(items)
+    if not items:
+        return "."
+    return f"#{len(text)}:{hashlib.sha256(text.encode()).hexdigest()}" if len(text) > LIST else text
+
+
+def name_shown(name):
+    return f"{name['name_type']}/{shown(name['realm'])}/{list_shown([shown(it) for it in name['components']])}"
+
+
+def entry_shown(it):
+    return f"{name_shown(it)}:{it['timestamp']}:{it['kvno']}:{it['etype']}:{shown(it['key'])}"
+
+
+def typed_shown(items):
+    return list_shown([f"{kind}/{shown(text)}" for kind, text in items])
+
+
+def credential_shown(it):
+    times = ":".join(str(it[word]) for word in ("authtime", "starttime", "endtime", "renew_till", "is_skey", "flags"))
+    lists = f"{typed_shown(it['addresses'])}:{typed_shown(it['authdata'])}"
+    front = f"{name_shown(it['client'])}:{name_shown(it['server'])}:{it['etype']}:{shown(it['key'])}"
+    return f"{front}:{times}:{lists}:{shown(it['ticket'])}:{shown(it['second_ticket'])}"
+
+
+def is_configuration(it):
+    server = it["server"]
+    return server["realm"] == b"X-CACHECONF:" and server["components"][:1] == [b"krb5_ccache_conf_data"]
+
+
+def kind_shown(it):
+    return f"{'config' if is_configuration(it) else 'ticket'} {credential_shown(it)}"
+
+
+def fault_shown(fault):
+    return fault.name if fault.at is None else f"{fault.name} {{ at: {fault.at} }}"
+
+
+def keytab_shown(data):
+    try:
+        entries = reference.keytab(data)
+    except Fault as fault:
+        return fault_shown(fault)
+    return f"ok {len(entries)} {list_shown([entry_shown(it) for it in entries], ' ')}"
+
+
+def offset_shown(fields):
+    offset = next((struct.unpack(">ii", value) for tag, value in fields if tag == 1), None)
+    return f"{offset[0]},{offset[1]}" if offset else "none"
+
+
+def parts_shown(fields, default, credentials):
+    listed = list_shown([kind_shown(it) for it in credentials], " ")
+    return f"ok {name_shown(default)} {offset_shown(fields)} {len(credentials)} {listed}"
+
+
+def cache_shown(data):
+    try:
+        return parts_shown(*reference.cache(data))
+    except Fault as fault:
+        return fault_shown(fault)
+
+
+# Reading off a source of pieces.
+
+
+class Failed(Exception):
+    """A read failed."""
+
+
+class Source:
+    """Gives some bytes a read; its read of the number `failing` fails."""
+
+    def __init__(self, data, piece, failing=None):
+        self.data, self.piece, self.failing = data, piece, failing
+        self.at = self.reads = self.failures = 0
+
+    def read(self, most):
+        self.reads += 1
+        if self.reads == self.failing:
+            self.failures += 1
+            raise Failed
+        count = min(self.piece, most, len(self.data) - self.at)
+        self.at += count
+        return count
+
+    def spelled(self):
+        return f"piece:{self.piece}" + ("" if self.failing is None else f":{self.failing}")
+
+    def told(self):
+        return f"given {self.at} failures {self.failures}"
+
+    def back(self):
+        return f"{self.told()} left {len(self.data) - self.at}"
+
+
+class AtHand:
+    """The bytes of a source that are at hand, of which the most are counted."""
+
+    def __init__(self, source):
+        self.source, self.start, self.held = source, 0, 0
+
+    def bytes(self):
+        return self.source.data[self.start : self.source.at]
+
+    def clear(self):
+        self.start = self.source.at
+
+    def fill(self, count):
+        while count:
+            came = self.source.read(min(count, 65_536))
+            self.held = max(self.held, self.source.at - self.start)
+            if not came:
+                return False
+            count -= came
+        return True
+
+    def pass_over(self, count):
+        while count:
+            came = self.source.read(min(count, 4_096))
+            if not came:
+                return False
+            count -= came
+        return True
+
+    def run_out(self):
+        while self.source.at <= LIMIT:
+            if not self.source.read(min(LIMIT - self.source.at + 1, 4_096)):
+                return True
+        return False
+
+
+class Entries:
+    """Answers as a reader of entries does."""
+
+    def __init__(self, source):
+        self.hand, self.last, self.is_begun = AtHand(source), None, False
+
+    def concluded(self, answer):
+        return answer if self.hand.run_out() else "TooLong"
+
+    def step(self):
+        source = self.hand.source
+        if not self.is_begun:
+            self.is_begun = True
+            whole = self.hand.fill(2)
+            if self.hand.bytes() != b"\5\2":
+                return self.concluded("Version") if whole else "Version"
+        while True:
+            at = source.at
+            self.hand.clear()
+            whole = self.hand.fill(min(4, LIMIT - at))
+            few = self.hand.bytes()
+            if len(few) < 4:
+                last = f"Truncated {{ at: {at} }}" if few else "end"
+                return self.concluded(last) if whole else last
+            size = struct.unpack(">i", few)[0]
+            if size == 0:
+                return self.concluded("end")
+            if abs(size) > LIMIT - source.at:
+                return self.concluded(f"Truncated {{ at: {at} }}")
+            if size < 0:
+                if not self.hand.pass_over(-size):
+                    return f"Truncated {{ at: {at} }}"
+                continue
+            self.hand.clear()
+            if not self.hand.fill(size):
+                return f"Truncated {{ at: {at} }}"
+            try:
+                return f"entry {entry_shown(reference.keytab_entry(self.hand.bytes(), 0, size))}"
+            except Short:
+                return self.concluded(f"BadEntry {{ at: {at} }}")
+
+    def next(self):
+        if self.last is None:
+            try:
+                answer = self.step()
+            except Failed:
+                answer = "Read"
+            if answer.startswith("entry"):
+                return answer
+            self.last = answer
+        return self.last
+
+
+class Stop(Exception):
+    """The bytes of a part aren't there; `is_out` if the source is at its end."""
+
+    def __init__(self, is_out):
+        super().__init__()
+        self.is_out = is_out
+
+
+class Credentials:
+    """Answers as a reader of credentials does."""
+
+    def __init__(self, source):
+        self.hand, self.last = AtHand(source), None
+
+    def take(self, count):
+        if count > LIMIT - self.hand.source.at:
+            raise Stop(False)
+        if not self.hand.fill(count):
+            raise Stop(True)
+
+    def numbers(self, form, after=0):
+        """The numbers after so many bytes, with which they are taken."""
+        size = struct.calcsize(form)
+        self.take(after + size)
+        source = self.hand.source
+        return struct.unpack(form, source.data[source.at - size : source.at])
+
+    def number(self, form, after=0):
+        return self.numbers(form, after)[0]
+
+    # Each of these takes a part but for its last bytes, after so many others, and gives how many the last ones are.
+
+    def name(self, last=0):
+        count, last = self.numbers(">II", last + 4)
+        for _ in range(count):
+            last = self.number(">I", last)
+        return last
+
+    def list(self, last):
+        count, last = self.number(">I", last), 0
+        for _ in range(count):
+            last = self.number(">I", last + 2)
+        return last
+
+    def credential(self):
+        server = self.name(self.name())
+        key = self.number(">I", server + (4 if self.found == reference.OLD else 2))
+        self.number("B", key + 16)
+        authdata = self.list(self.list(4))
+        ticket = self.number(">I", authdata)
+        self.take(self.number(">I", ticket))
+        return reference.credential(Reader(self.hand.bytes()), self.found)
+
+    def version(self):
+        self.take(2)
+        self.found = self.hand.bytes()
+        if self.found not in (reference.OLD, reference.NEW):
+            raise Stop(False)
+
+    def header(self):
+        if self.found == reference.OLD:
+            return []
+        self.take(self.number(">H"))
+        return reference.header_fields(self.hand.bytes()[2:])
+
+    def default(self):
+        self.take(self.name())
+        return reference.cache_principal(Reader(self.hand.bytes()))
+
+    def part(self, function, fault):
+        """What the function gives, or the fault as it is shown."""
+        self.hand.clear()
+        try:
+            return function(), None
+        except Failed:
+            return None, "Read"
+        except Stop as stop:
+            if stop.is_out:
+                return None, fault
+        except Short:
+            pass
+        try:
+            return None, fault if self.hand.run_out() else "TooLong"
+        except Failed:
+            return None, "Read"
+
+    def open(self):
+        """The fault, or None."""
+        _, fault = self.part(self.version, "Version")
+        if not fault:
+            self.fields, fault = self.part(self.header, "Header")
+        if not fault:
+            self.name_found, fault = self.part(self.default, f"BadItem {{ at: {self.hand.source.at} }}")
+        return fault
+
+    def next(self):
+        if self.last is None:
+            at = self.hand.source.at
+            item, fault = self.part(self.credential, f"BadItem {{ at: {at} }}")
+            if not fault:
+                return kind_shown(item)
+            is_end = fault == f"BadItem {{ at: {at} }}" and self.hand.source.at == at
+            self.last = "end" if is_end else fault
+        return self.last
+
+
+def is_item(answer):
+    return answer.startswith(("entry ", "ticket ", "config "))
+
+
+def conversation(reader, calls, count):
+    """So many times these calls in turn, each followed by `held`; up to one answer after the last."""
+    lines, answers, left = [], [], 1
+    for it in range(count):
+        call = calls[it % len(calls)]
+        answer = reader.next()
+        lines += [call, "held"]
+        answers += ["passed" if call == "pass" and is_item(answer) else answer, str(reader.hand.held)]
+        if not is_item(answer):
+            left -= 1
+            if left < 0:
+                break
+    return [*lines, "source", "into"], [*answers, reader.hand.source.told(), reader.hand.source.back()]
+
+
+def entry_case(name, file, piece, failing=None, calls=("next",)):
+    source = Source(file.data, piece, failing)
+    lines, answers = conversation(Entries(source), calls, 100_000)
+    return PROGRAM, name, [f"entries {source.spelled()} {file.word}", *lines], ["open", *answers]
+
+
+def credential_case(name, file, piece, failing=None, calls=("next",)):
+    source = Source(file.data, piece, failing)
+    reader = Credentials(source)
+    line, fault = f"credentials {source.spelled()} {file.word}", reader.open()
+    if fault:
+        return PROGRAM, name, [line], [f"{fault} {source.back()}"]
+    lines, answers = conversation(reader, calls, 100_000)
+    front = [name_shown(reader.name_found), offset_shown(reader.fields)]
+    return PROGRAM, name, [line, "name", "offset", *lines], ["open", *front, *answers]
+
+
+def each_call(case, name, file, piece, failing=None):
+    for calls in (("next",), ("pass",), ("pass", "next")):
+        yield case(f"{name}, by {' and '.join(calls)}", file, piece, failing, calls)
+
+
+def file_case(kind, name, file, piece, found, written):
+    """What `parse`, `read` and the writing of what was read give."""
+    given = f"given {min(len(file.data), LIMIT + 1)} failures 0"
+    lines = [f"{kind} parse {file.word}", f"{kind} read piece:{piece} {file.word}"]
+    answers = [found, f"{found} {given}"]
+    if found.startswith("ok"):
+        lines.append(f"{kind} write {file.word}")
+        answers.append(written(file.data))
+    return PROGRAM, name, lines, answers
+
+
+def keytab_case(name, file, piece=4_096):
+    return file_case("keytab", name, file, piece, keytab_shown(file.data),
+                     lambda data: f"ok {shown(reference.convert_keytab(data))}")
+
+
+def written_cache(data):
+    try:
+        return f"ok {shown(reference.convert_ccache(data))}"
+    except Fault as fault:
+        return fault_shown(fault)
+
+
+def cache_case(name, file, piece=4_096):
+    return file_case("cache", name, file, piece, cache_shown(file.data), written_cache)
+
+
+# Keytabs.
+
+
+def data16(text):
+    return struct.pack(">H", len(text)) + text
+
+
+def record(realm, count, component, key, kvno=3, etype=19, name_type=1):
+    """A record with one component so many times, and a key."""
+    head = Spelled(struct.pack(">H", count) + struct.pack(">H", len(realm.data))) + realm
+    items = Spelled(data16(component)).times(count)
+    numbers = struct.pack(">iIBhH", name_type, 1_700_000_000, kvno % 256, etype, len(key.data))
+    body = head + items + numbers + key + struct.pack(">I", kvno)
+    return Spelled(struct.pack(">i", len(body.data))) + body
+
+
+ALICE = Spelled(b"\5\2") + record(Spelled(b"EX"), 1, b"alice", Spelled(KEY), 256)
+
+
+def entry_words(realm, components, key, kvno=3, etype=19):
+    return f"1/{realm}/{components} 1700000000 {kvno} {etype} {key}"
+
+
+def keytabs_of_sizes():
+    """Names of 0 to 300 components, and keys of as many bytes; and files of 0 to 300 entries."""
+    for count in range(301):
+        file = Spelled(b"\5\2") + record(Spelled(b"EX"), count, b"host", run_of(7, count))
+        yield keytab_case(f"a keytab with a name of {count} components", file)
+        words = entry_words("4558", f"686f7374^{count}" if count else ".", f"07*{count}" if count else "-")
+        name = f"an entry of {count} components is added"
+        yield PROGRAM, name, [f"keytab add 0502 {words}"], [f"ok {shown(file.data)}"]
+    one = record(Spelled(b"EX"), 2, b"host", run_of(7, 2))
+    words = entry_words("4558", "686f7374^2", "0707")
+    for count in range(301):
+        file = Spelled(b"\5\2") + Spelled(one.data).times(count)
+        more = shown(file.data + one.data)
+        yield PROGRAM, f"an entry is added to {count}", [f"keytab add {file.word} {words}"], [f"ok {more}"]
+        if count % 10 == 0:
+            yield keytab_case(f"a keytab of {count} entries", file)
+
+
+def other_keytabs():
+    """Beginnings of a file of MIT's, and one with each byte another; sources that fail."""
+    for length in range(len(HOLES)):
+        file = Spelled(HOLES[:length])
+        for piece in (1, 7):
+            yield from each_call(entry_case, f"{length} bytes of a keytab, {piece} a read", file, piece)
+        yield keytab_case(f"{length} bytes of a keytab", file, 50)
+    for at in range(len(ALICE.data)):
+        for value in (0, 1, 0x7F, 0x80, 0xFF):
+            file = Spelled(ALICE.data[:at] + bytes([value]) + ALICE.data[at + 1 :])
+            yield from each_call(entry_case, f"{value} at {at} of a keytab", file, 3)
+            yield keytab_case(f"{value} at {at}, as a whole", file)
+    for failing in range(1, 30):
+        yield from each_call(entry_case, f"a keytab of whose reads {failing} fails", Spelled(HOLES), 50, failing)
+
+
+# Caches.
+
+
+def data32(text):
+    return Spelled(struct.pack(">I", len(text.data))) + text
+
+
+def name32(name_type, realm, count, component):
+    head = Spelled(struct.pack(">iI", name_type, count)) + data32(realm)
+    return head + Spelled(data32(Spelled(component)).data).times(count)
+
+
+def list32(count, kind, text):
+    item = struct.pack(">HI", kind, len(text)) + text
+    return Spelled(struct.pack(">I", count)) + Spelled(item).times(count)
+
+
+def sized(size):
+    """The bytes of a credential whose names, lists, key and tickets have so many components, elements and bytes, and
+    its word."""
+    name = name32(1, Spelled(b"EX"), size, b"host")
+    item = list32(size, 2, b"\x7f\0\0\1")
+    numbers = struct.pack(">4IBI", 1, 2, 3, 4, 0, 5)
+    keys = data32(run_of(9, size)) + numbers
+    return name + name + struct.pack(">h", 20) + keys + item + item + data32(run_of(7, size)) + data32(run_of(8, size))
+
+
+def times_of(item, size, sign="^"):
+    return f"{item}{sign}{size}" if size else "."
+
+
+def sized_words(size):
+    name = f"1/4558/{times_of('686f7374', size)}"
+    addresses = times_of("2/7f000001", size)
+    key, ticket, second = (f"{it:02x}*{size}" if size else "-" for it in (9, 7, 8))
+    return name, f"{name}:{name}:20:{key}:1:2:3:4:0:5:{addresses}:{addresses}:{ticket}:{second}"
+
+
+def header16(count, tag, value):
+    item = struct.pack(">HH", tag, len(value)) + value
+    return Spelled(struct.pack(">H", count * len(item))) + Spelled(item).times(count)
+
+
+def sized_cache(credentials, size):
+    """A cache of so many such credentials; its header has as many fields of as many bytes, but 100 at most."""
+    fields = min(size, 100)
+    file = Spelled(b"\5\4") + header16(fields, 2, b"\6" * size) + name32(1, Spelled(b"EX"), size, b"host")
+    name, credential = sized_words(size)
+    header = times_of(f"2/06*{size}", fields) if size else "."
+    one = sized(size)
+    for _ in range(credentials):
+        file = file + one
+    return file, " ".join([header, name, *[credential] * credentials])
+
+
+def made_case(name, file, words):
+    found = cache_shown(file.data)
+    return PROGRAM, name, [f"cache made {words}", f"cache written {words}"], [found, f"ok {shown(file.data)}"]
+
+
+def caches_of_sizes():
+    for size in range(301):
+        file, words = sized_cache(1, size)
+        yield made_case(f"a cache is made with {size} of each", file, words)
+        yield cache_case(f"a cache with {size} of each", file)
+    for count in range(0, 301, 10):
+        file, words = sized_cache(count, 1)
+        yield made_case(f"a cache of {count} credentials is made", file, words)
+        yield cache_case(f"a cache of {count} credentials", file)
+
+
+def unreal_ticket():
+    """The client's ticket, whose cipher is no real one."""
+    return fixture.ticket(bytes((3 + 7 * it) % 256 for it in range(151)))
+
+
+def full_credential(again=b""):
+    """A credential in which each field has a value of its own; with these bytes after its encryption type."""
+    client, server = fixture.principal(3, b"EX", b"host", b"web"), fixture.principal(1, b"EX", b"alice")
+    lists = struct.pack(">IHI", 1, 2, 4) + b"\x7f\0\0\1" + struct.pack(">IHI", 2, 1, 2) + b"ab"
+    lists += struct.pack(">HI", 65_535, 0)
+    numbers = struct.pack(">4IBI", 1, 2, 3, 4, 1, 0x4061_0000)
+    key = struct.pack(">h", -3) + again + fixture.data(b"\x09")
+    return client + server + key + numbers + lists + fixture.data(b"t") + fixture.data(b"uv")
+
+
+def full_cache():
+    return b"\5\4\0\0" + fixture.principal(1, b"EX", b"alice") + full_credential()
+
+
+def bare_credential(again=b""):
+    """A credential without addresses, authorization data and a second ticket."""
+    client = fixture.principal(1, b"EX", b"alice")
+    return fixture.credential(client, fixture.principal(2, b"EX", b"krbtgt", b"EX"), 20, b"\x07\x08", (5, 6, 7, 8),
+                              b"tu", again)
+
+
+def two_credentials():
+    """Caches of both versions with two credentials, of which the first has all fields, or none of the lists and the
+    second ticket."""
+    default = fixture.principal(1, b"EX", b"alice")
+    for version, start, again in (("0x0504", b"\5\4\0\0", b""), ("0x0503", b"\5\3", b"\0\x11")):
+        full, bare = full_credential(again), bare_credential(again)
+        yield f"two credentials of {version}, the first with all fields", start + default + full + bare
+        yield f"two credentials of {version}, the first without lists", start + default + bare + full
+
+
+def old_caches():
+    """Beginnings of caches of version 0x0503, one with each byte another, and sources that fail; and of caches with two
+    credentials."""
+    files = dict(two_credentials())
+    files["the client's cache of 0x0503"] = fixture.old_cache(unreal_ticket())
+    for word, whole in files.items():
+        for length in range(len(whole) + 1):
+            file = Spelled(whole[:length])
+            for piece in (1, 7):
+                yield from each_call(credential_case, f"{length} bytes of {word}, {piece} a read", file, piece)
+            yield cache_case(f"{length} bytes of {word}, as a whole", file, 50)
+    whole = files["two credentials of 0x0503, the first with all fields"]
+    for at in range(len(whole)):
+        for value in (0, 1, 2, 4, 0xFF):
+            file = Spelled(whole[:at] + bytes([value]) + whole[at + 1 :])
+            yield from each_call(credential_case, f"{value} at {at} of a cache of 0x0503", file, 64)
+            yield cache_case(f"{value} at {at} of a cache of 0x0503, as a whole", file)
+    for piece in (7, 50):
+        for failing in range(1, 41):
+            yield from each_call(credential_case, f"a cache of 0x0503 of whose reads {failing} fails", Spelled(whole),
+                                 piece, failing)
+    for again in (b"\0\0", b"\0\x12", b"\x13\0", b"\xff\xff"):
+        yield cache_case(f"a second encryption type of {again.hex()}",
+                         Spelled(fixture.old_cache(unreal_ticket(), again)))
+    for length in (LIMIT, LIMIT + 1):
+        size = length - 18
+        file = Spelled(b"\5\3" + struct.pack(">iIII", 1, 1, 0, size)) + run_of(7, size)
+        yield cache_case(f"a cache of 0x0503 of {length} bytes without credentials", file, 65_536)
+        yield credential_case(f"a cache of 0x0503 of {length} bytes without credentials, off a reader", file, 65_536)
+
+
+def drawn_text(draw, most):
+    return draw.randbytes(draw.randrange(most))
+
+
+def drawn_name(draw):
+    components = [drawn_text(draw, 6) for _ in range(draw.randrange(4))]
+    return fixture.principal(draw.randrange(-(2**31), 2**31), drawn_text(draw, 6), *components)
+
+
+def drawn_list(draw):
+    items = [struct.pack(">H", draw.randrange(2**16)) + fixture.data(drawn_text(draw, 6))
+             for _ in range(draw.randrange(3))]
+    return struct.pack(">I", len(items)) + b"".join(items)
+
+
+def drawn_cache(draw, is_old):
+    """The bytes of a cache of either version."""
+    fields = b"".join(struct.pack(">H", 2 + draw.randrange(9)) + data16(drawn_text(draw, 6))
+                      for _ in range(draw.randrange(3)))
+    if draw.randrange(2):
+        fields += struct.pack(">HH", 1, 8) + draw.randbytes(8)
+    found = b"\5\3" if is_old else b"\5\4" + data16(fields)
+    found += drawn_name(draw)
+    for _ in range(draw.randrange(4)):
+        found += drawn_name(draw) + drawn_name(draw)
+        found += draw.randbytes(4 if is_old else 2) + fixture.data(drawn_text(draw, 20))
+        found += draw.randbytes(16) + bytes([draw.randrange(2)]) + draw.randbytes(4)
+        found += drawn_list(draw) + drawn_list(draw)
+        found += fixture.data(drawn_text(draw, 20)) + fixture.data(drawn_text(draw, 6))
+    return found
+
+
+def drawn_caches():
+    """500 caches of each version; one in three with a byte another."""
+    draw = random.Random("credential caches")
+    for number in range(1_000):
+        data = drawn_cache(draw, number % 2)
+        if draw.randrange(3) == 0:
+            at = draw.randrange(len(data))
+            data = data[:at] + draw.randbytes(1) + data[at + 1 :]
+        file, piece = Spelled(data), draw.randrange(1, 70)
+        yield cache_case(f"drawn cache {number}", file, piece)
+        yield credential_case(f"drawn cache {number}, off a reader", file, piece)
+
+
+def other_caches():
+    """Beginnings of three caches, one with each byte another or with four, and sources that fail."""
+    files = {"ticket": fixture.cache(unreal_ticket()), "configured": fixture.configured_cache(), "full": full_cache()}
+    for word, whole in files.items():
+        for length in range(len(whole) + 1):
+            file = Spelled(whole[:length])
+            yield from each_call(credential_case, f"{length} bytes of the {word} cache", file, 7)
+            yield cache_case(f"{length} bytes of the {word} cache, as a whole", file, 50)
+    for length in range(len(files["ticket"]) + 1):
+        for piece in (1, 2, 3):
+            yield credential_case(f"{length} bytes of the ticket cache, {piece} a read",
+                                  Spelled(files["ticket"][:length]), piece)
+    whole = files["full"]
+    for at in range(len(whole)):
+        for value in (0, 1, 2, 0xFF):
+            file = Spelled(whole[:at] + bytes([value]) + whole[at + 1 :])
+            yield from each_call(credential_case, f"{value} at {at} of a cache", file, 64)
+            yield cache_case(f"{value} at {at}, as a whole", file)
+    for piece in (7, 50):
+        for failing in range(1, 41):
+            yield from each_call(credential_case, f"a cache of whose reads {failing} fails", Spelled(files["ticket"]),
+                                 piece, failing)
+    empty = sized_cache(1, 0)[0].data
+    for at in range(len(empty) - 3):
+        yield cache_case(f"a count of 4294967295 at {at}", Spelled(empty[:at] + b"\xff" * 4 + empty[at + 4 :]))
+
+
+# Sizes at which memory is taken. There is ample memory, so out of memory is a wrong answer to any of them.
+
+
+def credential_of(**parts):
+    """The bytes of a credential whose parts are these or small ones."""
+    name = name32(1, Spelled(b"EX"), 1, b"host")
+    told = {"client": name, "server": name, "key": Spelled(), "addresses": list32(0, 0, b""),
+            "authdata": list32(0, 0, b""),
+            "ticket": Spelled(), "second": Spelled(), **parts}
+    front = told["client"] + told["server"] + struct.pack(">h", 19) + data32(told["key"])
+    front += struct.pack(">4IBI", 1, 2, 3, 4, 0, 5)
+    return front + told["addresses"] + told["authdata"] + data32(told["ticket"]) + data32(told["second"])
+
+
+def cache_of(*credentials, header=None, default=None):
+    file = Spelled(b"\5\4") + (header or Spelled(b"\0\0")) + (default or name32(1, Spelled(b"EX"), 1, b"host"))
+    for it in credentials:
+        file = file + it
+    return file
+
+
+def large_caches():
+    long, text = run_of(0x61, 60_000), b"\x61" * 60_000
+    yield "a realm of 60000 bytes", cache_of(credential_of(), default=name32(1, long, 1, b"host"))
+    yield "a component of 60000 bytes", cache_of(credential_of(), default=name32(1, long, 1, text))
+    yield "names of 60000 bytes", cache_of(credential_of(client=name32(1, long, 2, text),
+                                                         server=name32(1, long, 1, text)))
+    for part in ("key", "ticket", "second"):
+        yield f"a {part} of 60000 bytes", cache_of(credential_of(**{part: long}))
+    for part in ("addresses", "authdata"):
+        yield f"{part} of 60000 bytes", cache_of(credential_of(**{part: list32(2, 3, text)}))
+        yield f"1000 {part}", cache_of(credential_of(**{part: list32(1_000, 3, b"abcd")}))
+    many = name32(1, Spelled(b"EX"), 1_000, b"host")
+    yield "names of 1000 components", cache_of(credential_of(client=many, server=many), default=many)
+    yield "a header field of 60000 bytes", cache_of(credential_of(), header=header16(1, 2, text))
+    yield "1000 header fields", cache_of(credential_of(), header=header16(1_000, 3, b"abcd"))
+    yield "2000 credentials", cache_of(*(credential_of(ticket=Spelled(struct.pack(">I", it))) for it in range(2_000)))
+
+
+def long_keytabs():
+    long, text = run_of(0x61, 60_000), b"\x61" * 60_000
+    start = Spelled(b"\5\2")
+    yield "a realm of 60000 bytes", start + record(long, 1, b"host", Spelled(KEY))
+    yield "components of 60000 bytes", start + record(Spelled(b"EX"), 2, text, Spelled(KEY))
+    yield "a key of 60000 bytes", start + record(Spelled(b"EX"), 1, b"host", long)
+    yield "1000 components", start + record(Spelled(b"EX"), 1_000, b"host", Spelled(KEY))
+    entries = start
+    for it in range(2_000):
+        entries = entries + record(Spelled(b"EX"), 2, b"host", Spelled(KEY), it)
+    yield "2000 entries", entries
+    hole = Spelled(struct.pack(">i", -150_000)) + run_of(9, 150_000)
+    yield "a hole of 150000 bytes between two entries", ALICE + hole + Spelled(ALICE.data[2:])
+
+
+def removed(data, index):
+    """The keytab with the record of an entry made a hole."""
+    at = 2
+    while True:
+        size = struct.unpack(">i", data[at : at + 4])[0]
+        if size > 0:
+            if not index:
+                return data[:at] + struct.pack(">i", -size) + bytes(size) + data[at + 4 + size :]
+            index -= 1
+        at += 4 + abs(size)
+
+
+def added(data, one):
+    """The keytab with this record more: in the first hole that is long enough, or in place of the end."""
+    at = 2
+    while at < len(data):
+        size = struct.unpack(">i", data[at : at + 4])[0]
+        if size == 0:
+            break
+        if -size >= len(one) - 4:
+            rest = -size - len(one) + 4
+            return data[:at] + struct.pack(">i", -size) + one[4:] + bytes(rest) + data[at + 4 - size :]
+        at += 4 + abs(size)
+    return reference.within_limit(data[:at] + one)
+
+
+def edited_case(name, file, one, words):
+    """What `add_in` gives of this entry, and `remove_in` then."""
+    lines = [f"keytab add {file.word} {words}"]
+    try:
+        made = added(file.data, one)
+    except Fault as fault:
+        return PROGRAM, name, lines, [f"{fault.name} {shown(file.data)}"]
+    return PROGRAM, name, lines, [f"ok {shown(made)}"]
+
+
+def edits_of_large_files():
+    one, words = ALICE.data[2:], f"1/4558/616c696365 1700000000 256 19 {KEY.hex()}"
+    hole = Spelled(struct.pack(">i", -200_000)) + run_of(9, 200_000)
+    yield edited_case("an entry is added into a hole of 200000 bytes", ALICE + hole + Spelled(one), one, words)
+    entries = ALICE + Spelled(one).times(20_000)
+    yield edited_case("an entry is added to a file of 1 MB", entries, one, words)
+    gone = removed(entries.data, 19_999)
+    name = "an entry of a file of 1 MB is removed"
+    yield PROGRAM, name, [f"keytab remove 19999 {entries.word}"], [f"ok {shown(gone)}"]
+    for key in (65_209, 65_208):
+        yield edited_case(f"an entry is added to a file of {16_711_958 + key} bytes", full_keytab(key), one, words)
+
+
+def full_keytab(key):
+    """A keytab of one entry, with 255 components of 65535 bytes and a key of so many, without a version number of 32
+    bits. It has 16711958 bytes and those of the key."""
+    item = Spelled(b"\xff\xff") + run_of(0x61, 65_535)
+    file = Spelled(b"\5\2" + struct.pack(">I", 16_711_952 + key) + b"\0\xff\0\0")
+    for _ in range(255):
+        file = file + item
+    return file + struct.pack(">iIBhH", 1, 0, 1, 18, key) + run_of(7, key)
+
+
+def most_of_a_keytab():
+    """Keytabs at the limit, and a byte past it; one that is longer where it is written."""
+    for key in (65_258, 65_254):
+        file = full_keytab(key)
+        entry = reference.keytab(file.data)
+        found = f"ok 1 {list_shown([entry_shown(it) for it in entry], ' ')}"
+        try:
+            written = f"ok {shown(reference.convert_keytab(file.data))}"
+        except Fault as fault:
+            written = fault.name
+        lines = [f"keytab parse {file.word}", f"keytab read reader {file.word}", f"keytab write {file.word}"]
+        answers = [found, f"{found} given {len(file.data)} failures 0", written]
+        yield PROGRAM, f"a keytab of {len(file.data)} bytes, written", lines, answers
+    file = full_keytab(65_258)
+    yield entry_case(f"a reader of a keytab of {len(file.data)} bytes", file, 65_536)
+    longer = file + b"\0"
+    yield keytab_case(f"a keytab of {len(longer.data)} bytes", longer)
+    yield entry_case(f"a reader of a keytab of {len(longer.data)} bytes", longer, 65_536)
+
+
+def most_of_a_cache():
+    small = len(cache_of(credential_of()).data)
+    for length in (65_535, 65_536, 100_000, LIMIT - small, LIMIT - small + 1):
+        file = cache_of(credential_of(ticket=run_of(7, length)))
+        name, short = "1/4558/686f7374", f"a cache with a ticket of {length} bytes"
+        made = f". {name} {name}:{name}:19:-:1:2:3:4:0:5:.:.:07*{length}:-"
+        written = f"ok {shown(file.data)}" if len(file.data) <= LIMIT else "TooLong"
+        yield PROGRAM, f"{short} is made", [f"cache written {made}"], [written]
+        yield cache_case(short, file, 65_536)
+        yield credential_case(f"{short}, off a reader", file, 65_536)
+
+
+# Of so many items, a file of small ones still has room.
+MOST = 20_000
+
+
+def many_items():
+    """Very many entries and credentials: each is shown as it is alone."""
+    one, start = record(Spelled(b"EX"), 2, b"host", Spelled(KEY)), Spelled(b"\5\2")
+    found = f"ok {MOST} {list_shown([entry_shown(reference.keytab(start.data + one.data)[0])] * MOST, ' ')}"
+    yield file_case("keytab", f"a keytab of {MOST} entries", start + one.times(MOST), 65_536, found,
+                    lambda data: f"ok {shown(data)}")
+    one, start = Spelled(credential_of().data), cache_of()
+    _, default, credentials = reference.cache(start.data + one.data)
+    found = f"ok {name_shown(default)} none {MOST} {list_shown([kind_shown(credentials[0])] * MOST, ' ')}"
+    yield file_case("cache", f"a cache of {MOST} credentials", start + one.times(MOST), 65_536, found,
+                    lambda data: f"ok {shown(data)}")
+
+
+def wide_records():
+    """Entries and credentials of 1 MiB, with very many components."""
+    file = Spelled(b"\5\2") + record(Spelled(), 65_535, b"\7" * 14, Spelled())
+    yield from each_call(entry_case, "an entry of 65535 components", file, 65_536)
+    items = Spelled(data16(b"\7" * 14)).times(65_535)
+    body = Spelled(b"\xff\xff\0\0") + items + struct.pack(">iIBhB", 1, 0, 1, 19, 0)
+    cut = Spelled(b"\5\2" + struct.pack(">i", len(body.data))) + body
+    yield from each_call(entry_case, "an entry of 65535 components, cut", cut, 65_536)
+    name, wide = name32(0, Spelled(), 0, b""), name32(1, Spelled(), 262_000, b"")
+    for flag in (1, 2):
+        numbers = struct.pack(">4IBI", 0, 0, 0, 0, flag, 0)
+        item = name + wide + struct.pack(">hI", 0, 0) + numbers + bytes(16)
+        file = Spelled(b"\5\4\0\0") + name + item
+        yield from each_call(credential_case, f"a credential of 262000 components, of flag {flag}", file, 65_536)
+
+
+def sizes():
+    for name, file in long_keytabs():
+        yield keytab_case(f"a keytab with {name}", file)
+        yield from each_call(entry_case, f"a keytab with {name}, off a reader", file, 4_096)
+    for name, file in large_caches():
+        yield cache_case(f"a cache with {name}", file)
+        yield from each_call(credential_case, f"a cache with {name}, off a reader", file, 4_096)
+    for part in (edits_of_large_files, most_of_a_keytab, most_of_a_cache, many_items, wide_records, long_words):
+        yield from part()
+
+
+def long_words():
+    """Strings, names and lists, made by the calls themselves."""
+    long, told = "61*60000", shown(b"a" * 60_000)
+    lines, answers = [], []
+    for call in ("from", "pushed", "of", "clone"):
+        lines.append(f"bytes {call} {long}")
+        answers.append(f"60000 false {told}")
+    items = list_shown(["686f7374"] * 1_000)
+    for call in ("pushed", "clone", "room 1000"):
+        lines.append(f"components {call} 686f7374^1000")
+        answers.append(f"1000 false {items}")
+    elements = list_shown(["2/7f000001"] * 1_000)
+    lines, answers = [*lines, "cache list 2/7f000001^1000"], [*answers, f"1000 false {elements}"]
+    yield PROGRAM, "long strings and lists", lines, answers
+    for realm, components in ((b"a" * 1_000_000, [b"b"]), (b"EX", [b"a" * 1_000_000]), (b"EX", [b"host"] * 20_000)):
+        text = reference.principal_text(realm, components)
+        name = {"name_type": 3, "realm": realm, "components": components}
+        word = f"3/{realm.hex()}/{','.join(it.hex() for it in components)}"
+        lines = [f"name text {word}", f"name read 3 ={text}", f"name clone {word}"]
+        answers = [shown(text.encode()), name_shown(name), name_shown(name)]
+        yield PROGRAM, f"a name of {len(text)} letters", lines, answers
+
+
+# Lengths and counts that the bytes don't bear out.
+
+CLAIMED = struct.pack(">I", 16_000_000)
+
+
+def claims():
+    """A name, and the bytes of a file that claims 16 MB by a length or a count, and has a few bytes."""
+    start, name, small = b"\5\2", fixture.principal(1, b"EX", b"alice"), b"\0" * 8
+    for what, body in {"a record": CLAIMED + small, "a hole": struct.pack(">i", -16_000_000) + small}.items():
+        yield what, start + body
+    counted = struct.pack(">i", 16) + b"\xff\xff" + bytes(14)
+    yield "the components of an entry", start + counted
+    front, key = b"\5\4\0\0", struct.pack(">h", 19)
+    numbers, item = struct.pack(">4IBI", 1, 2, 3, 4, 0, 5), struct.pack(">HI", 2, 2) + b"ab"
+    yield "a header", b"\5\4\xff\xff" + small
+    yield "a field of a header", b"\5\4\0\x08\0\2\xff\xff" + small
+    claiming, short = struct.pack(">i", 1) + CLAIMED, fixture.data(b"EX") + fixture.data(b"a")
+    yield "the components of the default principal", front + claiming + short
+    yield "the realm of the default principal", front + struct.pack(">iI", 1, 1) + CLAIMED + b"EX"
+    yield "a component of the default principal", front + struct.pack(">iI", 1, 2) + short + CLAIMED + b"b"
+    begun = front + name
+    yield "the components of a client", begun + claiming + short
+    yield "the components of a server", begun + name + claiming + short
+    begun += name + name + key
+    yield "a session key", begun + CLAIMED + small
+    begun += fixture.data(b"") + numbers
+    yield "the addresses of a credential", begun + CLAIMED + item
+    yield "an address", begun + struct.pack(">I", 2) + item + b"\0\2" + CLAIMED + b"ab"
+    begun += bytes(4)
+    yield "the authorization data of a credential", begun + CLAIMED + item
+    yield "an element of authorization data", begun + struct.pack(">I", 1) + b"\0\1" + CLAIMED + b"ab"
+    begun += bytes(4)
+    yield "a ticket", begun + CLAIMED + small
+    yield "a second ticket", begun + fixture.data(b"t") + CLAIMED + small
+
+
+def claim_cases():
+    for name, data in claims():
+        title, file, is_keytab = f"16 MB are claimed by {name}", Spelled(data), data[1] == 2
+        case, reader = (keytab_case, entry_case) if is_keytab else (cache_case, credential_case)
+        yield case(title, file)
+        yield from each_call(reader, f"{title}, off a reader", file, 100)
+
+
+# Names.
+
+
+def names():
+    for count in range(1, 301):
+        text = reference.principal_text(b"EX", [b"web"] * count)
+        told = f"={text}" if len(text) <= 1024 else shown(text.encode())
+        name = name_shown({"name_type": 1, "realm": b"EX", "components": [b"web"] * count})
+        yield PROGRAM, f"a name of {count} components", [f"name text 1/4558/776562^{count}",
+                                                         f"name read 1 ={text}"], [told, name]
+
+
+PARTS = (names, keytabs_of_sizes, other_keytabs, caches_of_sizes, other_caches, old_caches, drawn_caches, sizes,
+         claim_cases)

@@ -1,0 +1,372 @@
+"""Tokens of GSS-API (RFC 2743, section 3.1; RFC 4121, section 4.1; RFC 4178, section 4.2), and which fault a token has.
+
+The model knows DER by itself. It draws tokens as clients send them and bends them in structure; `drawn` gives the
+cases. It also writes requests and answers in their wrapping, and checksums of authenticators (RFC 4121, section 4.1.1).
+"""
+import hashlib
+import random
+
+PROGRAM = "krb_calls_wire"
+KERBEROS = bytes.fromhex("2a864886f712010202")
+MICROSOFT = bytes.fromhex("2a864882f712010202")
+SPNEGO = bytes.fromhex("2b0601050502")
+NTLM = bytes.fromhex("2b06010401823702020a")
+IAKERB = bytes.fromhex("2b0601050205")
+NAMES = {KERBEROS: "Kerberos", MICROSOFT: "Microsoft"}
+OTHERS = {SPNEGO: "Negotiation", NTLM: "Ntlm", IAKERB: "IaKerb"}
+LIMIT = 1_048_576
+CASES = 6_000
+
+
+class Fault(Exception):
+    pass
+
+
+def length(count):
+    if count < 128:
+        return bytes([count])
+    digits = count.to_bytes((count.bit_length() + 7) // 8, "big")
+    return bytes([0x80 + len(digits)]) + digits
+
+
+def element(tag, content):
+    return bytes([tag]) + length(len(content)) + content
+
+
+def kerberos(name, message, token_id=b"\x01\x00"):
+    return element(0x60, element(0x06, name) + token_id + message)
+
+
+def negotiation(names, token, flags=None, mic=None):
+    """A token of SPNEGO; the parts are contents, or None."""
+    fields = element(0xA0, element(0x30, b"".join(element(0x06, it) for it in names)))
+    for outer, inner, content in ((0xA1, 0x03, flags), (0xA2, 0x04, token), (0xA3, 0x04, mic)):
+        if content is not None:
+            fields += element(outer, element(inner, content))
+    return element(0x60, element(0x06, SPNEGO) + element(0xA0, element(0x30, fields)))
+
+
+class Reader:
+    """A part of a token: the bytes, and where the part begins and ends."""
+
+    def __init__(self, text, at, end):
+        self.text, self.at, self.end = text, at, end
+
+    def left(self):
+        return self.text[self.at : self.end]
+
+    def enter(self, tag):
+        """The content of the next element, which has this tag."""
+        text, at, end = self.text, self.at, self.end
+        if at == end:
+            raise Fault(f"Truncated at {end}")
+        if text[at] != tag:
+            raise Fault(f"Tag at {at}")
+        if at + 1 == end:
+            raise Fault(f"Truncated at {end}")
+        first, start = text[at + 1], at + 2
+        size = first
+        if first >= 0x80:
+            count = first - 0x80
+            if not 1 <= count <= 4:
+                raise Fault(f"Length at {at + 1}")
+            if start + count > end:
+                raise Fault(f"Truncated at {end}")
+            size, start = int.from_bytes(text[start : start + count], "big"), start + count
+            if length(size) != text[at + 1 : start]:
+                raise Fault(f"Length at {at + 1}")
+        if start + size > end:
+            raise Fault(f"Truncated at {end}")
+        self.at = start + size
+        return Reader(text, start, start + size)
+
+    def last(self, tag):
+        inside = self.enter(tag)
+        self.finish()
+        return inside
+
+    def finish(self):
+        if self.at != self.end:
+            raise Fault(f"Trailing at {self.at}")
+
+    def optional(self, outer, inner):
+        if self.left()[:1] == bytes([outer]):
+            return self.enter(outer).last(inner)
+        return None
+
+
+def framed(part):
+    inside = part.last(0x60)
+    return inside.enter(0x06), inside
+
+
+def name_of(oid):
+    found = NAMES.get(oid.left())
+    if found is None:
+        raise Fault(f"another mechanism at {oid.at}: {OTHERS.get(oid.left(), 'Unknown')}")
+    return found
+
+
+def message_of(oid, inner):
+    name = name_of(oid)
+    if inner.left()[:2] != b"\x01\x00":
+        raise Fault(f"another token identifier at {inner.at}")
+    return name, inner.left()[2:]
+
+
+def init_of(part):
+    fields = part.last(0xA0).last(0x30)
+    names = fields.enter(0xA0).last(0x30)
+    first = names.enter(0x06)
+    while names.left():
+        names.enter(0x06)
+    fields.optional(0xA1, 0x03)
+    token = fields.optional(0xA2, 0x04)
+    fields.optional(0xA3, 0x04)
+    fields.finish()
+    return first, token
+
+
+def opened(text):
+    """What the token holds: the answer of the program, and the request."""
+    if len(text) > LIMIT:
+        raise Fault("TooLong at 0")
+    if text[:1] == b"\xa1":
+        raise Fault("the token continues a negotiation")
+    if text[:1] != b"\x60":
+        raise Fault("no token of a mechanism")
+    oid, inner = framed(Reader(text, 0, len(text)))
+    if oid.left() != SPNEGO:
+        name, request = message_of(oid, inner)
+        return f"bare {name}", request
+    first, token = init_of(inner)
+    listed = name_of(first)
+    if token is None:
+        raise Fault(f"no token of the mechanism at {first.at}")
+    name, request = message_of(*framed(token))
+    return f"negotiated {listed} {name}", request
+
+
+def response_of(part):
+    fields = part.last(0xA1).last(0x30)
+    fields.optional(0xA0, 0x0A)
+    oid = fields.enter(0xA1).last(0x06)
+    token = fields.optional(0xA2, 0x04)
+    fields.optional(0xA3, 0x04)
+    fields.finish()
+    return oid, token
+
+
+def reply_of(oid, inner):
+    name, kinds = name_of(oid), {b"\x02\x00": "reply", b"\x03\x00": "error"}
+    if inner.left()[:2] not in kinds:
+        raise Fault(f"another token identifier at {inner.at}")
+    return f"{name} {kinds[inner.left()[:2]]} {inner.left()[2:].hex() or '-'}"
+
+
+def answered(text):
+    """What `answered` answers."""
+    try:
+        if len(text) > LIMIT:
+            raise Fault("TooLong at 0")
+        part = Reader(text, 0, len(text))
+        if text[:1] == b"\x60":
+            return f"bare {reply_of(*framed(part))}"
+        if text[:1] != b"\xa1":
+            raise Fault("no token of a mechanism")
+        oid, token = response_of(part)
+        listed = name_of(oid)
+        if token is None:
+            raise Fault(f"no token of the mechanism at {oid.at}")
+        return f"negotiated {listed} {reply_of(*framed(token))}"
+    except Fault as fault:
+        return f"refused {fault}"
+
+
+def straight_answer(rng):
+    """An answer as some service may send it."""
+    message = rng.randbytes(rng.choice((0, 1, 5, 100, 130, 300)))
+    token_id = rng.choice((b"\x02\x00",) * 4 + (b"\x03\x00",) * 4 + (b"\x01\x00", b"\x02\x01", b"\x03", b""))
+    inner = kerberos(rng.choice((KERBEROS, KERBEROS, MICROSOFT, NTLM, SPNEGO)), message, token_id)
+    if rng.random() < 0.3:
+        return inner
+    oid = rng.choice((KERBEROS, KERBEROS, MICROSOFT, MICROSOFT, NTLM, IAKERB))
+    fields = b""
+    for outer, tag, content in ((0xA0, 0x0A, rng.choice((b"\0", b"\1", b"\2", None, b"", b"\0\0"))),
+                                (0xA1, 0x06, rng.choice((oid,) * 9 + (None,))),
+                                (0xA2, 0x04, rng.choice((inner,) * 9 + (None,))),
+                                (0xA3, 0x04, rng.choice((None, None, b"mic")))):
+        if content is not None:
+            fields += element(outer, element(tag, content))
+    return element(0xA1, element(0x30, fields))
+
+
+def answer(text):
+    try:
+        front, request = opened(text)
+        return f"{front} {request.hex() or '-'}"
+    except Fault as fault:
+        return f"refused {fault}"
+
+
+def straight(rng):
+    """A token as some client may send it."""
+    message = b"\x6e" + rng.randbytes(rng.choice((0, 1, 5, 100, 120, 130, 250, 300)))
+    inner = kerberos(rng.choice((KERBEROS, KERBEROS, MICROSOFT, NTLM, SPNEGO)), message,
+                     rng.choice((b"\x01\x00",) * 5 + (b"\x02\x00", b"\x01\x01", b"\x01", b"")))
+    if rng.random() < 0.3:
+        return inner
+    names = [rng.choice((KERBEROS, MICROSOFT, KERBEROS, NTLM, IAKERB, SPNEGO, rng.randbytes(4), b""))]
+    names += [rng.choice((KERBEROS, MICROSOFT, NTLM)) for _ in range(rng.choice((0, 1, 3)))]
+    flags = rng.choice((None, None, b"\x01\x02", b"\x00" * 5))
+    mic = rng.choice((None, None, b"", b"mic"))
+    return negotiation(names[: rng.choice((0, 1, 9, 9, 9, 9))], rng.choice((inner, inner, inner, None, b"NTLMSSP\0")),
+                       flags, mic)
+
+
+def bent(rng, text):
+    """The token with one thing otherwise: a byte, a cut, more bytes, or an element's head."""
+    text, at = bytearray(text), rng.randrange(min(len(text), 60))
+    how = rng.randrange(6)
+    if how == 0:
+        text[at] = rng.randrange(256)
+    elif how == 1:
+        text[at] ^= 1 << rng.randrange(8)
+    elif how == 2:
+        del text[rng.randrange(len(text)):]
+    elif how == 3:
+        text += rng.randbytes(rng.choice((1, 2, 9)))
+    elif how == 4:
+        text[at:at + 1] = rng.choice((b"\x80", b"\x81", b"\x85", b"\x81\x05", b"\x82\x00\x05", b"\x84\x00\x00\x00\x05",
+                                      b"\x00", b"\xa1", b"\xa3"))
+    else:
+        del text[at]
+    return bytes(text)
+
+
+def large():
+    """Tokens of many sizes, up to the limit and one above it."""
+    for count in (127, 128, 65_535, 65_536, LIMIT - 100, LIMIT - 22, LIMIT - 21, LIMIT - 20, LIMIT):
+        text = kerberos(KERBEROS, b"m" * count)
+        front = text[: len(text) - count]
+        wanted = answer(text).rsplit(" ", 1)
+        yield f"a request of {count} bytes", [f"open {front.hex()}+6d*{count}"], [
+            " ".join([wanted[0], f"6d*{count}"]) if len(text) <= LIMIT else "refused TooLong at 0"
+        ]
+
+
+def response(name, token, state):
+    """A NegTokenResp of negState, supportedMech and responseToken."""
+    parts = (0xA0, 0x0A, bytes([state])), (0xA1, 0x06, name), (0xA2, 0x04, token)
+    fields = b"".join(element(outer, element(tag, content)) for outer, tag, content in parts)
+    return element(0xA1, element(0x30, fields))
+
+
+def wrapped(rng):
+    """A request or an answer that is wrapped: the line and what is answered."""
+    place, name = rng.choice((None, KERBEROS, MICROSOFT)), rng.choice((KERBEROS, MICROSOFT))
+    message = rng.randbytes(rng.choice((0, 1, 2, 90, 97, 113, 127, 128, 250, 300)))
+    kind, token_id, state = rng.choice((("request", 1, None), ("answer", 2, 0), ("answer", 3, 2)))
+    token = kerberos(name, message, bytes([token_id, 0]))
+    if place:
+        token = negotiation([place], token) if state is None else response(place, token, state)
+    words = [kind, NAMES[place] if place else "bare", NAMES[name]]
+    if state is not None:
+        words.append("reply" if state == 0 else "error")
+    return " ".join([*words, message.hex() or "-"]), token
+
+
+def too_long():
+    """The longest messages that fit, and one byte more."""
+    for words, around in (("request bare Kerberos", lambda it: kerberos(KERBEROS, it)),
+                          ("request Kerberos Microsoft", lambda it: negotiation([KERBEROS], kerberos(MICROSOFT, it))),
+                          ("answer bare Kerberos reply", lambda it: kerberos(KERBEROS, it, b"\x02\x00")),
+                          ("answer Microsoft Kerberos error",
+                           lambda it: response(MICROSOFT, kerberos(KERBEROS, it, b"\x03\x00"), 2))):
+        most = next(count for count in range(LIMIT, 0, -1) if len(around(bytes(count))) <= LIMIT)
+        token = around(b"m" * most)
+        shown = f"#{len(token)}:{hashlib.sha256(token).hexdigest()}"
+        long = "refused the token would be longer than 1048576 bytes"
+        for count, answer_is in ((most, shown), (most + 1, long), (LIMIT, long), (LIMIT + 1, long), (4 * LIMIT, long)):
+            yield f"{words} of {count} bytes", f"{words} 6d*{count}", answer_is
+
+
+FLAGS = {1: "Delegation", 2: "Mutual", 4: "Replay", 8: "Sequence", 16: "Confidentiality", 32: "Integrity"}
+
+
+def checksum_bytes(flags, bindings, message, extensions):
+    text = (16).to_bytes(4, "little") + bindings + flags.to_bytes(4, "little")
+    if message is not None:
+        text += (1).to_bytes(2, "little") + len(message).to_bytes(2, "little") + message
+    return text + extensions
+
+
+def checksum_answer(text):
+    """What `checksum` answers."""
+    if len(text) < 24:
+        return "refused the checksum is cut off"
+    if text[:4] != b"\x10\0\0\0":
+        return "refused the length of the bindings isn't 16"
+    flags, rest, shown = int.from_bytes(text[20:24], "little"), text[24:], "none"
+    if flags % 2:
+        if len(rest) < 4:
+            return "refused the checksum is cut off"
+        if rest[:2] != b"\x01\0":
+            return "refused the option of the delegation isn't 1"
+        size = int.from_bytes(rest[2:4], "little")
+        if len(rest) < 4 + size:
+            return "refused the checksum is cut off"
+        shown, rest = rest[4 : 4 + size].hex() or "-", rest[4 + size :]
+    return " ".join([str(flags), text[4:20].hex(), shown, rest.hex() or "-",
+                     *(name for bit, name in FLAGS.items() if flags & bit)])
+
+
+def checksums(rng):
+    """A checksum that is written, read, bent and read again, and asked for bindings: the lines and what is answered."""
+    flags = rng.choice((0, 1, 2, 3, 0x3E, 0x3F, 0x123, rng.randrange(2**32)))
+    bindings = rng.choice((bytes(16), rng.randbytes(16)))
+    message = rng.randbytes(rng.choice((0, 1, 5, 255, 256, 400))) if rng.random() < 0.5 else None
+    extensions = rng.randbytes(rng.choice((0, 0, 1, 9)))
+    told = "none" if message is None else message.hex() or "-"
+    words = f"encode {flags} {bindings.hex()} {told} {extensions.hex() or '-'}"
+    agrees = (message is not None) == bool(flags % 2)
+    text = checksum_bytes(flags, bindings, message, extensions)
+    yield words, text.hex() if agrees else "refused the flag doesn't agree with the delegation"
+    yield f"checksum {text.hex()}", checksum_answer(text)
+    for _ in range(3):
+        other = bent(rng, text)
+        yield f"checksum {other.hex() or '-'}", checksum_answer(other)
+    wanted = rng.choice((bindings, bytes(16), bindings[:15] + b"\x01"))
+    read = checksum_answer(text)
+    same = str(wanted == bindings).lower()
+    yield f"bindings {text.hex()} {wanted.hex()}", read if read.startswith("refused") else same
+
+
+def drawn():
+    """The cases: program, name, lines and answers."""
+    for name, lines, answers in drawn_calls():
+        yield PROGRAM, f"gss: {name}", [f"gss {it}" for it in lines], answers
+
+
+def drawn_calls():
+    rng = random.Random(4178)
+    for number in range(CASES):
+        text = straight(rng)
+        for _ in range(rng.choice((0, 0, 1, 1, 2))):
+            text = bent(rng, text) or b"\0"
+        yield f"token {number}", [f"open {text.hex()}"], [answer(text)]
+    for name, lines, answers in large():
+        yield name, lines, answers
+    for number in range(CASES // 2):
+        text = straight_answer(rng)
+        for _ in range(rng.choice((0, 0, 1, 1, 2))):
+            text = bent(rng, text) or b"\0"
+        yield f"answer {number}", [f"answered {text.hex()}"], [answered(text)]
+    for number in range(CASES // 10):
+        line, token = wrapped(rng)
+        call, back = ("open", answer(token)) if line.startswith("request") else ("answered", answered(token))
+        yield f"wrapped {number}", [line, f"{call} {token.hex()}"], [token.hex(), back]
+        both = list(checksums(rng))
+        yield f"checksum {number}", [line for line, _ in both], [it for _, it in both]
+    for name, line, answer_is in too_long():
+        yield name, [line], [answer_is]

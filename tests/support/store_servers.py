@@ -1,0 +1,152 @@
+"""Servers of Redis and PostgreSQL for tests (Debian's redis-server and postgresql): each in a folder of its own, on a
+socket there, with no port.
+
+They keep what they were told, also when they are killed, as docs/OPERATING.md configures it. The table of PostgreSQL is
+the document's.
+"""
+import contextlib
+import glob
+import hashlib
+import os
+import pwd
+import re
+import shutil
+import signal
+import subprocess
+import tempfile
+import time
+from pathlib import Path
+
+from support import TOP
+
+SECONDS = 60
+
+
+def statements():
+    """The SQL of the document: what makes the table, and what deletes old stamps."""
+    return re.findall(r"^ *```sql\n(.*?)^ *```$", (TOP / "docs/OPERATING.md").read_text(), re.S | re.M)
+
+
+def wait_for(is_so, what, process=None):
+    last = time.monotonic() + SECONDS
+    while not is_so():
+        if time.monotonic() > last or (process and process.poll() is not None):
+            raise OSError(what)
+        time.sleep(0.02)
+
+
+def said(words, **more):
+    return subprocess.run([str(it) for it in words], capture_output=True, text=True, timeout=SECONDS, **more)
+
+
+class Server:
+    """A process over a folder, which is removed at the end."""
+
+    def __init__(self):
+        self.folder, self.process = Path(tempfile.mkdtemp(prefix=f"{self.name.lower()}-")), None
+
+    def signalled(self, number):
+        self.process.send_signal(number)
+
+    def kill(self):
+        self.process.kill()
+        self.process.wait()
+
+    def close(self):
+        if self.process and self.process.poll() is None:
+            self.kill()
+        shutil.rmtree(self.folder)
+
+
+def lines_of_redis(first):
+    """The lines of redis.conf of the document's block that begins with this word."""
+    return re.search(rf"^```text\n({first} .*?)^```$", (TOP / "docs/OPERATING.md").read_text(), re.S | re.M)[1]
+
+
+class Redis(Server):
+    name = "Redis"
+
+    def __init__(self):
+        super().__init__()
+        self.socket = self.folder / "redis.sock"
+        self.words = ["--redis", self.socket]
+
+    def start(self, users="", wanted="PONG\n"):
+        more = f'port 0\nunixsocket {self.socket}\ndir {self.folder}\nsave ""\n{users}'
+        settings = lines_of_redis("appendonly") + more
+        (self.folder / "redis.conf").write_text(settings)
+        self.process = subprocess.Popen(["redis-server", self.folder / "redis.conf"], stdout=subprocess.DEVNULL,
+                                        stderr=subprocess.DEVNULL)
+        wait_for(lambda: self.said("ping").startswith(wanted), "redis-server doesn't answer", self.process)
+
+    def start_with_user(self, password):
+        """Starts it with the document's users. Nobody may do anything without a password, not even a ping."""
+        self.start(lines_of_redis("user").replace("HASH", hashlib.sha256(password.encode()).hexdigest()), "NOAUTH")
+
+    def said(self, *command, user=()):
+        """What redis-cli prints of a command; the user is a name and a password."""
+        login = ["--no-auth-warning", "--user", user[0], "--pass", user[1]] if user else []
+        return said(["redis-cli", "-s", self.socket, *login, *command]).stdout
+
+
+class Postgres(Server):
+    """It refuses to run as root, so it then runs as the user postgres, whom the package makes. Instances are the user
+    web of its own."""
+    name = "PostgreSQL"
+
+    def __init__(self):
+        super().__init__()
+        self.words = ["--postgres", f"host={self.folder} dbname=postgres user=web"]
+        self.user, self.tools = {}, None
+
+    def make(self):
+        self.tools = Path(max(glob.glob("/usr/lib/postgresql/*/bin"), key=lambda it: float(it.split("/")[-2])))
+        if os.geteuid() == 0:
+            account = pwd.getpwnam("postgres")
+            os.chown(self.folder, account.pw_uid, account.pw_gid)
+            self.user = {"user": account.pw_uid, "group": account.pw_gid, "extra_groups": []}
+        words = ["-D", self.folder / "data", "-A", "trust", "-U", "postgres", "-E", "UTF8", "--locale=C", "--no-sync"]
+        made = said([self.tools / "initdb", *words], cwd=self.folder, **self.user)
+        if made.returncode:
+            raise OSError(made.stderr)
+
+    def start(self):
+        is_first = self.tools is None
+        if is_first:
+            self.make()
+        settings = {"listen_addresses": "", "unix_socket_directories": self.folder, "shared_buffers": "16MB",
+                    "fsync": "on", "synchronous_commit": "on"}
+        words = [self.tools / "postgres", "-D", self.folder / "data",
+                 *(word for it in settings.items() for word in ("-c", "=".join(map(str, it))))]
+        with open(self.folder / "log", "ab") as log:
+            self.process = subprocess.Popen([str(it) for it in words], cwd=self.folder, stdout=log, stderr=log,
+                                            **self.user)
+        wait_for(lambda: said([self.tools / "pg_isready", "-q", "-h", self.folder]).returncode == 0,
+                 "postgres doesn't answer", self.process)
+        if is_first:
+            self.run("CREATE ROLE web LOGIN")
+            self.run(statements()[0])
+
+    def run(self, statement):
+        """What psql says of a statement."""
+        ran = said([self.tools / "psql", "-h", self.folder, "-U", "postgres", "-v", "ON_ERROR_STOP=1", "-c", statement,
+                    "postgres"])
+        if ran.returncode:
+            raise OSError(ran.stderr)
+        return ran.stdout.strip()
+
+    def signalled(self, number):
+        """Signals each process that the server started, and the server, which is stopped before, so that it starts no
+        more."""
+        self.process.send_signal(signal.SIGSTOP)
+        started = Path(f"/proc/{self.process.pid}/task/{self.process.pid}/children").read_text().split()
+        for it in started:
+            with contextlib.suppress(ProcessLookupError):
+                os.kill(int(it), number)
+        self.process.send_signal(number)
+        return started
+
+    def kill(self):
+        started = self.signalled(signal.SIGKILL)
+        self.process.wait()
+        wait_for(lambda: not any(Path(f"/proc/{it}/exe").exists() for it in started), "a process of postgres goes on")
