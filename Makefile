@@ -45,9 +45,9 @@ all: $(BUILD)/krbtool $(LIBRARIES) $(BUILD)/NOTICES
 # (each build leaves its archive in the crate's out/, so they are made one after another)
 .NOTPARALLEL:
 
-$(BUILD)/krbtool: $(SOURCES)
+$(BUILD)/krbtool: $(SOURCES) packaging/program.py packaging/archive.py
 	./krbtool --version >/dev/null
-	install -D -m 755 crates/krbtool/out/krbtool $@
+	packaging/program.py x86-64 $@
 
 $(BUILD)/%/libfevstunik.a: $(SOURCES) packaging/build-library packaging/archive.py packaging/fevstunik.map
 	packaging/build-library $* $(BUILD)/$* $(VERSION)

@@ -1,5 +1,5 @@
 """The Debian packages in a fresh Debian root: they are installed there by apt, used from C, Python and the shell as a user does, tested by
-autopkgtest, and removed. The root has only what compiles a program in C, and the Python that the package needs."""
+autopkgtest, and removed. The root has only what compiles a program in C, the Python that the package needs, and what autopkgtest asks for."""
 import re
 import shutil
 
@@ -9,7 +9,7 @@ from packing import ANSWERS, BUILDS, REQUEST, ROOT, wrong
 from support.roots import this_release
 
 pytestmark = [pytest.mark.packages, pytest.mark.root, pytest.mark.slow]
-HAS = "gcc,libc6-dev,pkg-config,python3"
+HAS = "apt-utils,dpkg-dev,gcc,libc6-dev,pkg-config,python3"
 NAMES = ["fevstunik-doc", "krbtool", "libfevstunik-dev", "libfevstunik0", "python3-fevstunik"]
 
 
@@ -79,7 +79,7 @@ def by_the_program(root):
 
 
 def test_autopkgtest(root, debs, tmp_path):
-    """All tests of debian/tests pass, over the installed packages; and they fail if the packages aren't right."""
+    """All tests of debian/tests pass over the installed packages."""
     sources = packing.copied(tmp_path / "sources", built=False)
     names = re.findall(r"^Tests: (.*)$", (ROOT / "debian/tests/control").read_text(), re.M)
     words = ["autopkgtest", "--no-built-binaries", f"--output-dir={tmp_path}/said", *debs.values(), f"{sources}/", "--", "chroot", root.folder]
