@@ -5,50 +5,61 @@
 #   make install          below DESTDIR and PREFIX (/usr/local), libraries in LIBDIR; without DESTDIR it runs ldconfig, if root
 #   make uninstall        removes what install put there, and the folders of these files that are empty then
 #   make dist             a tarball of what was built, with checksums, for people without the toolchain
+#   make dist-src         a tarball of the sources, as they are committed
+#   make wheel            a package for pip, which has the shared library inside
+#   make clean            removes build/ and what packing left
+#   make distclean        removes also the proofs and what they built (crates/*/out): all that isn't source
 
 VERSION := $(shell packaging/version)
 PREFIX ?= /usr/local
 LIBDIR ?= $(PREFIX)/lib
+DOCDIR ?= $(PREFIX)/share/doc/fevstunik
+ZSHDIR ?= $(PREFIX)/share/zsh/site-functions
 BINDIR = $(DESTDIR)$(PREFIX)/bin
 INCLUDEDIR = $(DESTDIR)$(PREFIX)/include
 SHARE = $(DESTDIR)$(PREFIX)/share
 MANDIR = $(SHARE)/man
 BASH_COMPLETION = $(SHARE)/bash-completion/completions/krbtool
-ZSHDIR ?= $(PREFIX)/share/zsh/site-functions
 ZSH_COMPLETION = $(DESTDIR)$(ZSHDIR)/_krbtool
 TO_LIB = $(DESTDIR)$(LIBDIR)
+TO_DOC = $(DESTDIR)$(DOCDIR)
 # What install may have made and no system has from the start; inner folders first.
 FOLDERS = $(NEWER:%=$(TO_LIB)/glibc-hwcaps/%) $(TO_LIB)/glibc-hwcaps $(TO_LIB)/pkgconfig $(MANDIR)/man1 $(MANDIR)/man3 \
-  $(SHARE)/bash-completion/completions $(SHARE)/bash-completion $(DESTDIR)$(ZSHDIR) $(SHARE)/zsh
+  $(SHARE)/bash-completion/completions $(SHARE)/bash-completion $(DESTDIR)$(ZSHDIR) $(SHARE)/zsh \
+  $(TO_DOC)/examples/negotiate $(TO_DOC)/examples/service $(TO_DOC)/examples $(TO_DOC)/docs $(TO_DOC)/bench $(TO_DOC)/tests $(TO_DOC) $(SHARE)/doc
 # The loader finds a new library when its cache has it. (A library that is staged for packing isn't in use yet.)
 RUN_LDCONFIG = [ -n "$(DESTDIR)" ] || [ "$$(id -u)" != 0 ] || ldconfig
 BUILD := build
-# The library for every x86-64, and those for newer processors, which the loader takes by itself. The static library that is installed needs
-# x86-64-v2, as krbtool does.
+# krbtool and the libraries of the first kind run on every x86-64. The loader takes a shared library for a newer processor by itself.
 NEWER := x86-64-v2 x86-64-v3
 SOURCES := $(shell find crates -path '*/out' -prune -o -type f \( -name '*.rt' -o -name '*.antt' \) -print) crates.txt
 LIBRARIES := $(BUILD)/x86-64/libfevstunik.a $(NEWER:%=$(BUILD)/%/libfevstunik.a)
 MANUALS := $(wildcard docs/man/*.[1-8])
+# The documents link to each other, and the manual pages name them: they are installed in the folders in which they are here.
+DOCUMENTS := README.md CHANGELOG.md CONTRIBUTING.md bench/README.md tests/README.md $(wildcard docs/*.md)
+EXAMPLES := $(shell find examples -name __pycache__ -prune -o -type f -print | LC_ALL=C sort)
 
-.PHONY: all check install uninstall dist clean
-all: $(BUILD)/krbtool $(LIBRARIES)
+.PHONY: all check install uninstall dist dist-src wheel clean distclean
+all: $(BUILD)/krbtool $(LIBRARIES) $(BUILD)/NOTICES
 
 # The program and the library are built side by side, once the libraries that both stand on are proved. (The kinds of the library are built
 # one after another, since each is left in the crate's out/ at first.)
 MAKEFLAGS += --jobs=2
 
 $(BUILD)/proved: $(SOURCES) packaging/prove
-	packaging/prove krb_ap krb_gss
+	packaging/prove --below krbtool krb_c
 	mkdir -p $(BUILD) && touch $@
 
-$(BUILD)/krbtool: $(BUILD)/proved
-	packaging/prove krbtool
-	install -D -m 755 crates/krbtool/out/krbtool $@
+$(BUILD)/krbtool: $(BUILD)/proved packaging/program.py packaging/archive.py
+	packaging/program.py x86-64 $@
 
 $(BUILD)/%/libfevstunik.a: $(BUILD)/proved packaging/build-library packaging/archive.py packaging/fevstunik.map
 	packaging/build-library $* $(BUILD)/$* $(VERSION)
 $(BUILD)/x86-64-v2/libfevstunik.a: | $(BUILD)/x86-64/libfevstunik.a
 $(BUILD)/x86-64-v3/libfevstunik.a: | $(BUILD)/x86-64-v2/libfevstunik.a
+
+$(BUILD)/NOTICES: crates.txt packaging/notices.py
+	packaging/notices.py $@
 
 check:
 	./test
@@ -60,7 +71,7 @@ install: all
 	install -D -m 644 include/fevstunik.h $(INCLUDEDIR)/fevstunik.h
 	install -D -m 644 packaging/fevstunik.pc.in $(TO_LIB)/pkgconfig/fevstunik.pc
 	sed -i 's|@PREFIX@|$(PREFIX)|; s|@LIBDIR@|$(LIBDIR)|; s|@VERSION@|$(VERSION)|' $(TO_LIB)/pkgconfig/fevstunik.pc
-	install -D -m 644 $(BUILD)/x86-64-v2/libfevstunik.a $(TO_LIB)/libfevstunik.a
+	install -D -m 644 $(BUILD)/x86-64/libfevstunik.a $(TO_LIB)/libfevstunik.a
 	install -D -m 644 $(BUILD)/x86-64/libfevstunik.so.$(VERSION) $(TO_LIB)/libfevstunik.so.$(VERSION)
 	ln -sf libfevstunik.so.$(VERSION) $(TO_LIB)/libfevstunik.so.0
 	ln -sf libfevstunik.so.0 $(TO_LIB)/libfevstunik.so
@@ -71,6 +82,11 @@ install: all
 	for page in $(MANUALS); do \
 	  install -D -m 644 $$page $(MANDIR)/man$${page##*.}/$${page##*/} || exit; \
 	done
+	for file in $(DOCUMENTS) $(EXAMPLES); do \
+	  if [ -x $$file ]; then mode=755; else mode=644; fi; \
+	  install -D -m $$mode $$file $(TO_DOC)/$$file || exit; \
+	done
+	install -D -m 644 $(BUILD)/NOTICES $(TO_DOC)/NOTICES
 	$(RUN_LDCONFIG)
 
 uninstall:
@@ -79,33 +95,24 @@ uninstall:
 	rm -f $(TO_LIB)/libfevstunik.so $(TO_LIB)/libfevstunik.so.0 $(TO_LIB)/libfevstunik.so.$(VERSION)
 	rm -f $(NEWER:%=$(TO_LIB)/glibc-hwcaps/%/libfevstunik.so.0) $(NEWER:%=$(TO_LIB)/glibc-hwcaps/%/libfevstunik.so.$(VERSION))
 	for page in $(MANUALS); do rm -f $(MANDIR)/man$${page##*.}/$${page##*/}; done
+	rm -f $(addprefix $(TO_DOC)/,$(DOCUMENTS) $(EXAMPLES) NOTICES)
 	for folder in $(FOLDERS); do [ ! -d $$folder ] || rmdir --ignore-fail-on-non-empty $$folder; done
 	$(RUN_LDCONFIG)
 
 dist: all
 	packaging/dist $(VERSION) $(BUILD)
 
+dist-src:
+	packaging/dist-src $(VERSION) $(BUILD)
+
+wheel: all
+	packaging/wheel.py $(VERSION) $(BUILD)
+
+# (krbtool and the tests leave the others, if they are stopped)
 clean:
-	rm -rf $(BUILD)
+$(BUILD)/proved: $(SOURCES) packaging/prove
+	packaging/prove --below krbtool krb_c
+	mkdir -p $(BUILD) && touch $@
 
-# ---- for contributors ----
-PYTEST := /usr/bin/python3 -m pytest
-SHELL_FILES := test krbtool packaging/build-library packaging/dist packaging/version
-
-.PHONY: help lint test
-help:
-	@echo 'make              builds krbtool and the library for C (it proves them first)'
-	@echo 'make install      installs them; packaging/INSTALL says which variables there are'
-	@echo 'make check        proves, builds and tests everything: ./test'
-	@echo 'make test         runs the tests of what is built'
-	@echo 'make test T=NAME  runs the tests whose names contain NAME'
-	@echo 'make lint         checks the layout of Python, C and shell, and looks for common mistakes'
-	@echo 'make dist         makes the source tarball'
-
-test:
-	$(PYTEST) $(if $(T),-k '$(T)',-n auto --dist loadgroup) tests
-
-lint:
-	flake8 tests
-	clang-format --dry-run --Werror $$(git ls-files 'tests/peers/*.[ch]' 'tests/support/*.[ch]')
-	shellcheck --severity=warning --exclude=SC2164 $(SHELL_FILES)
+$(BUILD)/krbtool: $(BUILD)/proved packaging/program.py packaging/archive.py
+	packaging/program.py x86-64 $@

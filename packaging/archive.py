@@ -21,13 +21,13 @@ CRATE = ROOT / "crates/krb_c"
 BUILT = CRATE / "out/libkrb_c.a"
 
 
-def run(*words):
-    return subprocess.run([str(word) for word in words], stdout=subprocess.PIPE, stderr=subprocess.STDOUT, text=True, cwd=CRATE)
+def run(*words, at=CRATE):
+    return subprocess.run([str(word) for word in words], stdout=subprocess.PIPE, stderr=subprocess.STDOUT, text=True, cwd=at)
 
 
-def over_ci(cpu, out):
-    """Builds the archive over the libraries that `rt ci` left, which `rt lib` would prove and build again; None if it left none."""
-    crate = edits.crates_of(str(ROOT))[CRATE.name]
+def over_ci(folder, cpu, out, *more):
+    """Builds a crate over the libraries that `rt ci` left, which rt would prove and build again; None if it left none."""
+    crate = edits.crates_of(str(ROOT))[folder.name]
     for name in crate.below:
         left = ROOT / "crates" / name / "out/rlib"
         if not (left / f"{name}.rlib").exists() or (left / "stamp").exists():
@@ -35,15 +35,14 @@ def over_ci(cpu, out):
     words = crate.words("out/incremental")
     words[words.index("check")] = "build"
     words[words.index("--jobs") + 1] = str(len(os.sched_getaffinity(0)))
-    more = ["--crate-type", "staticlib", "--toolchain", f"{edits.KIT}/toolchain", "--backend", "llvm", f"--cpu={cpu}"]
-    return run(*words, *more, "-o", out)
+    return run(*words, *more, "--toolchain", f"{edits.KIT}/toolchain", "--backend", "llvm", f"--cpu={cpu}", "-o", out, at=folder)
 
 
 def build(cpu, out):
     """Returns what built the archive, or failed to."""
     out = pathlib.Path(out).resolve()
     out.parent.mkdir(parents=True, exist_ok=True)
-    built = over_ci(cpu, out)
+    built = over_ci(CRATE, cpu, out, "--crate-type", "staticlib")
     if built is None or built.returncode:
         built = run("rt", "lib", "--cpu", cpu)
         if built.returncode == 0 and out != BUILT:

@@ -15,6 +15,9 @@ from ._errors import Error, Fault, LibraryError
 
 SONAME = "libfevstunik.so.0"
 VARIABLE = "FEVSTUNIK_LIBRARY"
+# The library that a wheel has (packaging/wheel.py). Without one the loader looks for the library.
+PACKED = os.path.join(os.path.dirname(__file__), "lib", "libfevstunik.so")
+DEFAULT = PACKED if os.path.exists(PACKED) else SONAME
 Bytes = Union[bytes, bytearray, memoryview]
 
 
@@ -175,7 +178,8 @@ def load(path: str | os.PathLike[str] | None = None) -> None:
     """Load the shared library at a path, for all objects that are made from now on.
 
     You needn't call this: the library is loaded when it is first needed. Without a path, loads the file that the environment variable
-    FEVSTUNIK_LIBRARY names, or else the libfevstunik.so.0 that the system's loader finds. Raises LibraryError if it can't be loaded.
+    FEVSTUNIK_LIBRARY names, or else the one that came with the wheel, or else the libfevstunik.so.0 that the system's loader finds. Raises
+    LibraryError if it can't be loaded.
 
     >>> import fevstunik
     >>> fevstunik.load()
@@ -183,7 +187,7 @@ def load(path: str | os.PathLike[str] | None = None) -> None:
     (0, 1, 0)
     """
     global _loaded
-    _loaded = Library(os.fspath(path) if path is not None else os.environ.get(VARIABLE) or SONAME)
+    _loaded = Library(os.fspath(path) if path is not None else os.environ.get(VARIABLE) or DEFAULT)
 
 
 def library() -> Library:
