@@ -2,23 +2,11 @@
 processes of a run."""
 import fcntl
 import os
-import sys
 from contextlib import contextmanager
-from pathlib import Path
 
 import pytest
 
-TESTS = Path(__file__).resolve().parent.parent
-if str(TESTS) not in sys.path:
-    sys.path.insert(0, str(TESTS))
-
-import packing  # noqa: E402
-from support import roots  # noqa: E402
-
-
-def pytest_configure(config):
-    for name in ("packages: needs Debian packages", "root: has to run as root", "slow: takes more than ten seconds"):
-        config.addinivalue_line("markers", name)
+from support import packing, roots
 
 
 @contextmanager

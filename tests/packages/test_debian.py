@@ -3,9 +3,9 @@ import hashlib
 import re
 import shutil
 
-import packing
+from support import packing
 import pytest
-from packing import (ANSWERS, BUILDS, DOCUMENTS, FROM_PYTHON, KEYTAB, LIBDIR, VERSION, WITHOUT_RATTLE, files_below, header_functions, run,
+from support.packing import (ANSWERS, BUILDS, DOCUMENTS, FROM_PYTHON, KEYTAB, LIBDIR, VERSION, WITHOUT_RATTLE, files_below, header_functions, run,
                      tracked, well, wrong)
 
 pytestmark = pytest.mark.packages

@@ -4,9 +4,9 @@ import shutil
 import subprocess
 import tarfile
 
-import packing
+from support import packing
 import pytest
-from packing import (ANSWERS, FROM_PYTHON, KEYTAB, LIBRARIES, OTHERS, REQUEST, ROOT, VERSION, WITHOUT_RATTLE, files_below, run, tracked,
+from support.packing import (ANSWERS, FROM_PYTHON, KEYTAB, LIBRARIES, OTHERS, REQUEST, ROOT, VERSION, WITHOUT_RATTLE, files_below, run, tracked,
                      well)
 
 NAME = f"fevstunik-{VERSION}-x86-64"

@@ -3,7 +3,7 @@ import re
 from pathlib import Path
 
 import pytest
-from packing import BUILDS, LIBDIR, LIBRARIES, OTHERS, ROOT, VERSION, files_below, header_functions, run, well
+from support.packing import BUILDS, LIBDIR, LIBRARIES, OTHERS, ROOT, VERSION, files_below, header_functions, run, well
 
 # Where it is installed: the words of make, where the libraries then are below the folder, and where the rest is.
 PLACES = [

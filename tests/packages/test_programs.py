@@ -5,7 +5,7 @@ import shutil
 from pathlib import Path
 
 import pytest
-from packing import ANSWERS, BUILDS, KEYTAB, LIBDIR, REQUEST, ROOT, run, well, wrong
+from support.packing import ANSWERS, BUILDS, KEYTAB, LIBDIR, REQUEST, ROOT, run, well, wrong
 
 pytestmark = pytest.mark.packages
 # A processor of x86-64 without extensions, one of x86-64-v2 and one of x86-64-v3, each with the build that the loader takes there.

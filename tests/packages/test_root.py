@@ -3,9 +3,9 @@ autopkgtest, and removed. The root has only what compiles a program in C, the Py
 import re
 import shutil
 
-import packing
+from support import packing
 import pytest
-from packing import ANSWERS, BUILDS, REQUEST, ROOT, wrong
+from support.packing import ANSWERS, BUILDS, REQUEST, ROOT, wrong
 from support.roots import this_release
 
 pytestmark = [pytest.mark.packages, pytest.mark.root, pytest.mark.slow]

@@ -6,7 +6,7 @@ import urllib.error
 import urllib.request
 
 import pytest
-from packing import KEYTAB, ROOT, run, well, wrong
+from support.packing import KEYTAB, ROOT, run, well, wrong
 
 pytestmark = pytest.mark.packages
 UNIT = ROOT / "examples/negotiate/fevstunik-web.service"

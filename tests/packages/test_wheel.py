@@ -7,9 +7,9 @@ import re
 import shutil
 import zipfile
 
-import packing
+from support import packing
 import pytest
-from packing import BUILDS, ROOT, VERSION, WITHOUT_RATTLE, run, tracked, well, wrong
+from support.packing import BUILDS, ROOT, VERSION, WITHOUT_RATTLE, run, tracked, well, wrong
 
 INFO = f"fevstunik-{VERSION}.dist-info"
 LIBRARIES = {"x86-64": "fevstunik/lib", **{it: f"fevstunik/lib/glibc-hwcaps/{it}" for it in BUILDS if it != "x86-64"}}

@@ -3,7 +3,7 @@ import os
 import subprocess
 from pathlib import Path
 
-from packing import well
+from support.packing import well
 
 # What dpkg, apt and the loader keep for themselves, and where the tests work.
 KEPT = ("var/lib/dpkg/", "var/lib/apt/", "var/cache/", "var/log/", "etc/ld.so.cache", "home/", "proc/", "sys/", "dev/", "tmp/", "root/")

@@ -5,7 +5,7 @@ import shutil
 import subprocess
 from pathlib import Path
 
-ROOT = Path(__file__).resolve().parent.parent
+ROOT = Path(__file__).resolve().parents[2]
 VERSION = "0.1.0"
 LIBDIR = "usr/lib/x86_64-linux-gnu"
 # The folder of each build of the shared library: the loader takes the last one that its processor runs.
