@@ -7,7 +7,7 @@ import shutil
 
 import pytest
 
-import packing
+from support import packing
 
 from support import conversations, tickets
 from support.checks import slug
