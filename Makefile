@@ -108,11 +108,32 @@ dist-src:
 wheel: all
 	packaging/wheel.py $(VERSION) $(BUILD)
 
-# (krbtool and the tests leave the others, if they are stopped)
+# (the tests leave the others, if they are stopped)
 clean:
-$(BUILD)/proved: $(SOURCES) packaging/prove
-	packaging/prove --below krbtool krb_c
-	mkdir -p $(BUILD) && touch $@
+	rm -rf $(BUILD) .pybuild python/build python/fevstunik.egg-info .build-*
+	find bench examples packaging python tests -name __pycache__ -prune -exec rm -rf {} +
 
-$(BUILD)/krbtool: $(BUILD)/proved packaging/program.py packaging/archive.py
-	packaging/program.py x86-64 $@
+distclean: clean
+	rm -rf crates/*/out crates/krb_calls_*/stdin crates/krb_calls_*/stdout .pytest_cache .mypy_cache
+
+# ---- for contributors ----
+PYTEST := /usr/bin/python3 -m pytest
+SHELL_FILES := test krbtool packaging/build-library packaging/dist packaging/dist-src packaging/prove packaging/commit packaging/version
+
+.PHONY: help lint test
+help:
+	@echo 'make              builds krbtool and the library for C (it proves them first)'
+	@echo 'make install      installs them; packaging/INSTALL says which variables there are'
+	@echo 'make check        proves, builds and tests everything: ./test'
+	@echo 'make test         runs the tests of what is built'
+	@echo 'make test T=NAME  runs the tests whose names contain NAME'
+	@echo 'make lint         checks the layout of Python, C and shell, and looks for common mistakes'
+	@echo 'make dist         makes the source tarball'
+
+test:
+	$(PYTEST) $(if $(T),-k '$(T)',-n auto --dist loadgroup) tests
+
+lint:
+	flake8 tests tools
+	clang-format --dry-run --Werror $$(git ls-files 'tests/peers/*.[ch]' 'tests/support/*.[ch]')
+	shellcheck --severity=warning --exclude=SC2164 $(SHELL_FILES)

@@ -242,11 +242,11 @@ def check_toolchains(hold, room):
     words = [sys.executable, f"{os.path.dirname(os.path.abspath(__file__))}/edits.py", "--at", room, "--plan"]
     ran = subprocess.run(words, capture_output=True, text=True, env={**os.environ, "PATH": f"{room}/tools:{os.environ['PATH']}"})
     hold("another toolchain", "edits: sample: 1 edits are tried: changed since" in ran.stdout)
-    lock, other = read(f"{room}/{edits_lock.FILE}"), "another version"
     known = crates_of(room)
     known["sample"].load("")
     edit = known["sample"].edits[0]
-    both = f"toolchain {other}\n{edit.name} {edits_lock.hash_of(edit, edits_lock.Known(known), other)}\n{lock}"
+    versions = ("another version", edits_lock.toolchain())
+    both = "".join(f"toolchain {it}\n{edit.name} {edits_lock.hash_of(edit, edits_lock.Known(known), it)}\n" for it in versions)
     write(f"{room}/{edits_lock.FILE}", f"toolchain a third version\n{edit.name} 0\n{both}")
     status, _ = run_of(room, [], "sample")
     hold("lines of other toolchains stay while they hold", status == 0 and read(f"{room}/{edits_lock.FILE}") == both)
@@ -294,12 +294,12 @@ def main():
         checks = re.search(r"refused, by (\d+) checks", said)
         hold("few checks", checks and int(checks[1]) < len(EDITS))
         # after rt ci
-        after = run_of(room, EDITS, "--after-ci")[1]
+        after = run_of(room, EDITS, "--after-ci", "--all")[1]
         told = lambda text: sorted(it for it in text.split("\n") if it.startswith("edits: sample/"))
         hold("the same after rt ci", told(after) == told(said) and after.split("\n")[-2] == said.split("\n")[-2])
         with open(f"{room}/crates/sample/src/lib.rt", "w", encoding="utf-8") as it:
             it.write(SOURCE.replace("    n + 1", "    n"))
-        status, unproved = run_of(room, [], "--after-ci", "--few", "0")
+        status, unproved = run_of(room, [], "--after-ci", "--all", "--few", "0")
         tried = [it for it in told(unproved) if " wasn't tried" not in it and " doesn't apply" not in it]
         hold("nothing where the crate isn't proved", status == 1 and not tried and f"\n0 passed, {len(EDITS)} failed\n" in unproved)
     check_lock(hold)
