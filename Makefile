@@ -2,6 +2,7 @@
 #
 #   make                  krbtool, libfevstunik.a and libfevstunik.so, in build/
 #   make check            all proofs and tests, as ./test runs them
+#   make generate         the files that are made of tables (tools/generate): the header, lists of symbols, the manual page and others
 #   make install          below DESTDIR and PREFIX (/usr/local), libraries in LIBDIR; without DESTDIR it runs ldconfig, if root
 #   make uninstall        removes what install put there, and the folders of these files that are empty then
 #   make dist             a tarball of what was built, with checksums, for people without the toolchain
@@ -30,8 +31,11 @@ SOURCES := $(shell find crates -path '*/out' -prune -o -type f \( -name '*.rt' -
 LIBRARIES := $(BUILD)/x86-64/libfevstunik.a $(NEWER:%=$(BUILD)/%/libfevstunik.a)
 MANUALS := $(wildcard docs/man/*.[1-8])
 
-.PHONY: all check install uninstall dist clean
+.PHONY: all check generate install uninstall dist clean
 all: $(BUILD)/krbtool $(LIBRARIES)
+
+generate:
+	python3 -m tools.generate
 
 # (each build leaves its archive in the crate's out/, so they are made one after another)
 .NOTPARALLEL:

@@ -102,8 +102,8 @@ typedef enum fevstunik_code {
     FEVSTUNIK_AUTHORIZATION = 260,           /* 60: the request has authorization data that may not be ignored */
 
     /* Codes that many calls may return. */
-    FEVSTUNIK_OUT_OF_MEMORY = 400,  /* out of memory: malloc or realloc returned NULL */
-    FEVSTUNIK_SHORT_BUFFER = 401,   /* the buffer is too short: `size` bytes are needed */
+    FEVSTUNIK_OUT_OF_MEMORY = 400,  /* out of memory; malloc or realloc returned NULL */
+    FEVSTUNIK_SHORT_BUFFER = 401,   /* the buffer is too short; `size` bytes are needed */
     FEVSTUNIK_EMPTY_HANDLE = 402,   /* the handle is empty */
     FEVSTUNIK_NOTHING_THERE = 403,  /* the handle has no accepted request, no refusal, or no such moment */
     FEVSTUNIK_TOO_LONG = 404,       /* a file, a request, an error, a token, a name or a key is longer than its limit */
@@ -117,8 +117,8 @@ typedef enum fevstunik_code {
     /* What is wrong with a file. */
     FEVSTUNIK_FILE_VERSION = 500,   /* the file doesn't begin with 05 02 (a keytab), or with 05 03 or 05 04 (a cache) */
     FEVSTUNIK_FILE_HEADER = 501,    /* the header of the cache is malformed */
-    FEVSTUNIK_FILE_TRUNCATED = 502, /* the keytab ends before the record at `at` does */
-    FEVSTUNIK_FILE_BAD_ITEM = 503,  /* the record at `at` has no valid entry, or the principal or credential at `at` is invalid */
+    FEVSTUNIK_FILE_TRUNCATED = 502, /* the keytab ends within a record; `at` is the place of the record */
+    FEVSTUNIK_FILE_BAD_ITEM = 503,  /* an entry of the keytab, or the cache's principal or a credential, is invalid; `at` is its place */
     FEVSTUNIK_NO_SUCH_ENTRY = 504,  /* the file or the request has no item of this index */
 
     /* Why no request is built. */
@@ -146,10 +146,10 @@ typedef enum fevstunik_code {
     FEVSTUNIK_TOKEN_CONTINUES = 902,    /* the token continues a negotiation, and doesn't begin one */
     FEVSTUNIK_TOKEN_EMPTY = 903,        /* the negotiation has no token of Kerberos; `at` is the place of its mechanism */
     FEVSTUNIK_TOKEN_ID = 904,           /* the token of Kerberos holds a message of another kind; `at` is the place of its identifier */
-    FEVSTUNIK_OTHER_MECHANISM = 910,    /* the mechanism at `at` isn't Kerberos */
-    FEVSTUNIK_NTLM = 911,               /* the mechanism at `at` is NTLM */
-    FEVSTUNIK_IAKERB = 912,             /* the mechanism at `at` is IAKERB */
-    FEVSTUNIK_NESTED_NEGOTIATION = 913, /* the mechanism at `at` is a nested negotiation */
+    FEVSTUNIK_OTHER_MECHANISM = 910,    /* the mechanism isn't Kerberos; `at` is its place */
+    FEVSTUNIK_NTLM = 911,               /* the mechanism is NTLM, not Kerberos; `at` is its place */
+    FEVSTUNIK_IAKERB = 912,             /* the mechanism is IAKERB, not Kerberos; `at` is its place */
+    FEVSTUNIK_NESTED_NEGOTIATION = 913, /* the mechanism is a nested negotiation, not Kerberos; `at` is its place */
     FEVSTUNIK_BAD_MECHANISM = 920,      /* the number isn't that of a mechanism */
     FEVSTUNIK_CONTEXT_TRUNCATED = 930,  /* the checksum of type 0x8003 is cut off */
     FEVSTUNIK_CONTEXT_BINDINGS = 931,   /* the length of the bindings in the checksum of type 0x8003 isn't 16 */
@@ -239,7 +239,7 @@ static inline const char *fevstunik_code_text(uint32_t code)
     switch (code) {
     case FEVSTUNIK_OK: return "success";
     case FEVSTUNIK_MESSAGE_TYPE: return "the first byte isn't that of a request";
-    case FEVSTUNIK_MALFORMED: return "the bytes aren't a request; `at` is the place of the fault";
+    case FEVSTUNIK_MALFORMED: return "the bytes aren't a request";
     case FEVSTUNIK_USER_TO_USER: return "the option use-session-key is set";
     case FEVSTUNIK_TICKET_ETYPE: return "the ticket's encryption type isn't 19 or 20";
     case FEVSTUNIK_NOT_US: return "the ticket is for a service that isn't served here";
@@ -256,8 +256,8 @@ static inline const char *fevstunik_code_text(uint32_t code)
     case FEVSTUNIK_EXPIRED: return "the ticket has expired";
     case FEVSTUNIK_TRANSITED: return "the client is of another realm, and no KDC checked the realms between";
     case FEVSTUNIK_AUTHORIZATION: return "the request has authorization data that may not be ignored";
-    case FEVSTUNIK_OUT_OF_MEMORY: return "out of memory: malloc or realloc returned NULL";
-    case FEVSTUNIK_SHORT_BUFFER: return "the buffer is too short: `size` bytes are needed";
+    case FEVSTUNIK_OUT_OF_MEMORY: return "out of memory";
+    case FEVSTUNIK_SHORT_BUFFER: return "the buffer is too short";
     case FEVSTUNIK_EMPTY_HANDLE: return "the handle is empty";
     case FEVSTUNIK_NOTHING_THERE: return "the handle has no accepted request, no refusal, or no such moment";
     case FEVSTUNIK_TOO_LONG: return "a file, a request, an error, a token, a name or a key is longer than its limit";
@@ -269,31 +269,31 @@ static inline const char *fevstunik_code_text(uint32_t code)
     case FEVSTUNIK_NO_CODE: return "there is no error to send: memory ran out, or the code isn't that of a cause";
     case FEVSTUNIK_FILE_VERSION: return "the file doesn't begin with 05 02 (a keytab), or with 05 03 or 05 04 (a cache)";
     case FEVSTUNIK_FILE_HEADER: return "the header of the cache is malformed";
-    case FEVSTUNIK_FILE_TRUNCATED: return "the keytab ends before the record at `at` does";
-    case FEVSTUNIK_FILE_BAD_ITEM: return "the record at `at` has no valid entry, or the principal or credential at `at` is invalid";
+    case FEVSTUNIK_FILE_TRUNCATED: return "the keytab ends within a record";
+    case FEVSTUNIK_FILE_BAD_ITEM: return "an entry of the keytab, or the cache's principal or a credential, is invalid";
     case FEVSTUNIK_NO_SUCH_ENTRY: return "the file or the request has no item of this index";
     case FEVSTUNIK_NO_CREDENTIAL: return "the cache has no ticket of its default principal for the service";
     case FEVSTUNIK_NO_USABLE_KEY: return "no ticket for the service has a usable session key";
     case FEVSTUNIK_CREDENTIAL_EXPIRED: return "no usable ticket for the service ends later than the moment";
     case FEVSTUNIK_BAD_TICKET: return "the credential's ticket isn't a valid ticket";
     case FEVSTUNIK_REPLY_TYPE: return "the first byte isn't that of a reply";
-    case FEVSTUNIK_REPLY_MALFORMED: return "the bytes aren't a reply; `at` is the place of the fault";
+    case FEVSTUNIK_REPLY_MALFORMED: return "the bytes aren't a reply";
     case FEVSTUNIK_REPLY_INTEGRITY: return "the session key doesn't open the reply";
     case FEVSTUNIK_REPLY_MISMATCH: return "the reply's time isn't the request's";
     case FEVSTUNIK_TEXT_SHORT: return "the text has fewer bytes than a sealed empty text: 32 (type 19) or 40 (type 20)";
     case FEVSTUNIK_TEXT_INTEGRITY: return "the tag is wrong";
-    case FEVSTUNIK_BAD_TEXT: return "the text isn't a valid name; `at` is the place of the fault";
+    case FEVSTUNIK_BAD_TEXT: return "the text isn't a valid name";
     case FEVSTUNIK_NO_REALM: return "the text has no unescaped `@`";
     case FEVSTUNIK_NOT_UTF8: return "the text isn't UTF-8";
     case FEVSTUNIK_NOT_A_TOKEN: return "the first byte isn't that of a token";
-    case FEVSTUNIK_TOKEN_MALFORMED: return "the bytes aren't a token; `at` is the place of the fault";
+    case FEVSTUNIK_TOKEN_MALFORMED: return "the bytes aren't a token";
     case FEVSTUNIK_TOKEN_CONTINUES: return "the token continues a negotiation, and doesn't begin one";
-    case FEVSTUNIK_TOKEN_EMPTY: return "the negotiation has no token of Kerberos; `at` is the place of its mechanism";
-    case FEVSTUNIK_TOKEN_ID: return "the token of Kerberos holds a message of another kind; `at` is the place of its identifier";
-    case FEVSTUNIK_OTHER_MECHANISM: return "the mechanism at `at` isn't Kerberos";
-    case FEVSTUNIK_NTLM: return "the mechanism at `at` is NTLM";
-    case FEVSTUNIK_IAKERB: return "the mechanism at `at` is IAKERB";
-    case FEVSTUNIK_NESTED_NEGOTIATION: return "the mechanism at `at` is a nested negotiation";
+    case FEVSTUNIK_TOKEN_EMPTY: return "the negotiation has no token of Kerberos";
+    case FEVSTUNIK_TOKEN_ID: return "the token of Kerberos holds a message of another kind";
+    case FEVSTUNIK_OTHER_MECHANISM: return "the mechanism isn't Kerberos";
+    case FEVSTUNIK_NTLM: return "the mechanism is NTLM, not Kerberos";
+    case FEVSTUNIK_IAKERB: return "the mechanism is IAKERB, not Kerberos";
+    case FEVSTUNIK_NESTED_NEGOTIATION: return "the mechanism is a nested negotiation, not Kerberos";
     case FEVSTUNIK_BAD_MECHANISM: return "the number isn't that of a mechanism";
     case FEVSTUNIK_CONTEXT_TRUNCATED: return "the checksum of type 0x8003 is cut off";
     case FEVSTUNIK_CONTEXT_BINDINGS: return "the length of the bindings in the checksum of type 0x8003 isn't 16";
@@ -600,8 +600,7 @@ void fevstunik_cache_free(fevstunik_cache *cache);
  * has more than 65,535 parts, or a part of it or the key has more than 65,535 bytes;
  * FEVSTUNIK_TOO_LONG, _FILE_VERSION, _FILE_TRUNCATED or _FILE_BAD_ITEM for the keytab;
  * FEVSTUNIK_TOO_LONG for the new file. FEVSTUNIK_OUT_OF_MEMORY may be returned instead of any of
- * these. The parts in the example are a time, a
- * version number, a name type and a key type.
+ * these. The parts in the example are a time, a version number, a name type and a key type.
  *
  *     fevstunik_key_parts parts = {1700000000, 4, 3, 19};
  *     answer = fevstunik_keytab_add(file, file_size, (const uint8_t *)"host/web@EX", 11, key, 16, &parts, buffer, sizeof buffer);
@@ -869,8 +868,8 @@ void fevstunik_accepted_free(fevstunik_accepted *accepted);
  *     if (fevstunik_acceptor_accept(&service, &accepted, request, request_size, &now).code != FEVSTUNIK_OK)
  *         answer = fevstunik_acceptor_error(&service, (const uint8_t *)"host/web@EX", 11, 3, &now, buffer, sizeof buffer);
  */
-fevstunik_answer fevstunik_acceptor_error(const fevstunik_acceptor *handle, const uint8_t *service, size_t service_size,
-                                          int32_t name_type, const fevstunik_time *now, uint8_t *buffer, size_t buffer_size);
+fevstunik_answer fevstunik_acceptor_error(const fevstunik_acceptor *handle, const uint8_t *service, size_t service_size, int32_t name_type,
+                                          const fevstunik_time *now, uint8_t *buffer, size_t buffer_size);
 
 /* Builds the error (the bytes of a KRB-ERROR) for a cause from the code that
  * fevstunik_acceptor_accept returned. It needs no handle, so another request's cause can't get into
@@ -882,8 +881,8 @@ fevstunik_answer fevstunik_acceptor_error(const fevstunik_acceptor *handle, cons
  *
  *     answer = fevstunik_error(answer.code, (const uint8_t *)"host/web@EX", 11, 3, &now, buffer, sizeof buffer);
  */
-fevstunik_answer fevstunik_error(uint32_t code, const uint8_t *service, size_t service_size, int32_t name_type,
-                                 const fevstunik_time *now, uint8_t *buffer, size_t buffer_size);
+fevstunik_answer fevstunik_error(uint32_t code, const uint8_t *service, size_t service_size, int32_t name_type, const fevstunik_time *now,
+                                 uint8_t *buffer, size_t buffer_size);
 
 /* Returns the number of requests that are remembered, or 0 if the handle is empty. It can't fail.
  *
@@ -922,14 +921,14 @@ void fevstunik_acceptor_free(fevstunik_acceptor *handle);
  * What that handle held is freed. The cache's handle keeps the keys that were derived, so later
  * requests with the same credential take less time.
  *
+ * If the buffer was too short, make the same call again with a longer one, and leave all other
+ * arguments as they were. Never make two different requests with the same moment.
+ *
  * Returns FEVSTUNIK_OK or FEVSTUNIK_SHORT_BUFFER; or writes nothing, leaves `pending` unchanged,
  * and returns the first that applies: FEVSTUNIK_EMPTY_HANDLE if `cache` is empty;
  * FEVSTUNIK_NOT_UTF8, _BAD_TEXT or _NO_REALM for the service; FEVSTUNIK_BAD_MOMENT;
  * FEVSTUNIK_BAD_CONFOUNDER; FEVSTUNIK_KEY_TYPE or _KEY_LENGTH; FEVSTUNIK_NO_CREDENTIAL,
  * _NO_USABLE_KEY, _CREDENTIAL_EXPIRED, _BAD_TICKET or _TOO_LONG; or FEVSTUNIK_OUT_OF_MEMORY.
- *
- * If the buffer was too short, make the same call again with a longer one, and leave all other
- * arguments as they were. Never make two different requests with the same moment.
  *
  *     fevstunik_pending pending = FEVSTUNIK_PENDING_INIT;
  *     fevstunik_choice choice = {0, 0, false, true};
@@ -959,10 +958,9 @@ fevstunik_answer fevstunik_request(const fevstunik_cache *cache, fevstunik_pendi
  *                                        &context, buffer, sizeof buffer);
  */
 fevstunik_answer fevstunik_context_request(const fevstunik_cache *cache, fevstunik_pending *pending, const uint8_t *service,
-                                           size_t service_size, const fevstunik_time *at, const uint8_t *confounder,
-                                           size_t confounder_size, const fevstunik_choice *choice, const uint8_t *subkey,
-                                           size_t subkey_size, const fevstunik_context_choice *context, uint8_t *buffer,
-                                           size_t buffer_size);
+                                           size_t service_size, const fevstunik_time *at, const uint8_t *confounder, size_t confounder_size,
+                                           const fevstunik_choice *choice, const uint8_t *subkey, size_t subkey_size,
+                                           const fevstunik_context_choice *context, uint8_t *buffer, size_t buffer_size);
 
 /* Reads the reply (the bytes of an AP-REP) to the request that is kept in the handle, and returns
  * what both sides agree on. Writes the client's text, the session key and the service's subkey to
@@ -977,8 +975,8 @@ fevstunik_answer fevstunik_context_request(const fevstunik_cache *cache, fevstun
  *     fevstunik_agreement agreement;
  *     answer = fevstunik_finish(&pending, reply, reply_size, &agreement, buffer, sizeof buffer);
  */
-fevstunik_answer fevstunik_finish(const fevstunik_pending *pending, const uint8_t *reply, size_t reply_size,
-                                  fevstunik_agreement *agreement, uint8_t *buffer, size_t buffer_size);
+fevstunik_answer fevstunik_finish(const fevstunik_pending *pending, const uint8_t *reply, size_t reply_size, fevstunik_agreement *agreement,
+                                  uint8_t *buffer, size_t buffer_size);
 
 /* Frees what the handle holds. The handle is empty then, and may be used again. Calling it with an
  * empty handle has no effect. It can't fail.

@@ -106,16 +106,6 @@ def options(program):
     return f"not there: {sorted(lacking)}" if lacking or len(words) < 12 else None
 
 
-def manual():
-    """The manual page of the library is what its script makes of the header."""
-    with tempfile.TemporaryDirectory(prefix="manual-") as folder:
-        page = Path(folder) / "fevstunik.3"
-        ran = subprocess.run([sys.executable, TOP / "packaging/manual.py", page], capture_output=True, text=True)
-        if ran.returncode:
-            return ran.stderr[-500:]
-        return None if page.read_text() == text_of("docs/man/fevstunik.3") else "make it by packaging/manual.py"
-
-
 def completions(program):
     """The completions are what their script makes of the program's help, and bash completes by its own."""
     folder = TOP / "packaging/completion"
@@ -245,7 +235,6 @@ def checks(program):
     yield "docs/PROOFS.md: what is proved has these names", names()
     yield "README.md: the toolchain", toolchain()
     yield "the manual and KRBTOOL.md: commands and options", options(program)
-    yield "docs/man/fevstunik.3: what its script makes", manual()
     yield "packaging/completion: what its script makes", completions(program)
     yield "packaging/completion: what bash completes", completed()
     for path in sorted((TOP / "docs/man").iterdir()):

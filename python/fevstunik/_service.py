@@ -7,11 +7,12 @@ from ctypes import byref, c_int32
 from dataclasses import dataclass, field
 from types import TracebackType
 
-from . import _library
+from . import _interface
 from ._codes import Code
 from ._errors import Error
 from ._files import Keytab
-from ._library import Answer, Bytes, Handle, done, filled, fitting, library, octets, read
+from ._interface import Answer
+from ._library import Bytes, Handle, done, filled, fitting, library, octets, read
 from ._tokens import CHECKSUM, Context
 from ._values import CONFOUNDER, Key, Moment, TicketFlags, TypedData, When, chosen, clock
 
@@ -178,7 +179,7 @@ class Accepted:
         >>> len(stamp.data), stamp.keep_until
         (80, Moment(seconds=1700000700, micros=5))
         """
-        until = _library.Time()
+        until = _interface.Time()
         with self._handle.used() as pointer:
             largest = self._skew if skew is None else fitting(skew, 32)
             data = filled(lambda *into: self._handle.library.call("accepted_stamp", pointer, largest, byref(until), *into))
@@ -204,7 +205,7 @@ class Accepted:
 def _accepted(handle: Handle, skew: int) -> Accepted:
     """What the handle holds, read as values."""
     with handle.used() as pointer:
-        known, data = read(_library.Known, lambda *words: handle.library.call("accepted_known", pointer, *words))
+        known, data = read(_interface.Known, lambda *words: handle.library.call("accepted_known", pointer, *words))
         lists = {which: _items(handle, pointer, which) for which in _List}
         starttime = _start(handle, pointer)
     checksums = lists[_List.CHECKSUM]
@@ -220,7 +221,7 @@ def _accepted(handle: Handle, skew: int) -> Accepted:
 
 
 def _start(handle: Handle, pointer: object) -> int | None:
-    start = _library.Time()
+    start = _interface.Time()
     answer = handle.library.call("accepted_start", pointer, byref(start))
     return None if answer.code == Code.NOTHING_THERE else (done(answer), start.seconds)[1]
 
@@ -334,7 +335,7 @@ class Acceptor:
         >>> print(Acceptor(Keytab.read("examples/service.keytab"), "host/web@EX", started=None).latest)
         None
         """
-        latest = _library.Time()
+        latest = _interface.Time()
         with self._handle.used() as pointer:
             answer = self._handle.library.call("acceptor_latest", pointer, byref(latest))
         if answer.code == Code.NOTHING_THERE:

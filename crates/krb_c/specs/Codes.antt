@@ -1,3 +1,4 @@
+-- Made from interface.toml by `make generate`. Don't edit this file.
 -- The codes that calls answer. A number never changes: a cause that comes between two others gets
 -- one of the numbers between theirs.
 use Rattle.std.specs.Prelude.{ℕ, ◌+◌, ◌/◌}

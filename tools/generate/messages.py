@@ -1,25 +1,21 @@
-#!/usr/bin/env python3
-"""Makes the messages' sources, definitions and some of their proofs in crates/krb_msg from their table, messages.toml.
-
-    packaging/messages.py           writes the files
-    packaging/messages.py --check   writes none, and ends with 1 after the first line that differs
+"""The messages' sources, definitions and some of their proofs in crates/krb_msg, which are made of their table, messages.toml.
 
 The table says what its entries mean. `rattle fmt` lays the files out, as `rt fmt` does.
 """
-import itertools
 import pathlib
 import re
 import shutil
 import subprocess
-import sys
 import tempfile
 import textwrap
 import tomllib
 from collections import Counter
 from dataclasses import dataclass
 
-ROOT = pathlib.Path(__file__).resolve().parent.parent
-CRATE = ROOT / "crates/krb_msg"
+from . import ROOT
+
+PLACE = "crates/krb_msg"
+CRATE = ROOT / PLACE
 RATTLE = pathlib.Path(shutil.which("rt") or "/opt/rattle/bin/rt").resolve().parent / "rattle"
 
 MADE = "Made from messages.toml by packaging/messages.py. Don't edit this file."
@@ -731,7 +727,7 @@ def definitions(messages):
     }
 
 
-def files():
+def texts():
     """The text of each file before it is laid out, by its path in the crate."""
     table = tomllib.loads((CRATE / "messages.toml").read_text())
     messages = [Message(**it) for it in table["message"]]
@@ -751,36 +747,12 @@ def laid_out(texts):
         return {path: (folder / path).read_text() for path in texts}
 
 
-def difference(path, wanted):
-    """What is wrong with a file, or None."""
-    found = (CRATE / path).read_text() if (CRATE / path).exists() else ""
-    if found == wanted:
-        return None
-    pairs = itertools.zip_longest(found.splitlines(), wanted.splitlines())
-    at, (has, should) = next((at, it) for at, it in enumerate(pairs, 1) if it[0] != it[1])
-    return f"crates/krb_msg/{path}, line {at}: {has!r} isn't {should!r}, as packaging/messages.py makes it of messages.toml"
+def files():
+    """The text of each file, by its path."""
+    return {f"{PLACE}/{path}": text for path, text in laid_out(texts()).items()}
 
 
 def left_over(texts):
     """The answer files that were made of the table as it was, and aren't any more."""
-    return [it for it in CRATE.glob("proofs/**/Answers.antt") if MADE in it.read_text() and str(it.relative_to(CRATE)) not in texts]
-
-
-def main(words):
-    if words not in ([], ["--check"]):
-        sys.exit(__doc__)
-    texts = laid_out(files())
-    for path in left_over(texts):
-        if words:
-            sys.exit(f"{path.relative_to(ROOT)} isn't made of messages.toml any more")
-        path.unlink()
-    for path, text in texts.items():
-        if not words:
-            (CRATE / path).parent.mkdir(parents=True, exist_ok=True)
-            (CRATE / path).write_text(text)
-        elif wrong := difference(path, text):
-            sys.exit(wrong)
-
-
-if __name__ == "__main__":
-    main(sys.argv[1:])
+    found = [str(it.relative_to(ROOT)) for it in CRATE.glob("proofs/**/Answers.antt") if MADE in it.read_text()]
+    return [it for it in found if it not in texts]
