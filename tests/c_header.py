@@ -17,7 +17,7 @@ CRATE = TOP / "crates/krb_c"
 HEADER = TOP / "include/fevstunik.h"
 INTERFACE = Interface(tomllib.loads((TOP / TABLE).read_text()))
 # What the handles are called in the crate.
-HANDLES = {"Handle": "acceptor", "Slot": "accepted", "KeytabHandle": "keytab", "CacheHandle": "cache", "PendingHandle": "pending"}
+HANDLES = {"ServiceHandle": "acceptor", "AcceptedHandle": "accepted", "KeytabHandle": "keytab", "CacheHandle": "cache", "PendingHandle": "pending"}
 # Functions that the header has whole.
 INLINE = {"fevstunik_code_name", "fevstunik_code_text"}
 
@@ -53,10 +53,9 @@ def made():
 
 
 def lists():
-    """The numbers of lists are the crate's."""
-    table = next(it for it in INTERFACE.types if it.name == "list")
-    crate = dict(re.findall(r"^const (\w+): u32 = (\d+);", crate_text(), re.M))
-    return differs({(it["name"].removeprefix("LIST_"), str(it["number"])) for it in table.numbers}, set(crate.items()))
+    """The numbers of lists, and of how repeats are refused across starts, are the crate's."""
+    table = {(one["name"].removeprefix("LIST_"), str(one["number"])) for it in INTERFACE.types if it.name in ("list", "restart") for one in it.numbers}
+    return differs(table, set(re.findall(r"^const (\w+): u32 = (\d+);", crate_text(), re.M)))
 
 
 def crate_text():
@@ -65,7 +64,7 @@ def crate_text():
 
 def snake(name):
     """The table's name of a type of the crate: key_entry for KeyEntry."""
-    return HANDLES.get(name) or re.sub(r"(?<=.)[A-Z]", lambda it: "_" + it[0], name).lower()
+    return re.sub(r"(?<=.)[A-Z]", lambda it: "_" + it[0], name).lower()
 
 
 def structs():
@@ -77,13 +76,13 @@ def structs():
     return differs({(it.name, tuple((one.name, one.type) for one in it.fields)) for it in INTERFACE.structs}, crate)
 
 
-def argument(name, of, stays):
-    """An argument of the crate as the table has it: `stays` if a clause says that a handle's value stays."""
+def argument(name, of):
+    """An argument of the crate as the table has it."""
     at = re.sub(r"^&(mut )?", "", of)
     if at == "[u8]":
         return f"{name}: {'buffer' if of.startswith('&mut ') else 'bytes'}"
     if at in HANDLES:
-        return f"{name}: {'reads' if stays else 'handle'} {snake(at)}"
+        return f"{name}: handle {HANDLES[at]}"
     how = "out " if of.startswith("&mut ") else "in " if of.startswith("&") else ""
     return f"{name}: {how}{at if at.islower() or at[0] != at[0].upper() else snake(at)}"
 
@@ -91,15 +90,14 @@ def argument(name, of, stays):
 def prototypes():
     """The table's functions are the crate's exports: their arguments, in their order, and what they return."""
     crate = set()
-    for name, words, result, clauses in re.findall(r'pub extern "C" fn fevstunik_(\w+)\((.*?)\)(?: -> (\w+))?\n(.*?)^\{$', crate_text(), re.S | re.M):
-        stays = re.findall(r"ensures stays \{ (\w+)\.new\.value ≡ \1\.old\.value \}", clauses)
-        arguments = tuple(argument(one, of, one in stays) for one, of in re.findall(r"(\w+): ([^,]+?)(?:,|\s*$)", words) if of != "Global")
+    for name, words, result in re.findall(r'pub extern "C" fn fevstunik_(\w+)\((.*?)\)(?: -> (\w+))?\n', crate_text(), re.S):
+        arguments = tuple(argument(one, of) for one, of in re.findall(r"(\w+): ([^,]+?)(?:,|\s*$)", words) if of != "Global")
         crate.add((name, arguments, snake(result) if result else "nothing"))
     return differs({(it.name, tuple(it.arguments), it.result) for it in INTERFACE.functions}, crate)
 
 
 def header_checks():
     yield "what is made of tables is what they make", made()
-    yield "the table's numbers of lists are the crate's", lists()
+    yield "the table's numbers are the crate's", lists()
     yield "the table's structs are the crate's", structs()
     yield "the table's functions are the crate's", prototypes()

@@ -19,7 +19,7 @@ NAMES = ["krbtool", "libfevstunik0", "libfevstunik-dev", "python3-fevstunik"]
 KEPT = ("var/lib/dpkg/", "var/lib/apt/", "var/cache/", "var/log/", "etc/ld.so.cache", "home/", "proc/", "sys/", "dev/", "tmp/")
 
 FROM_PYTHON = """import sys, fevstunik
-service = fevstunik.Acceptor(fevstunik.Keytab.read(sys.argv[1]), sys.argv[2], started=None)
+service = fevstunik.Acceptor(fevstunik.Keytab.read(sys.argv[1]), sys.argv[2], first_life=True)
 try:
     print(service.accept(bytes.fromhex(sys.argv[3]), now=1_700_000_100).client)
 except fevstunik.Refused as refused:

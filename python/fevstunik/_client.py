@@ -55,7 +55,7 @@ class Pending:
         >>> from fevstunik import Acceptor, CredentialCache, Keytab, make_request
         >>> cache = CredentialCache.read("examples/client.ccache")
         >>> request, pending = make_request(cache, "host/web@EX", now=1_700_000_100)
-        >>> service = Acceptor(Keytab.read("examples/service.keytab"), "host/web@EX", started=None)
+        >>> service = Acceptor(Keytab.read("examples/service.keytab"), "host/web@EX", first_life=True)
         >>> reply = service.accept(request, now=1_700_000_100).reply(subkey=Key.random(20))
         >>> pending.finish(reply)
         Agreed(client='alice@EX', session_key=Key(kind=19), service_subkey=Key(kind=20), service_seq=None, client_type=1)

@@ -46,6 +46,10 @@ class Code(enum.IntEnum):
     KEY_TYPE = 413
     KEY_LENGTH = 414
     NO_CODE = 415
+    BAD_OPTIONS = 416
+    NO_NAME = 417
+    NO_START = 418
+    EARLY_START = 419
     FILE_VERSION = 500
     FILE_HEADER = 501
     FILE_TRUNCATED = 502
@@ -127,6 +131,10 @@ _TEXTS = {
     Code.KEY_TYPE: "the key's encryption type isn't 19 or 20",
     Code.KEY_LENGTH: "the key isn't 16 bytes long (type 19) or 32 (type 20)",
     Code.NO_CODE: "there is no error to send: memory ran out, or the code isn't that of a cause",
+    Code.BAD_OPTIONS: "the options are those of another version of the library",
+    Code.NO_NAME: "no name to serve is given",
+    Code.NO_START: "it isn't said how repeats are refused after a start",
+    Code.EARLY_START: "the start is before the year 2020",
     Code.FILE_VERSION: "the file doesn't begin with 05 02 (a keytab), or with 05 03 or 05 04 (a cache)",
     Code.FILE_HEADER: "the header of the cache is malformed",
     Code.FILE_TRUNCATED: "the keytab ends within a record",

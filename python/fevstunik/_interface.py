@@ -232,6 +232,23 @@ class ContextChoice(ctypes.Structure):
     flags: int
 
 
+class AcceptorOptions(ctypes.Structure):
+    _fields_ = [
+        ("size", c_size_t),
+        ("started", Time),
+        ("skew", c_uint32),
+        ("restarts", c_uint32),
+        ("any_name", c_bool),
+        ("any_start", c_bool),
+    ]
+    size: int
+    started: Time
+    skew: int
+    restarts: int
+    any_name: bool
+    any_start: bool
+
+
 HANDLE, DATA, INTO = POINTER(Opaque), (c_char_p, c_size_t), (c_void_p, c_size_t)
 # What each function returns and takes, by its name without ``fevstunik_``; after it, what of the package calls it.
 FUNCTIONS: dict[str, tuple[Any, tuple[Any, ...]]] = {
@@ -249,9 +266,8 @@ FUNCTIONS: dict[str, tuple[Any, tuple[Any, ...]]] = {
     "keytab_remove": (Answer, (*DATA, c_size_t, *INTO)),  # Keytab.removed
     "keytab_write": (Answer, (*DATA, *INTO)),  # Keytab.compacted
     "name_check": (Answer, (*DATA,)),  # check_name
-    "acceptor_new": (Answer, (HANDLE, *DATA, c_uint32, *DATA)),  # Acceptor
-    "acceptor_started": (Answer, (HANDLE, *DATA, c_uint32, *DATA, POINTER(Time))),  # Acceptor
-    "acceptor_replace_keytab": (Answer, (HANDLE, *DATA, *DATA)),  # Acceptor.replace_keytab
+    "acceptor_new": (Answer, (HANDLE, *DATA, *DATA, POINTER(AcceptorOptions))),  # Acceptor
+    "acceptor_replace_keytab": (Answer, (HANDLE, *DATA, *DATA, c_bool)),  # Acceptor.replace_keytab
     "accepted_new": (Answer, (HANDLE,)),  # Acceptor.accept
     "acceptor_accept": (Answer, (HANDLE, HANDLE, *DATA, POINTER(Time))),  # Acceptor.accept
     "accepted_known": (Answer, (HANDLE, POINTER(Known), *INTO)),  # Acceptor.accept

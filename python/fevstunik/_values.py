@@ -57,6 +57,8 @@ class Moment:
         """
         if isinstance(when, Moment):
             return when
+        if isinstance(when, bool):
+            raise TypeError(f"a moment can't be {when}")
         if isinstance(when, int):
             return cls(when)
         if not math.isfinite(when):

@@ -16,7 +16,7 @@ LONG, SHORT = Key(20, bytes(range(32, 64))), Key(19, bytes(range(64, 80)))
 
 @pytest.fixture
 def service():
-    with Acceptor(Keytab(der.keytab()), SERVICE, started=None) as made:
+    with Acceptor(Keytab(der.keytab()), SERVICE, first_life=True) as made:
         yield made
 
 
@@ -45,7 +45,7 @@ def test_a_request_is_accepted(service):
 
 
 def test_other_numbers(service):
-    whole = Acceptor(Keytab(der.keytab()).added(c_cases_entry()), None, started=None)
+    whole = Acceptor(Keytab(der.keytab()).added(c_cases_entry()), None, first_life=True)
     accepted = whole.accept(c_cases.for_another_service(), AT)
     assert (accepted.service, accepted.client_type, accepted.service_type, accepted.seq) == ("a\\/b@EX", -7, -3, 0)
     assert accepted.flags == TicketFlags(0x4061_0000) and accepted.subkey is None and not accepted.wants_reply
@@ -106,20 +106,41 @@ def test_malformed_repeat_and_start(service):
 
 def test_acceptors_that_are_none():
     keytab = Keytab(der.keytab())
-    with pytest.raises(TypeError):
-        Acceptor(keytab, SERVICE)
     with pytest.raises(ValueError):
-        Acceptor(keytab, "", started=None)
+        Acceptor(keytab, "", first_life=True)
     with pytest.raises(OverflowError):
-        Acceptor(keytab, SERVICE, 2**32, started=None)
-    assert fault_of(lambda: Acceptor(keytab, SERVICE, 86_401, started=None))[0] == "BAD_SKEW"
-    assert fault_of(lambda: Acceptor(keytab, "host/web", started=1.5))[0] == "NO_REALM"
-    assert fault_of(lambda: Acceptor(keytab, "ho\\st@EX", started=None)) == ("BAD_TEXT", 810, 0, 2)
+        Acceptor(keytab, SERVICE, 2**32, first_life=True)
+    assert fault_of(lambda: Acceptor(keytab, SERVICE, 86_401, first_life=True))[0] == "BAD_SKEW"
+    assert fault_of(lambda: Acceptor(keytab, "host/web", started=AT))[0] == "NO_REALM"
+    assert fault_of(lambda: Acceptor(keytab, "ho\\st@EX", first_life=True)) == ("BAD_TEXT", 810, 0, 2)
+
+
+@pytest.mark.parametrize("words", [
+    {}, {"started": None}, {"first_life": False}, {"started": None, "first_life": False}, {"started": AT, "first_life": True},
+    {"started": True}, {"started": False}, {"first_life": 1}, {"first_life": None}, {"started": "now"}])
+def test_acceptors_without_a_word_on_restarts(words):
+    with pytest.raises(TypeError):
+        Acceptor(Keytab(der.keytab()), SERVICE, **words)
+
+
+@pytest.mark.parametrize("start", [0, 0.0, -1, 1.5, 86_400, 1_577_836_799, 1_577_836_799.999, Moment(1_577_836_799, 999_999), time.monotonic()])
+def test_starts_that_are_too_early(start):
+    assert fault_of(lambda: Acceptor(Keytab(der.keytab()), SERVICE, started=start)) == ("EARLY_START", 419, 0, 0)
+
+
+@pytest.mark.parametrize("start", [float("nan"), float("inf"), -float("inf")])
+def test_starts_that_are_no_moment(start):
+    with pytest.raises(ValueError):
+        Acceptor(Keytab(der.keytab()), SERVICE, started=start)
+
+
+def test_the_earliest_start():
+    assert Acceptor(Keytab(der.keytab()), SERVICE, started=1_577_836_800).accept(der.request(), AT).client == "alice@EX"
 
 
 def test_stamps():
     request = der.made()["mutual request with a subkey and a number"]
-    with Acceptor(Keytab(der.keytab()), SERVICE, 600, started=None) as service:
+    with Acceptor(Keytab(der.keytab()), SERVICE, 600, first_life=True) as service:
         accepted = service.accept(request, AT)
         # the service's own skew, if no other is given
         assert accepted.stamp().keep_until == Moment(AT + 1200, 5)
@@ -177,7 +198,7 @@ def test_a_request_longer_than_the_first_buffer():
     part = der.element(0x63, der.element(0x30, der.ticket_part()[4:] + der.field(10, der.sequence(c_cases.typed(1, bytes(5_000))))))
     with CredentialCache(der.cache(c_cases.ticket(part))) as cache:
         request, _ = make_request(cache, SERVICE, now=AT)
-    accepted = Acceptor(Keytab(der.keytab()), SERVICE, started=None).accept(request, AT)
+    accepted = Acceptor(Keytab(der.keytab()), SERVICE, first_life=True).accept(request, AT)
     assert accepted.authorization == (TypedData(1, bytes(5_000)),)
 
 
@@ -194,7 +215,7 @@ def test_closed(service, cache):
 
 
 def test_context_managers():
-    with CredentialCache(der.cache()) as cache, Acceptor(Keytab(der.keytab()), SERVICE, started=None) as service:
+    with CredentialCache(der.cache()) as cache, Acceptor(Keytab(der.keytab()), SERVICE, first_life=True) as service:
         request, pending = make_request(cache, SERVICE, now=AT)
         with pending, service.accept(request, AT) as accepted:
             pending.finish(accepted.reply())

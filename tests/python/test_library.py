@@ -87,7 +87,7 @@ def test_what_is_freed(last, wanted):
     ended = python(f"""
 from fevstunik import Acceptor, Keytab, _library
 call = _library.Library.call
-service = Acceptor(Keytab.read("examples/service.keytab"), "host/web@EX", started=None)
+service = Acceptor(Keytab.read("examples/service.keytab"), "host/web@EX", first_life=True)
 _library.Library.call = lambda self, name, *words: (print(name, flush=True), call(self, name, *words))[1]
 {last}
 """, FEVSTUNIK_LIBRARY=os.environ["FEVSTUNIK_LIBRARY"])

@@ -13,6 +13,8 @@ TABLE = "crates/krb_c/interface.toml"
 TEMPLATES = {
     "include/fevstunik.h": "fevstunik.h",
     "crates/krb_c/src/code.rt": "code.rt",
+    "crates/krb_c/src/cause.rt": "cause.rt",
+    "crates/krb_c/src/structs.rt": "structs.rt",
     "crates/krb_c/specs/Codes.antt": "Codes.antt",
     "python/fevstunik/_codes.py": "_codes.py",
     "python/fevstunik/_interface.py": "_interface.py",
@@ -38,6 +40,12 @@ class Code:
     kerberos: int | None = None
     note: str = ""
     hidden: bool = False
+    placed: bool = False
+
+    @property
+    def rattle(self):
+        """What krb_ap calls the cause."""
+        return camel(self.name)
 
     @property
     def said(self):
@@ -81,9 +89,12 @@ class Field:
         of, count = self.element
         return c_type(of), self.name + (f"[{count}]" if count else "")
 
+    def rattle(self):
+        return self.type if self.type.startswith("[") or self.type in NUMBERS else camel(self.type)
+
     def python(self):
         of, count = self.element
-        return (ctypes_name(of) if of in NUMBERS else python_name(of)) + (f" * {count}" if count else "")
+        return (ctypes_name(of) if of in NUMBERS else camel(of)) + (f" * {count}" if count else "")
 
 
 @dataclass(frozen=True)
@@ -98,8 +109,9 @@ class Type:
     compared: str = ""
 
     @property
-    def python(self):
-        return python_name(self.name)
+    def rattle(self):
+        """Its name in Rattle, and in Python."""
+        return camel(self.name)
 
 
 @dataclass(frozen=True)
@@ -138,7 +150,7 @@ class Function:
         return [python_argument(kind) for _, kind in self.parts]
 
     def python_result(self):
-        return "None" if self.result == "nothing" else ctypes_name(self.result) if self.result in NUMBERS else python_name(self.result)
+        return "None" if self.result == "nothing" else ctypes_name(self.result) if self.result in NUMBERS else camel(self.result)
 
 
 def indented(code):
@@ -154,7 +166,7 @@ def ctypes_name(of):
     return "c_" + (NUMBERS[of] if of == "usize" else NUMBERS[of].removesuffix("_t"))
 
 
-def python_name(name):
+def camel(name):
     return "".join(word.capitalize() for word in name.split("_"))
 
 
@@ -165,16 +177,16 @@ def c_parameters(name, kind):
         return [f"{'const ' if kind == 'bytes' else ''}uint8_t *{name}", f"size_t {name}_size"]
     if not how:
         return [f"{c_type(of)} {name}"]
-    return [f"{'const ' if how in ('in', 'reads') else ''}{c_type(of)} *{name}"]
+    return [f"{'const ' if how == 'in' else ''}{c_type(of)} *{name}"]
 
 
 def python_argument(kind):
     how, _, of = kind.rpartition(" ")
     if kind in ("bytes", "buffer"):
         return "*DATA" if kind == "bytes" else "*INTO"
-    if how in ("handle", "reads"):
+    if how == "handle":
         return "HANDLE"
-    named = ctypes_name(of) if of in NUMBERS else python_name(of)
+    named = ctypes_name(of) if of in NUMBERS else camel(of)
     return f"POINTER({named})" if how else named
 
 
@@ -234,7 +246,7 @@ def environment():
     made = jinja2.Environment(
         loader=jinja2.FileSystemLoader(ROOT / "tools/generate/templates"), undefined=jinja2.StrictUndefined, trim_blocks=True, lstrip_blocks=True,
         keep_trailing_newline=True, autoescape=False)
-    made.filters |= {"comment": layout.comment, "inner_comment": layout.inner_comment, "members": layout.members, "doc": layout.doc}
+    made.filters |= {"comment": layout.comment, "inner_comment": layout.inner_comment, "members": layout.members, "doc": layout.doc, "sentence": layout.sentence}
     return made
 
 

@@ -72,3 +72,8 @@ def members(rows):
 def doc(text, indent=""):
     """A comment of Rattle's documentation."""
     return "\n".join(filled(text, f"{indent}/// ", f"{indent}/// "))
+
+
+def sentence(text):
+    """A remark as a sentence."""
+    return text[0].upper() + text[1:] + ("" if text.endswith(".") else ".")

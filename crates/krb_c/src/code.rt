@@ -63,6 +63,14 @@ pub(crate) const KEY_LENGTH: u32 = 414;
 
 pub(crate) const NO_CODE: u32 = 415;
 
+pub(crate) const BAD_OPTIONS: u32 = 416;
+
+pub(crate) const NO_NAME: u32 = 417;
+
+pub(crate) const NO_START: u32 = 418;
+
+pub(crate) const EARLY_START: u32 = 419;
+
 pub(crate) const FILE_VERSION: u32 = 500;
 
 pub(crate) const FILE_HEADER: u32 = 501;
