@@ -10,7 +10,7 @@ from types import FunctionType
 
 import fevstunik
 import pytest
-from fevstunik import _library
+from fevstunik import _interface, _library
 
 TOP = Path(__file__).resolve().parent.parent.parent
 HEADER = (TOP / "include/fevstunik.h").read_text()
@@ -39,9 +39,9 @@ def test_functions_are_the_headers():
 
 def test_structs_are_the_headers(tmp_path):
     """Their sizes and places are those that a C compiler gives them."""
-    structs = {"answer": _library.Answer, "time": _library.Time, "span": _library.Span, "known": _library.Known, "agreement": _library.Agreement,
-               "choice": _library.Choice, "key_entry": _library.KeyEntry, "key_parts": _library.KeyParts, "cache_entry": _library.CacheEntry,
-               "owner": _library.Owner, "acceptor": _library.Opaque}
+    kinds = [it for it in vars(_interface).values() if isinstance(it, type) and issubclass(it, ctypes.Structure) and it is not _interface.Opaque]
+    structs = {re.sub("(?<=.)[A-Z]", lambda it: "_" + it[0], it.__name__).lower(): it for it in kinds} | {"acceptor": _interface.Opaque}
+    assert len(structs) == len(re.findall(r"^typedef struct fevstunik_\w+ \{\n(?!    void)", HEADER, re.M)) + 1
     asked, wanted = [], []
     for name, struct in structs.items():
         asked.append(f'printf("{name} %zu\\n", sizeof(fevstunik_{name}));')
