@@ -2,6 +2,7 @@
 #
 #   make                  krbtool, libfevstunik.a and libfevstunik.so, in build/
 #   make check            all proofs and tests, as ./test runs them
+#   make generate         the files that are made of tables (tools/generate): the header, lists of symbols, the manual page and others
 #   make install          below DESTDIR and PREFIX (/usr/local), libraries in LIBDIR; without DESTDIR it runs ldconfig, if root
 #   make uninstall        removes what install put there, and the folders of these files that are empty then
 #   make dist             a tarball of what was built, with checksums, for people without the toolchain
@@ -39,8 +40,11 @@ MANUALS := $(wildcard docs/man/*.[1-8])
 DOCUMENTS := README.md CHANGELOG.md CONTRIBUTING.md bench/README.md tests/README.md $(wildcard docs/*.md)
 EXAMPLES := $(shell find examples -name __pycache__ -prune -o -type f -print | LC_ALL=C sort)
 
-.PHONY: all check install uninstall dist dist-src wheel clean distclean
+.PHONY: all check generate install uninstall dist dist-src wheel clean distclean
 all: $(BUILD)/krbtool $(LIBRARIES) $(BUILD)/NOTICES
+
+generate:
+	python3 -m tools.generate
 
 # The program and the library are built side by side, once the libraries that both stand on are proved. (The kinds of the library are built
 # one after another, since each is left in the crate's out/ at first.)

@@ -33,9 +33,10 @@ def main() -> None:
     words.add_argument("keytab")
     words.add_argument("service", help="the name that is served, as host/web@EX")
     words.add_argument("--at", type=int, help="a moment in place of the clock's, in seconds since 1970-01-01")
-    words.add_argument("--first", action="store_true", help="leave out the start (docs/OPERATING.md says when you may)")
+    words.add_argument("--first", action="store_true", help="every key of the keytab is new: accept at once")
     given = words.parse_args()
-    with Acceptor(Keytab.read(given.keytab), given.service, started=None if given.first else clock(given.at)) as acceptor:
+    with Acceptor(Keytab.read(given.keytab), given.service, started=None if given.first else clock(given.at),
+                  first_life=given.first) as acceptor:
         for line in sys.stdin:
             print(answered(acceptor, given.service, bytes.fromhex(line), clock(given.at)), flush=True)
 

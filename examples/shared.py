@@ -135,7 +135,8 @@ def main() -> None:
     def clock() -> float:
         return time.time() if given.at is None else float(given.at)
 
-    with Acceptor(Keytab.read(given.keytab), given.service, SKEW, started=clock() if given.again else None) as acceptor:
+    with Acceptor(Keytab.read(given.keytab), given.service, SKEW, started=clock() if given.again else None,
+                  first_life=not given.again) as acceptor:
         for line in sys.stdin:
             print(answered(acceptor, store, given.service, line, clock), flush=True)
 

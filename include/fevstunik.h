@@ -13,11 +13,12 @@
  *    between calls, but not during one. After a move its old place is not used again. A program
  *    that uses a copy, or that lets a handle overlap a buffer, may free memory that is still in
  *    use.
- *  - Only one call at a time may use a handle, even if the call takes a pointer to const: such a
- *    call may write to the handle, too. So put a lock around calls that share a handle, and never
- *    define a handle as const. Any thread may make a call. Two handles share nothing, in one
- *    process or in two. After a fork, the child must not use its copies: no call reports it, and
- *    each process would accept the same request.
+ *  - Only one call at a time may use a handle. Each call with a handle may write to it, also if
+ *    what it holds stays the same, so no call takes a handle as const. Put a lock around calls that
+ *    share a handle. Any thread may make a call. Two handles share nothing, in one process or in
+ *    two. After a fork, the child must not use its copies: no call reports it, and each process
+ *    would accept the same request. A pointer to const is only read: any number of threads may pass
+ *    the same bytes, times or options at once.
  *  - Pointers are valid. A pointer to bytes whose size is 0 isn't read: it may be NULL (this is
  *    tested, not proved), or point anywhere.
  *  - What a call writes to (its handle, its buffer, its other results) overlaps nothing else that
@@ -102,8 +103,8 @@ typedef enum fevstunik_code {
     FEVSTUNIK_AUTHORIZATION = 260,           /* 60: the request has authorization data that may not be ignored */
 
     /* Codes that many calls may return. */
-    FEVSTUNIK_OUT_OF_MEMORY = 400,  /* out of memory: malloc or realloc returned NULL */
-    FEVSTUNIK_SHORT_BUFFER = 401,   /* the buffer is too short: `size` bytes are needed */
+    FEVSTUNIK_OUT_OF_MEMORY = 400,  /* out of memory; malloc or realloc returned NULL */
+    FEVSTUNIK_SHORT_BUFFER = 401,   /* the buffer is too short; `size` bytes are needed */
     FEVSTUNIK_EMPTY_HANDLE = 402,   /* the handle is empty */
     FEVSTUNIK_NOTHING_THERE = 403,  /* the handle has no accepted request, no refusal, or no such moment */
     FEVSTUNIK_TOO_LONG = 404,       /* a file, a request, an error, a token, a name or a key is longer than its limit */
@@ -113,12 +114,16 @@ typedef enum fevstunik_code {
     FEVSTUNIK_KEY_TYPE = 413,       /* the key's encryption type isn't 19 or 20 */
     FEVSTUNIK_KEY_LENGTH = 414,     /* the key isn't 16 bytes long (type 19) or 32 (type 20) */
     FEVSTUNIK_NO_CODE = 415,        /* there is no error to send: memory ran out, or the code isn't that of a cause */
+    FEVSTUNIK_BAD_OPTIONS = 416,    /* the options are those of another version of the library; `size` isn't that of the struct */
+    FEVSTUNIK_NO_NAME = 417,        /* no name to serve is given; `any_name` isn't set either */
+    FEVSTUNIK_NO_START = 418,       /* it isn't said how repeats are refused after a start; `restarts` isn't a fevstunik_restart */
+    FEVSTUNIK_EARLY_START = 419,    /* the start is before the year 2020; `any_start` isn't set */
 
     /* What is wrong with a file. */
     FEVSTUNIK_FILE_VERSION = 500,   /* the file doesn't begin with 05 02 (a keytab), or with 05 03 or 05 04 (a cache) */
     FEVSTUNIK_FILE_HEADER = 501,    /* the header of the cache is malformed */
-    FEVSTUNIK_FILE_TRUNCATED = 502, /* the keytab ends before the record at `at` does */
-    FEVSTUNIK_FILE_BAD_ITEM = 503,  /* the record at `at` has no valid entry, or the principal or credential at `at` is invalid */
+    FEVSTUNIK_FILE_TRUNCATED = 502, /* the keytab ends within a record; `at` is the place of the record */
+    FEVSTUNIK_FILE_BAD_ITEM = 503,  /* an entry of the keytab, or the cache's principal or a credential, is invalid; `at` is its place */
     FEVSTUNIK_NO_SUCH_ENTRY = 504,  /* the file or the request has no item of this index */
 
     /* Why no request is built. */
@@ -146,10 +151,10 @@ typedef enum fevstunik_code {
     FEVSTUNIK_TOKEN_CONTINUES = 902,    /* the token continues a negotiation, and doesn't begin one */
     FEVSTUNIK_TOKEN_EMPTY = 903,        /* the negotiation has no token of Kerberos; `at` is the place of its mechanism */
     FEVSTUNIK_TOKEN_ID = 904,           /* the token of Kerberos holds a message of another kind; `at` is the place of its identifier */
-    FEVSTUNIK_OTHER_MECHANISM = 910,    /* the mechanism at `at` isn't Kerberos */
-    FEVSTUNIK_NTLM = 911,               /* the mechanism at `at` is NTLM */
-    FEVSTUNIK_IAKERB = 912,             /* the mechanism at `at` is IAKERB */
-    FEVSTUNIK_NESTED_NEGOTIATION = 913, /* the mechanism at `at` is a nested negotiation */
+    FEVSTUNIK_OTHER_MECHANISM = 910,    /* the mechanism isn't Kerberos; `at` is its place */
+    FEVSTUNIK_NTLM = 911,               /* the mechanism is NTLM, not Kerberos; `at` is its place */
+    FEVSTUNIK_IAKERB = 912,             /* the mechanism is IAKERB, not Kerberos; `at` is its place */
+    FEVSTUNIK_NESTED_NEGOTIATION = 913, /* the mechanism is a nested negotiation, not Kerberos; `at` is its place */
     FEVSTUNIK_BAD_MECHANISM = 920,      /* the number isn't that of a mechanism */
     FEVSTUNIK_CONTEXT_TRUNCATED = 930,  /* the checksum of type 0x8003 is cut off */
     FEVSTUNIK_CONTEXT_BINDINGS = 931,   /* the length of the bindings in the checksum of type 0x8003 isn't 16 */
@@ -194,6 +199,10 @@ static inline const char *fevstunik_code_name(uint32_t code)
     case FEVSTUNIK_KEY_TYPE: return "FEVSTUNIK_KEY_TYPE";
     case FEVSTUNIK_KEY_LENGTH: return "FEVSTUNIK_KEY_LENGTH";
     case FEVSTUNIK_NO_CODE: return "FEVSTUNIK_NO_CODE";
+    case FEVSTUNIK_BAD_OPTIONS: return "FEVSTUNIK_BAD_OPTIONS";
+    case FEVSTUNIK_NO_NAME: return "FEVSTUNIK_NO_NAME";
+    case FEVSTUNIK_NO_START: return "FEVSTUNIK_NO_START";
+    case FEVSTUNIK_EARLY_START: return "FEVSTUNIK_EARLY_START";
     case FEVSTUNIK_FILE_VERSION: return "FEVSTUNIK_FILE_VERSION";
     case FEVSTUNIK_FILE_HEADER: return "FEVSTUNIK_FILE_HEADER";
     case FEVSTUNIK_FILE_TRUNCATED: return "FEVSTUNIK_FILE_TRUNCATED";
@@ -239,7 +248,7 @@ static inline const char *fevstunik_code_text(uint32_t code)
     switch (code) {
     case FEVSTUNIK_OK: return "success";
     case FEVSTUNIK_MESSAGE_TYPE: return "the first byte isn't that of a request";
-    case FEVSTUNIK_MALFORMED: return "the bytes aren't a request; `at` is the place of the fault";
+    case FEVSTUNIK_MALFORMED: return "the bytes aren't a request";
     case FEVSTUNIK_USER_TO_USER: return "the option use-session-key is set";
     case FEVSTUNIK_TICKET_ETYPE: return "the ticket's encryption type isn't 19 or 20";
     case FEVSTUNIK_NOT_US: return "the ticket is for a service that isn't served here";
@@ -256,8 +265,8 @@ static inline const char *fevstunik_code_text(uint32_t code)
     case FEVSTUNIK_EXPIRED: return "the ticket has expired";
     case FEVSTUNIK_TRANSITED: return "the client is of another realm, and no KDC checked the realms between";
     case FEVSTUNIK_AUTHORIZATION: return "the request has authorization data that may not be ignored";
-    case FEVSTUNIK_OUT_OF_MEMORY: return "out of memory: malloc or realloc returned NULL";
-    case FEVSTUNIK_SHORT_BUFFER: return "the buffer is too short: `size` bytes are needed";
+    case FEVSTUNIK_OUT_OF_MEMORY: return "out of memory";
+    case FEVSTUNIK_SHORT_BUFFER: return "the buffer is too short";
     case FEVSTUNIK_EMPTY_HANDLE: return "the handle is empty";
     case FEVSTUNIK_NOTHING_THERE: return "the handle has no accepted request, no refusal, or no such moment";
     case FEVSTUNIK_TOO_LONG: return "a file, a request, an error, a token, a name or a key is longer than its limit";
@@ -267,33 +276,37 @@ static inline const char *fevstunik_code_text(uint32_t code)
     case FEVSTUNIK_KEY_TYPE: return "the key's encryption type isn't 19 or 20";
     case FEVSTUNIK_KEY_LENGTH: return "the key isn't 16 bytes long (type 19) or 32 (type 20)";
     case FEVSTUNIK_NO_CODE: return "there is no error to send: memory ran out, or the code isn't that of a cause";
+    case FEVSTUNIK_BAD_OPTIONS: return "the options are those of another version of the library";
+    case FEVSTUNIK_NO_NAME: return "no name to serve is given";
+    case FEVSTUNIK_NO_START: return "it isn't said how repeats are refused after a start";
+    case FEVSTUNIK_EARLY_START: return "the start is before the year 2020";
     case FEVSTUNIK_FILE_VERSION: return "the file doesn't begin with 05 02 (a keytab), or with 05 03 or 05 04 (a cache)";
     case FEVSTUNIK_FILE_HEADER: return "the header of the cache is malformed";
-    case FEVSTUNIK_FILE_TRUNCATED: return "the keytab ends before the record at `at` does";
-    case FEVSTUNIK_FILE_BAD_ITEM: return "the record at `at` has no valid entry, or the principal or credential at `at` is invalid";
+    case FEVSTUNIK_FILE_TRUNCATED: return "the keytab ends within a record";
+    case FEVSTUNIK_FILE_BAD_ITEM: return "an entry of the keytab, or the cache's principal or a credential, is invalid";
     case FEVSTUNIK_NO_SUCH_ENTRY: return "the file or the request has no item of this index";
     case FEVSTUNIK_NO_CREDENTIAL: return "the cache has no ticket of its default principal for the service";
     case FEVSTUNIK_NO_USABLE_KEY: return "no ticket for the service has a usable session key";
     case FEVSTUNIK_CREDENTIAL_EXPIRED: return "no usable ticket for the service ends later than the moment";
     case FEVSTUNIK_BAD_TICKET: return "the credential's ticket isn't a valid ticket";
     case FEVSTUNIK_REPLY_TYPE: return "the first byte isn't that of a reply";
-    case FEVSTUNIK_REPLY_MALFORMED: return "the bytes aren't a reply; `at` is the place of the fault";
+    case FEVSTUNIK_REPLY_MALFORMED: return "the bytes aren't a reply";
     case FEVSTUNIK_REPLY_INTEGRITY: return "the session key doesn't open the reply";
     case FEVSTUNIK_REPLY_MISMATCH: return "the reply's time isn't the request's";
     case FEVSTUNIK_TEXT_SHORT: return "the text has fewer bytes than a sealed empty text: 32 (type 19) or 40 (type 20)";
     case FEVSTUNIK_TEXT_INTEGRITY: return "the tag is wrong";
-    case FEVSTUNIK_BAD_TEXT: return "the text isn't a valid name; `at` is the place of the fault";
+    case FEVSTUNIK_BAD_TEXT: return "the text isn't a valid name";
     case FEVSTUNIK_NO_REALM: return "the text has no unescaped `@`";
     case FEVSTUNIK_NOT_UTF8: return "the text isn't UTF-8";
     case FEVSTUNIK_NOT_A_TOKEN: return "the first byte isn't that of a token";
-    case FEVSTUNIK_TOKEN_MALFORMED: return "the bytes aren't a token; `at` is the place of the fault";
+    case FEVSTUNIK_TOKEN_MALFORMED: return "the bytes aren't a token";
     case FEVSTUNIK_TOKEN_CONTINUES: return "the token continues a negotiation, and doesn't begin one";
-    case FEVSTUNIK_TOKEN_EMPTY: return "the negotiation has no token of Kerberos; `at` is the place of its mechanism";
-    case FEVSTUNIK_TOKEN_ID: return "the token of Kerberos holds a message of another kind; `at` is the place of its identifier";
-    case FEVSTUNIK_OTHER_MECHANISM: return "the mechanism at `at` isn't Kerberos";
-    case FEVSTUNIK_NTLM: return "the mechanism at `at` is NTLM";
-    case FEVSTUNIK_IAKERB: return "the mechanism at `at` is IAKERB";
-    case FEVSTUNIK_NESTED_NEGOTIATION: return "the mechanism at `at` is a nested negotiation";
+    case FEVSTUNIK_TOKEN_EMPTY: return "the negotiation has no token of Kerberos";
+    case FEVSTUNIK_TOKEN_ID: return "the token of Kerberos holds a message of another kind";
+    case FEVSTUNIK_OTHER_MECHANISM: return "the mechanism isn't Kerberos";
+    case FEVSTUNIK_NTLM: return "the mechanism is NTLM, not Kerberos";
+    case FEVSTUNIK_IAKERB: return "the mechanism is IAKERB, not Kerberos";
+    case FEVSTUNIK_NESTED_NEGOTIATION: return "the mechanism is a nested negotiation, not Kerberos";
     case FEVSTUNIK_BAD_MECHANISM: return "the number isn't that of a mechanism";
     case FEVSTUNIK_CONTEXT_TRUNCATED: return "the checksum of type 0x8003 is cut off";
     case FEVSTUNIK_CONTEXT_BINDINGS: return "the length of the bindings in the checksum of type 0x8003 isn't 16";
@@ -324,8 +337,8 @@ typedef struct fevstunik_time {
 
 /* A place in the buffer. */
 typedef struct fevstunik_span {
-    size_t at;
-    size_t size;
+    size_t at;   /* where it begins, in bytes */
+    size_t size; /* how many bytes it has */
 } fevstunik_span;
 
 /* What is known of an accepted request. The spans are places in the buffer of the call. */
@@ -454,6 +467,24 @@ typedef struct fevstunik_context_choice {
     uint8_t bindings[16]; /* the MD5 hash of the channel's bindings (RFC 4121, section 4.1.1.2), or zeros if there are none */
 } fevstunik_context_choice;
 
+/* How a service refuses requests that it accepted before it was started. A number never changes its
+ * meaning. There is no default: 0 is refused.
+ */
+typedef enum fevstunik_restart {
+    FEVSTUNIK_RESTART_STARTED = 1,   /* by the moment of the start: it refuses requests from before it */
+    FEVSTUNIK_RESTART_FIRST_LIFE = 2 /* there are none: no service has used any key of the keytab before, or a store of stamps has lost nothing */
+} fevstunik_restart;
+
+/* What a service is made with. */
+typedef struct fevstunik_acceptor_options {
+    size_t size;            /* sizeof (fevstunik_acceptor_options) */
+    fevstunik_time started; /* with FEVSTUNIK_RESTART_STARTED: the service's clock at this start */
+    uint32_t skew;          /* by how many seconds clocks may differ: up to 86,400; 300 is usual */
+    uint32_t restarts;      /* a fevstunik_restart */
+    bool any_name;          /* whether each name of the keytab is served if no name is given */
+    bool any_start;         /* whether a start before the year 2020 is meant */
+} fevstunik_acceptor_options;
+
 /* A service that accepts requests: opaque, and all zero before its first use. */
 typedef struct fevstunik_acceptor {
     void *opaque;
@@ -532,7 +563,7 @@ fevstunik_answer fevstunik_keytab_new(fevstunik_keytab *keytab, const uint8_t *f
  *     for (index = 0; index < count && answer.code == FEVSTUNIK_OK; index++)
  *         answer = fevstunik_keytab_entry(&keytab, index, &entry, buffer, sizeof buffer);
  */
-fevstunik_answer fevstunik_keytab_entry(const fevstunik_keytab *keytab, size_t index, fevstunik_key_entry *entry, uint8_t *buffer,
+fevstunik_answer fevstunik_keytab_entry(fevstunik_keytab *keytab, size_t index, fevstunik_key_entry *entry, uint8_t *buffer,
                                         size_t buffer_size);
 
 /* Frees what the handle holds. The handle is empty then, and may be used again. Calling it with an
@@ -568,7 +599,7 @@ fevstunik_answer fevstunik_cache_new(fevstunik_cache *cache, const uint8_t *file
  *     for (index = 0; index < count && answer.code == FEVSTUNIK_OK; index++)
  *         answer = fevstunik_cache_credential(&cache, index, &entry, buffer, sizeof buffer);
  */
-fevstunik_answer fevstunik_cache_credential(const fevstunik_cache *cache, size_t index, fevstunik_cache_entry *credential, uint8_t *buffer,
+fevstunik_answer fevstunik_cache_credential(fevstunik_cache *cache, size_t index, fevstunik_cache_entry *credential, uint8_t *buffer,
                                             size_t buffer_size);
 
 /* Reads the owner of a cache. Writes the default principal's text to the buffer, and its place and
@@ -581,7 +612,7 @@ fevstunik_answer fevstunik_cache_credential(const fevstunik_cache *cache, size_t
  *
  *     answer = fevstunik_cache_owner(&cache, &owner, buffer, sizeof buffer);
  */
-fevstunik_answer fevstunik_cache_owner(const fevstunik_cache *cache, fevstunik_owner *owner, uint8_t *buffer, size_t buffer_size);
+fevstunik_answer fevstunik_cache_owner(fevstunik_cache *cache, fevstunik_owner *owner, uint8_t *buffer, size_t buffer_size);
 
 /* Frees what the handle holds. The handle is empty then, and may be used again. Calling it with an
  * empty handle has no effect. It can't fail.
@@ -600,8 +631,7 @@ void fevstunik_cache_free(fevstunik_cache *cache);
  * has more than 65,535 parts, or a part of it or the key has more than 65,535 bytes;
  * FEVSTUNIK_TOO_LONG, _FILE_VERSION, _FILE_TRUNCATED or _FILE_BAD_ITEM for the keytab;
  * FEVSTUNIK_TOO_LONG for the new file. FEVSTUNIK_OUT_OF_MEMORY may be returned instead of any of
- * these. The parts in the example are a time, a
- * version number, a name type and a key type.
+ * these. The parts in the example are a time, a version number, a name type and a key type.
  *
  *     fevstunik_key_parts parts = {1700000000, 4, 3, 19};
  *     answer = fevstunik_keytab_add(file, file_size, (const uint8_t *)"host/web@EX", 11, key, 16, &parts, buffer, sizeof buffer);
@@ -648,68 +678,63 @@ fevstunik_answer fevstunik_name_check(const uint8_t *name, size_t name_size);
 /* ---- the service's side ---- */
 
 /* Makes a service that has seen no request, and stores it in the handle. The service uses the keys
- * of a keytab (the bytes of a file of version 0x0502). `skew` is the number of seconds by which
- * clocks may differ (300 is usual). What the handle held is freed: a service made in a used handle
- * forgets what the old one has seen. The keytab's bytes aren't needed afterwards.
+ * of a keytab (the bytes of a file of version 0x0502). What the handle held is freed: a service
+ * made in a used handle forgets what the old one has seen. The keytab's bytes aren't needed
+ * afterwards.
  *
  * `service` is the text of the one name that is served, such as host/web@EX: a ticket for any other
  * name is refused with NOT_US, if no cause before it applies. The name isn't compared with the
  * keytab at the start: if the keytab has no entry of it, every ticket is refused in this way. If
- * `service_size` is 0, each name of the keytab is served, and no code reports it: refuse an empty
- * name from a configuration. Name the service if the keytab has keys of several names
- * (docs/OPERATING.md, "Keys", says why).
+ * `service_size` is 0, each name of the keytab is served, but only if `options->any_name` is true:
+ * else an empty name from a configuration is refused. Name the service if the keytab has keys of
+ * several names (docs/OPERATING.md, "Keys", says why).
  *
- * After a restart use fevstunik_acceptor_started: a service that has forgotten its requests may
- * accept one of them again. Use this function only if no service has used this name with any key of
- * the keytab before, or over a store of stamps (fevstunik_accepted_stamp) that has lost nothing
- * (docs/OPERATING.md, "Restarts", has the exact conditions).
+ * A service that is started again has forgotten what it accepted before. `options->restarts` says
+ * how such requests are refused, and has no default. With FEVSTUNIK_RESTART_STARTED,
+ * `options->started` is the service's clock at this start: the clock that `now` is read from
+ * (CLOCK_REALTIME). Until its clock and the client's are both later than the start by more than the
+ * skew, the service refuses requests with JUST_STARTED. So no request that was accepted before is
+ * accepted again. This holds on two conditions: the start is no earlier than any moment that was
+ * given before, and the skew is no smaller than it was (docs/ACCEPTANCE.md has the argument). If
+ * you have the start in whole seconds, add one. A start before the year 2020 is refused, so that a
+ * time since the machine was started (CLOCK_MONOTONIC) and 0 are noticed, unless
+ * `options->any_start` is true.
+ *
+ * With FEVSTUNIK_RESTART_FIRST_LIFE the service accepts at once. Use it only if *every* key of the
+ * keytab is new, so that no service has used one of them before, or over a store of stamps
+ * (fevstunik_accepted_stamp) that has lost nothing (docs/OPERATING.md, "Restarts", has the exact
+ * conditions).
+ *
+ * `options` must point to a whole struct, whatever `options->size` says.
  *
  * Returns FEVSTUNIK_OK; or leaves the handle unchanged and returns the first that applies:
+ * FEVSTUNIK_BAD_OPTIONS if `options->size` isn't the size of the struct; FEVSTUNIK_NO_NAME;
+ * FEVSTUNIK_NO_START; FEVSTUNIK_BAD_MOMENT or FEVSTUNIK_EARLY_START for the start;
  * FEVSTUNIK_BAD_SKEW; FEVSTUNIK_TOO_LONG, _FILE_VERSION, _FILE_TRUNCATED or _FILE_BAD_ITEM for the
  * keytab; FEVSTUNIK_OUT_OF_MEMORY for the keytab; FEVSTUNIK_NOT_UTF8, _BAD_TEXT or _NO_REALM for
  * the service; or FEVSTUNIK_OUT_OF_MEMORY.
  *
  *     fevstunik_acceptor service = FEVSTUNIK_ACCEPTOR_INIT;
- *     fevstunik_answer answer = fevstunik_acceptor_new(&service, file, file_size, 300, (const uint8_t *)"host/web@EX", 11);
+ *     fevstunik_acceptor_options options = {sizeof options, {time(NULL) + 1, 0}, 300, FEVSTUNIK_RESTART_STARTED, false, false};
+ *     fevstunik_answer answer = fevstunik_acceptor_new(&service, file, file_size, (const uint8_t *)"host/web@EX", 11, &options);
  */
-fevstunik_answer fevstunik_acceptor_new(fevstunik_acceptor *handle, const uint8_t *keytab, size_t keytab_size, uint32_t skew,
-                                        const uint8_t *service, size_t service_size);
-
-/* Makes a service as fevstunik_acceptor_new does, for a service that is started again and has
- * forgotten what it accepted before. `start` is its clock at this start: the clock that `now` is
- * read from (CLOCK_REALTIME). No code reports a start that is too early, such as zero or a time of
- * CLOCK_MONOTONIC: the pause is then missing. Until its clock and the client's are both later than
- * `start` by more than the skew, it refuses requests with JUST_STARTED. So no request that was
- * accepted before is accepted again. This holds on two conditions: `start` is no earlier than any
- * moment that was given before, and the skew is no smaller than it was (docs/ACCEPTANCE.md has the
- * argument). If you have the start in whole seconds, add one.
- *
- * Returns FEVSTUNIK_OK; or leaves the handle unchanged and returns the first that applies:
- * FEVSTUNIK_BAD_MOMENT for `start`; FEVSTUNIK_BAD_SKEW; FEVSTUNIK_TOO_LONG, _FILE_VERSION,
- * _FILE_TRUNCATED or _FILE_BAD_ITEM for the keytab; FEVSTUNIK_OUT_OF_MEMORY for the keytab;
- * FEVSTUNIK_NOT_UTF8, _BAD_TEXT or _NO_REALM for the service; or FEVSTUNIK_OUT_OF_MEMORY.
- *
- *     fevstunik_time start = {time(NULL) + 1, 0};
- *     answer = fevstunik_acceptor_started(&service, file, file_size, 300, (const uint8_t *)"host/web@EX", 11, &start);
- */
-fevstunik_answer fevstunik_acceptor_started(fevstunik_acceptor *handle, const uint8_t *keytab, size_t keytab_size, uint32_t skew,
-                                            const uint8_t *service, size_t service_size, const fevstunik_time *start);
+fevstunik_answer fevstunik_acceptor_new(fevstunik_acceptor *handle, const uint8_t *keytab, size_t keytab_size, const uint8_t *service,
+                                        size_t service_size, const fevstunik_acceptor_options *options);
 
 /* Gives a service another keytab, for example with a changed key. The service keeps all else: what
  * it has seen, the latest moment, the skew and the start. So a request that was accepted under the
- * old keytab isn't accepted again. (fevstunik_acceptor_new and fevstunik_acceptor_started on a
- * handle that holds a service forget what that service has seen.) `service` is as in
- * fevstunik_acceptor_new.
+ * old keytab isn't accepted again. (fevstunik_acceptor_new on a handle that holds a service forgets
+ * what that service has seen.) `service` and `any_name` are as in fevstunik_acceptor_new.
  *
  * Returns FEVSTUNIK_OK; or leaves the service unchanged and returns the first that applies:
- * FEVSTUNIK_EMPTY_HANDLE; FEVSTUNIK_TOO_LONG, _FILE_VERSION, _FILE_TRUNCATED or _FILE_BAD_ITEM for
- * the keytab; FEVSTUNIK_OUT_OF_MEMORY for the keytab; FEVSTUNIK_NOT_UTF8, _BAD_TEXT or _NO_REALM
- * for the service; or FEVSTUNIK_OUT_OF_MEMORY.
+ * FEVSTUNIK_EMPTY_HANDLE; FEVSTUNIK_NO_NAME; FEVSTUNIK_TOO_LONG, _FILE_VERSION, _FILE_TRUNCATED or
+ * _FILE_BAD_ITEM for the keytab; FEVSTUNIK_OUT_OF_MEMORY for the keytab; FEVSTUNIK_NOT_UTF8,
+ * _BAD_TEXT or _NO_REALM for the service; or FEVSTUNIK_OUT_OF_MEMORY.
  *
- *     answer = fevstunik_acceptor_replace_keytab(&service, file, file_size, (const uint8_t *)"host/web@EX", 11);
+ *     answer = fevstunik_acceptor_replace_keytab(&service, file, file_size, (const uint8_t *)"host/web@EX", 11, false);
  */
 fevstunik_answer fevstunik_acceptor_replace_keytab(fevstunik_acceptor *handle, const uint8_t *keytab, size_t keytab_size,
-                                                   const uint8_t *service, size_t service_size);
+                                                   const uint8_t *service, size_t service_size, bool any_name);
 
 /* Prepares the handle for fevstunik_acceptor_accept, which keeps an accepted request in it. The
  * handle keeps nothing yet, and what it held before is freed. One handle serves for any number of
@@ -771,7 +796,7 @@ fevstunik_answer fevstunik_acceptor_accept(fevstunik_acceptor *handle, fevstunik
  *     if (answer.code == FEVSTUNIK_OK)
  *         printf("%.*s\n", (int)known.client.size, (const char *)buffer + known.client.at);
  */
-fevstunik_answer fevstunik_accepted_known(const fevstunik_accepted *accepted, fevstunik_known *known, uint8_t *buffer, size_t buffer_size);
+fevstunik_answer fevstunik_accepted_known(fevstunik_accepted *accepted, fevstunik_known *known, uint8_t *buffer, size_t buffer_size);
 
 /* Writes the stamp of the accepted request to the buffer: the service, the client and the client's
  * time as one string of bytes. Requests have the same stamp if and only if they are of the same
@@ -792,7 +817,7 @@ fevstunik_answer fevstunik_accepted_known(const fevstunik_accepted *accepted, fe
  *     fevstunik_time keep_until;
  *     answer = fevstunik_accepted_stamp(&accepted, 300, &keep_until, buffer, sizeof buffer);
  */
-fevstunik_answer fevstunik_accepted_stamp(const fevstunik_accepted *accepted, uint32_t skew, fevstunik_time *keep_until, uint8_t *buffer,
+fevstunik_answer fevstunik_accepted_stamp(fevstunik_accepted *accepted, uint32_t skew, fevstunik_time *keep_until, uint8_t *buffer,
                                           size_t buffer_size);
 
 /* Returns the starttime of the accepted request's ticket, if it has one: the ticket is valid from
@@ -804,7 +829,7 @@ fevstunik_answer fevstunik_accepted_stamp(const fevstunik_accepted *accepted, ui
  *     fevstunik_time start;
  *     answer = fevstunik_accepted_start(&accepted, &start);
  */
-fevstunik_answer fevstunik_accepted_start(const fevstunik_accepted *accepted, fevstunik_time *start);
+fevstunik_answer fevstunik_accepted_start(fevstunik_accepted *accepted, fevstunik_time *start);
 
 /* Counts the items of a list of the accepted request. `list` is a fevstunik_list, and `size` is the
  * number of its items. A list can be present and empty. The call allocates no memory.
@@ -814,7 +839,7 @@ fevstunik_answer fevstunik_accepted_start(const fevstunik_accepted *accepted, fe
  *
  *     answer = fevstunik_accepted_count(&accepted, FEVSTUNIK_LIST_TICKET_AUTHORIZATION);
  */
-fevstunik_answer fevstunik_accepted_count(const fevstunik_accepted *accepted, uint32_t list);
+fevstunik_answer fevstunik_accepted_count(fevstunik_accepted *accepted, uint32_t list);
 
 /* Reads one item of a list of the accepted request; `index` counts from 0. Writes the item's type
  * to `kind` and its bytes to the buffer. The type is that of an address (RFC 4120, section 7.5.3),
@@ -827,7 +852,7 @@ fevstunik_answer fevstunik_accepted_count(const fevstunik_accepted *accepted, ui
  *
  *     answer = fevstunik_accepted_item(&accepted, FEVSTUNIK_LIST_CHECKSUM, 0, &kind, buffer, sizeof buffer);
  */
-fevstunik_answer fevstunik_accepted_item(const fevstunik_accepted *accepted, uint32_t list, size_t index, int32_t *kind, uint8_t *buffer,
+fevstunik_answer fevstunik_accepted_item(fevstunik_accepted *accepted, uint32_t list, size_t index, int32_t *kind, uint8_t *buffer,
                                          size_t buffer_size);
 
 /* Builds the reply (the bytes of an AP-REP) to what was accepted. Call it if `wants_reply` is true;
@@ -843,7 +868,7 @@ fevstunik_answer fevstunik_accepted_item(const fevstunik_accepted *accepted, uin
  *     uint8_t reply[256];
  *     answer = fevstunik_accepted_reply(&accepted, confounder, 16, &choice, NULL, 0, reply, sizeof reply);
  */
-fevstunik_answer fevstunik_accepted_reply(const fevstunik_accepted *accepted, const uint8_t *confounder, size_t confounder_size,
+fevstunik_answer fevstunik_accepted_reply(fevstunik_accepted *accepted, const uint8_t *confounder, size_t confounder_size,
                                           const fevstunik_choice *choice, const uint8_t *subkey, size_t subkey_size, uint8_t *buffer,
                                           size_t buffer_size);
 
@@ -869,8 +894,8 @@ void fevstunik_accepted_free(fevstunik_accepted *accepted);
  *     if (fevstunik_acceptor_accept(&service, &accepted, request, request_size, &now).code != FEVSTUNIK_OK)
  *         answer = fevstunik_acceptor_error(&service, (const uint8_t *)"host/web@EX", 11, 3, &now, buffer, sizeof buffer);
  */
-fevstunik_answer fevstunik_acceptor_error(const fevstunik_acceptor *handle, const uint8_t *service, size_t service_size,
-                                          int32_t name_type, const fevstunik_time *now, uint8_t *buffer, size_t buffer_size);
+fevstunik_answer fevstunik_acceptor_error(fevstunik_acceptor *handle, const uint8_t *service, size_t service_size, int32_t name_type,
+                                          const fevstunik_time *now, uint8_t *buffer, size_t buffer_size);
 
 /* Builds the error (the bytes of a KRB-ERROR) for a cause from the code that
  * fevstunik_acceptor_accept returned. It needs no handle, so another request's cause can't get into
@@ -882,14 +907,14 @@ fevstunik_answer fevstunik_acceptor_error(const fevstunik_acceptor *handle, cons
  *
  *     answer = fevstunik_error(answer.code, (const uint8_t *)"host/web@EX", 11, 3, &now, buffer, sizeof buffer);
  */
-fevstunik_answer fevstunik_error(uint32_t code, const uint8_t *service, size_t service_size, int32_t name_type,
-                                 const fevstunik_time *now, uint8_t *buffer, size_t buffer_size);
+fevstunik_answer fevstunik_error(uint32_t code, const uint8_t *service, size_t service_size, int32_t name_type, const fevstunik_time *now,
+                                 uint8_t *buffer, size_t buffer_size);
 
 /* Returns the number of requests that are remembered, or 0 if the handle is empty. It can't fail.
  *
  *     printf("%zu remembered\n", fevstunik_acceptor_count(&service));
  */
-size_t fevstunik_acceptor_count(const fevstunik_acceptor *handle);
+size_t fevstunik_acceptor_count(fevstunik_acceptor *handle);
 
 /* Reads the latest moment that fevstunik_acceptor_accept was given so far. The service decides by
  * it. Calls that returned OUT_OF_MEMORY, BAD_MOMENT or EMPTY_HANDLE don't count.
@@ -900,7 +925,7 @@ size_t fevstunik_acceptor_count(const fevstunik_acceptor *handle);
  *     fevstunik_time latest;
  *     if (fevstunik_acceptor_latest(&service, &latest).code == FEVSTUNIK_OK) ...
  */
-fevstunik_answer fevstunik_acceptor_latest(const fevstunik_acceptor *handle, fevstunik_time *latest);
+fevstunik_answer fevstunik_acceptor_latest(fevstunik_acceptor *handle, fevstunik_time *latest);
 
 /* Frees what the handle holds. The handle is empty then, and may be used again. Calling it with an
  * empty handle has no effect. It can't fail.
@@ -922,21 +947,21 @@ void fevstunik_acceptor_free(fevstunik_acceptor *handle);
  * What that handle held is freed. The cache's handle keeps the keys that were derived, so later
  * requests with the same credential take less time.
  *
+ * If the buffer was too short, make the same call again with a longer one, and leave all other
+ * arguments as they were. Never make two different requests with the same moment.
+ *
  * Returns FEVSTUNIK_OK or FEVSTUNIK_SHORT_BUFFER; or writes nothing, leaves `pending` unchanged,
  * and returns the first that applies: FEVSTUNIK_EMPTY_HANDLE if `cache` is empty;
  * FEVSTUNIK_NOT_UTF8, _BAD_TEXT or _NO_REALM for the service; FEVSTUNIK_BAD_MOMENT;
  * FEVSTUNIK_BAD_CONFOUNDER; FEVSTUNIK_KEY_TYPE or _KEY_LENGTH; FEVSTUNIK_NO_CREDENTIAL,
  * _NO_USABLE_KEY, _CREDENTIAL_EXPIRED, _BAD_TICKET or _TOO_LONG; or FEVSTUNIK_OUT_OF_MEMORY.
  *
- * If the buffer was too short, make the same call again with a longer one, and leave all other
- * arguments as they were. Never make two different requests with the same moment.
- *
  *     fevstunik_pending pending = FEVSTUNIK_PENDING_INIT;
  *     fevstunik_choice choice = {0, 0, false, true};
  *     answer = fevstunik_request(&cache, &pending, (const uint8_t *)"host/web@EX", 11, &now, confounder, 16, &choice, NULL, 0,
  *                                buffer, sizeof buffer);
  */
-fevstunik_answer fevstunik_request(const fevstunik_cache *cache, fevstunik_pending *pending, const uint8_t *service, size_t service_size,
+fevstunik_answer fevstunik_request(fevstunik_cache *cache, fevstunik_pending *pending, const uint8_t *service, size_t service_size,
                                    const fevstunik_time *at, const uint8_t *confounder, size_t confounder_size,
                                    const fevstunik_choice *choice, const uint8_t *subkey, size_t subkey_size, uint8_t *buffer,
                                    size_t buffer_size);
@@ -958,11 +983,10 @@ fevstunik_answer fevstunik_request(const fevstunik_cache *cache, fevstunik_pendi
  *     answer = fevstunik_context_request(&cache, &pending, (const uint8_t *)"host/web@EX", 11, &now, confounder, 16, &choice, NULL, 0,
  *                                        &context, buffer, sizeof buffer);
  */
-fevstunik_answer fevstunik_context_request(const fevstunik_cache *cache, fevstunik_pending *pending, const uint8_t *service,
-                                           size_t service_size, const fevstunik_time *at, const uint8_t *confounder,
-                                           size_t confounder_size, const fevstunik_choice *choice, const uint8_t *subkey,
-                                           size_t subkey_size, const fevstunik_context_choice *context, uint8_t *buffer,
-                                           size_t buffer_size);
+fevstunik_answer fevstunik_context_request(fevstunik_cache *cache, fevstunik_pending *pending, const uint8_t *service, size_t service_size,
+                                           const fevstunik_time *at, const uint8_t *confounder, size_t confounder_size,
+                                           const fevstunik_choice *choice, const uint8_t *subkey, size_t subkey_size,
+                                           const fevstunik_context_choice *context, uint8_t *buffer, size_t buffer_size);
 
 /* Reads the reply (the bytes of an AP-REP) to the request that is kept in the handle, and returns
  * what both sides agree on. Writes the client's text, the session key and the service's subkey to
@@ -977,8 +1001,8 @@ fevstunik_answer fevstunik_context_request(const fevstunik_cache *cache, fevstun
  *     fevstunik_agreement agreement;
  *     answer = fevstunik_finish(&pending, reply, reply_size, &agreement, buffer, sizeof buffer);
  */
-fevstunik_answer fevstunik_finish(const fevstunik_pending *pending, const uint8_t *reply, size_t reply_size,
-                                  fevstunik_agreement *agreement, uint8_t *buffer, size_t buffer_size);
+fevstunik_answer fevstunik_finish(fevstunik_pending *pending, const uint8_t *reply, size_t reply_size, fevstunik_agreement *agreement,
+                                  uint8_t *buffer, size_t buffer_size);
 
 /* Frees what the handle holds. The handle is empty then, and may be used again. Calling it with an
  * empty handle has no effect. It can't fail.

@@ -90,10 +90,11 @@ def main() -> None:
     words.add_argument("service", help="the name that is served, as HTTP/www.example.com@EXAMPLE.COM")
     words.add_argument("--address", default="127.0.0.1")
     words.add_argument("--port", type=int, default=8080, help="0 takes a free one")
-    words.add_argument("--first", action="store_true", help="leave out the start (docs/OPERATING.md says when you may)")
+    words.add_argument("--first", action="store_true", help="every key of the keytab is new: accept at once")
     given = words.parse_args()
     Handler.service = given.service
-    with Acceptor(Keytab.read(given.keytab), given.service, started=None if given.first else time.time()) as Handler.acceptor:
+    with Acceptor(Keytab.read(given.keytab), given.service, started=None if given.first else time.time(),
+                  first_life=given.first) as Handler.acceptor:
         with ThreadingHTTPServer((given.address, given.port), Handler) as server:
             print(f"http://{given.address}:{server.server_port}/", flush=True)
             server.serve_forever()

@@ -32,7 +32,7 @@ static int confirm(int to, const fevstunik_known *known, const uint8_t *bytes, c
 }
 
 /* Replies to what was accepted, with a subkey of the session key's type, and reads a text under it. */
-static void converse(const fevstunik_accepted *accepted, int peer)
+static void converse(fevstunik_accepted *accepted, int peer)
 {
     static struct bytes text;
     uint8_t confounder[16], subkey[32], bytes[4096], reply[256], plain[MOST];
@@ -71,14 +71,14 @@ static void serve(fevstunik_acceptor *service, fevstunik_accepted *accepted, con
         refuse(name, peer, answer);
 }
 
-/* A service that may have run before, unless this is its first start. */
+/* A service that may have run before, unless every key of the keytab is new. */
 static fevstunik_answer make_service(fevstunik_acceptor *service, const struct bytes *keytab, const char *name, int is_first)
 {
-    fevstunik_time start = clock_now();
+    fevstunik_acceptor_options options = {sizeof options, clock_now(), 300, FEVSTUNIK_RESTART_STARTED, false, false};
 
     if (is_first)
-        return fevstunik_acceptor_new(service, keytab->at, keytab->size, 300, (const uint8_t *)name, strlen(name));
-    return fevstunik_acceptor_started(service, keytab->at, keytab->size, 300, (const uint8_t *)name, strlen(name), &start);
+        options.restarts = FEVSTUNIK_RESTART_FIRST_LIFE;
+    return fevstunik_acceptor_new(service, keytab->at, keytab->size, (const uint8_t *)name, strlen(name), &options);
 }
 
 int main(int count, char **words)

@@ -84,7 +84,7 @@ static void refuse(const char *name, uint32_t code)
     print_bytes(error, answer.code == FEVSTUNIK_OK ? answer.size : 0);
 }
 
-static void welcome(const fevstunik_accepted *accepted)
+static void welcome(fevstunik_accepted *accepted)
 {
     static uint8_t bytes[8 * MOST];
     const fevstunik_choice choice = {0, 0, false, false};
@@ -102,7 +102,7 @@ static void welcome(const fevstunik_accepted *accepted)
 }
 
 /* Asks the store about an accepted request. If this process was stopped for long meanwhile, the store may have forgotten the stamp. */
-static void ask(struct store *store, const fevstunik_accepted *accepted, const char *name)
+static void ask(struct store *store, fevstunik_accepted *accepted, const char *name)
 {
     static uint8_t stamp[8 * MOST];
     fevstunik_time keep_until;
@@ -134,11 +134,11 @@ static void answer_to(const char *line, fevstunik_acceptor *service, fevstunik_a
 /* A service over a store that remembers all since the first start, or one that has to refuse requests at first. */
 static fevstunik_answer make_service(fevstunik_acceptor *service, const struct bytes *keytab, const char *name, int is_again)
 {
-    fevstunik_time start = clock_now();
+    fevstunik_acceptor_options options = {sizeof options, clock_now(), SKEW, FEVSTUNIK_RESTART_FIRST_LIFE, false, false};
 
     if (is_again)
-        return fevstunik_acceptor_started(service, keytab->at, keytab->size, SKEW, (const uint8_t *)name, strlen(name), &start);
-    return fevstunik_acceptor_new(service, keytab->at, keytab->size, SKEW, (const uint8_t *)name, strlen(name));
+        options.restarts = FEVSTUNIK_RESTART_STARTED;
+    return fevstunik_acceptor_new(service, keytab->at, keytab->size, (const uint8_t *)name, strlen(name), &options);
 }
 
 int main(int count, char **words)

@@ -3,9 +3,9 @@
 A service makes one Acceptor from its Keytab, and passes each request to it:
 
 >>> from fevstunik import Acceptor, CredentialCache, Keytab, Refused, make_request
->>> service = Acceptor(Keytab.read("examples/service.keytab"), "host/web@EX", started=None)
+>>> service = Acceptor(Keytab.read("examples/service.keytab"), "host/web@EX", first_life=True)
 
-(If a service has used this name and these keys before, pass started=time.time().) A client makes a request from a ticket of its
+(If a service has used one of these keys before, pass started=time.time() instead.) A client makes a request from a ticket of its
 CredentialCache:
 
 >>> cache = CredentialCache.read("examples/client.ccache")

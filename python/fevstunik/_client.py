@@ -6,7 +6,7 @@ from ctypes import byref, c_uint8
 from dataclasses import dataclass
 from types import TracebackType
 
-from . import _library
+from . import _interface
 from ._files import CredentialCache
 from ._library import Bytes, Handle, filled, octets, read
 from ._tokens import ContextFlags, bindings_of
@@ -55,14 +55,14 @@ class Pending:
         >>> from fevstunik import Acceptor, CredentialCache, Keytab, make_request
         >>> cache = CredentialCache.read("examples/client.ccache")
         >>> request, pending = make_request(cache, "host/web@EX", now=1_700_000_100)
-        >>> service = Acceptor(Keytab.read("examples/service.keytab"), "host/web@EX", started=None)
+        >>> service = Acceptor(Keytab.read("examples/service.keytab"), "host/web@EX", first_life=True)
         >>> reply = service.accept(request, now=1_700_000_100).reply(subkey=Key.random(20))
         >>> pending.finish(reply)
         Agreed(client='alice@EX', session_key=Key(kind=19), service_subkey=Key(kind=20), service_seq=None, client_type=1)
         """
         reply = octets(reply)
         with self._handle.used() as pointer:
-            found, data = read(_library.Agreement, lambda *into: self._handle.library.call("finish", pointer, reply, len(reply), *into))
+            found, data = read(_interface.Agreement, lambda *into: self._handle.library.call("finish", pointer, reply, len(reply), *into))
         return Agreed(
             found.client.text(data), Key(found.session_type, found.session_key.of(data)),
             Key(found.service_subkey_type, found.service_subkey.of(data)) if found.has_service_subkey else None,
@@ -120,6 +120,6 @@ def make_request(cache: CredentialCache, service: str, *, now: When | None = Non
     return request, Pending(pending)
 
 
-def _context(flags: ContextFlags, bindings: Bytes | None) -> _library.ContextChoice:
+def _context(flags: ContextFlags, bindings: Bytes | None) -> _interface.ContextChoice:
     hashed = bytes(16) if bindings is None else bindings_of(bindings)
-    return _library.ContextChoice(int(flags), (c_uint8 * 16)(*hashed))
+    return _interface.ContextChoice(int(flags), (c_uint8 * 16)(*hashed))

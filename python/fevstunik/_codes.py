@@ -1,3 +1,4 @@
+# Made from crates/krb_c/interface.toml by `make generate`. Don't edit this file.
 """The codes of answers, as include/fevstunik.h has them."""
 from __future__ import annotations
 
@@ -45,6 +46,10 @@ class Code(enum.IntEnum):
     KEY_TYPE = 413
     KEY_LENGTH = 414
     NO_CODE = 415
+    BAD_OPTIONS = 416
+    NO_NAME = 417
+    NO_START = 418
+    EARLY_START = 419
     FILE_VERSION = 500
     FILE_HEADER = 501
     FILE_TRUNCATED = 502
@@ -98,7 +103,7 @@ class Code(enum.IntEnum):
 _TEXTS = {
     Code.OK: "success",
     Code.MESSAGE_TYPE: "the first byte isn't that of a request",
-    Code.MALFORMED: "the bytes aren't a request; `at` is the place of the fault",
+    Code.MALFORMED: "the bytes aren't a request",
     Code.USER_TO_USER: "the option use-session-key is set",
     Code.TICKET_ETYPE: "the ticket's encryption type isn't 19 or 20",
     Code.NOT_US: "the ticket is for a service that isn't served here",
@@ -115,8 +120,8 @@ _TEXTS = {
     Code.EXPIRED: "the ticket has expired",
     Code.TRANSITED: "the client is of another realm, and no KDC checked the realms between",
     Code.AUTHORIZATION: "the request has authorization data that may not be ignored",
-    Code.OUT_OF_MEMORY: "out of memory: malloc or realloc returned NULL",
-    Code.SHORT_BUFFER: "the buffer is too short: `size` bytes are needed",
+    Code.OUT_OF_MEMORY: "out of memory",
+    Code.SHORT_BUFFER: "the buffer is too short",
     Code.EMPTY_HANDLE: "the handle is empty",
     Code.NOTHING_THERE: "the handle has no accepted request, no refusal, or no such moment",
     Code.TOO_LONG: "a file, a request, an error, a token, a name or a key is longer than its limit",
@@ -126,33 +131,37 @@ _TEXTS = {
     Code.KEY_TYPE: "the key's encryption type isn't 19 or 20",
     Code.KEY_LENGTH: "the key isn't 16 bytes long (type 19) or 32 (type 20)",
     Code.NO_CODE: "there is no error to send: memory ran out, or the code isn't that of a cause",
+    Code.BAD_OPTIONS: "the options are those of another version of the library",
+    Code.NO_NAME: "no name to serve is given",
+    Code.NO_START: "it isn't said how repeats are refused after a start",
+    Code.EARLY_START: "the start is before the year 2020",
     Code.FILE_VERSION: "the file doesn't begin with 05 02 (a keytab), or with 05 03 or 05 04 (a cache)",
     Code.FILE_HEADER: "the header of the cache is malformed",
-    Code.FILE_TRUNCATED: "the keytab ends before the record at `at` does",
-    Code.FILE_BAD_ITEM: "the record at `at` has no valid entry, or the principal or credential at `at` is invalid",
+    Code.FILE_TRUNCATED: "the keytab ends within a record",
+    Code.FILE_BAD_ITEM: "an entry of the keytab, or the cache's principal or a credential, is invalid",
     Code.NO_SUCH_ENTRY: "the file or the request has no item of this index",
     Code.NO_CREDENTIAL: "the cache has no ticket of its default principal for the service",
     Code.NO_USABLE_KEY: "no ticket for the service has a usable session key",
     Code.CREDENTIAL_EXPIRED: "no usable ticket for the service ends later than the moment",
     Code.BAD_TICKET: "the credential's ticket isn't a valid ticket",
     Code.REPLY_TYPE: "the first byte isn't that of a reply",
-    Code.REPLY_MALFORMED: "the bytes aren't a reply; `at` is the place of the fault",
+    Code.REPLY_MALFORMED: "the bytes aren't a reply",
     Code.REPLY_INTEGRITY: "the session key doesn't open the reply",
     Code.REPLY_MISMATCH: "the reply's time isn't the request's",
     Code.TEXT_SHORT: "the text has fewer bytes than a sealed empty text: 32 (type 19) or 40 (type 20)",
     Code.TEXT_INTEGRITY: "the tag is wrong",
-    Code.BAD_TEXT: "the text isn't a valid name; `at` is the place of the fault",
+    Code.BAD_TEXT: "the text isn't a valid name",
     Code.NO_REALM: "the text has no unescaped `@`",
     Code.NOT_UTF8: "the text isn't UTF-8",
     Code.NOT_A_TOKEN: "the first byte isn't that of a token",
-    Code.TOKEN_MALFORMED: "the bytes aren't a token; `at` is the place of the fault",
+    Code.TOKEN_MALFORMED: "the bytes aren't a token",
     Code.TOKEN_CONTINUES: "the token continues a negotiation, and doesn't begin one",
-    Code.TOKEN_EMPTY: "the negotiation has no token of Kerberos; `at` is the place of its mechanism",
-    Code.TOKEN_ID: "the token of Kerberos holds a message of another kind; `at` is the place of its identifier",
-    Code.OTHER_MECHANISM: "the mechanism at `at` isn't Kerberos",
-    Code.NTLM: "the mechanism at `at` is NTLM",
-    Code.IAKERB: "the mechanism at `at` is IAKERB",
-    Code.NESTED_NEGOTIATION: "the mechanism at `at` is a nested negotiation",
+    Code.TOKEN_EMPTY: "the negotiation has no token of Kerberos",
+    Code.TOKEN_ID: "the token of Kerberos holds a message of another kind",
+    Code.OTHER_MECHANISM: "the mechanism isn't Kerberos",
+    Code.NTLM: "the mechanism is NTLM, not Kerberos",
+    Code.IAKERB: "the mechanism is IAKERB, not Kerberos",
+    Code.NESTED_NEGOTIATION: "the mechanism is a nested negotiation, not Kerberos",
     Code.BAD_MECHANISM: "the number isn't that of a mechanism",
     Code.CONTEXT_TRUNCATED: "the checksum of type 0x8003 is cut off",
     Code.CONTEXT_BINDINGS: "the length of the bindings in the checksum of type 0x8003 isn't 16",

@@ -8,7 +8,7 @@ from functools import cached_property
 from types import TracebackType
 from typing import Callable, TypeVar
 
-from . import _library
+from . import _interface
 from ._library import Bytes, Handle, done, filled, fitting, library, octets, read
 from ._values import Key, TicketFlags
 
@@ -100,7 +100,7 @@ class Keytab:
 
     @staticmethod
     def _entry(pointer: object, index: int) -> KeytabEntry:
-        entry, data = read(_library.KeyEntry, lambda struct, *into: library().call("keytab_entry", pointer, index, struct, *into))
+        entry, data = read(_interface.KeyEntry, lambda struct, *into: library().call("keytab_entry", pointer, index, struct, *into))
         return KeytabEntry(entry.name.text(data), Key(entry.key_type, entry.key.of(data)), entry.kvno, entry.timestamp, entry.name_type)
 
     def added(self, entry: KeytabEntry) -> Keytab:
@@ -111,7 +111,7 @@ class Keytab:
         True
         """
         name, key = entry.name.encode(), octets(entry.key.data)
-        parts = _library.KeyParts(fitting(entry.timestamp, 32), fitting(entry.kvno, 32), fitting(entry.name_type, 32, signed=True),
+        parts = _interface.KeyParts(fitting(entry.timestamp, 32), fitting(entry.kvno, 32), fitting(entry.name_type, 32, signed=True),
                                   fitting(entry.key.kind, 16, signed=True))
         # A record takes at most twice its name's bytes, the key's, and 64 more.
         room = len(self._data) + 2 * len(name) + len(key) + 64
@@ -189,7 +189,7 @@ class Credential:
 
 
 def _owner(pointer: object) -> Owner:
-    owner, data = read(_library.Owner, lambda struct, *into: library().call("cache_owner", pointer, struct, *into))
+    owner, data = read(_interface.Owner, lambda struct, *into: library().call("cache_owner", pointer, struct, *into))
     return Owner(owner.name.text(data), owner.name_type, (owner.offset_seconds, owner.offset_micros) if owner.has_offset else None)
 
 
@@ -244,7 +244,7 @@ class CredentialCache:
 
     @staticmethod
     def _credential(pointer: object, index: int) -> Credential:
-        entry, data = read(_library.CacheEntry, lambda struct, *into: library().call("cache_credential", pointer, index, struct, *into))
+        entry, data = read(_interface.CacheEntry, lambda struct, *into: library().call("cache_credential", pointer, index, struct, *into))
         return Credential(
             entry.client.text(data), entry.server.text(data), Key(entry.key_type, entry.key.of(data)), entry.ticket.of(data),
             entry.authtime, entry.starttime, entry.endtime, entry.renew_till, TicketFlags(entry.flags), entry.client_type,

@@ -1,17 +1,19 @@
 """The service's side: accepts or refuses requests."""
 from __future__ import annotations
 
+import ctypes
 import enum
 import os
 from ctypes import byref, c_int32
 from dataclasses import dataclass, field
 from types import TracebackType
 
-from . import _library
+from . import _interface
 from ._codes import Code
 from ._errors import Error
 from ._files import Keytab
-from ._library import Answer, Bytes, Handle, done, filled, fitting, library, octets, read
+from ._interface import Answer
+from ._library import Bytes, Handle, done, filled, fitting, library, octets, read
 from ._tokens import CHECKSUM, Context
 from ._values import CONFOUNDER, Key, Moment, TicketFlags, TypedData, When, chosen, clock
 
@@ -27,7 +29,7 @@ class Refused(Error):
     offset    the place of the fault, if the cause is MALFORMED
 
     >>> from fevstunik import Acceptor, Keytab, Refused
-    >>> with Acceptor(Keytab.read("examples/service.keytab"), "host/web@EX", started=None) as service:
+    >>> with Acceptor(Keytab.read("examples/service.keytab"), "host/web@EX", first_life=True) as service:
     ...     try:
     ...         service.accept(b"hello")
     ...     except Refused as refused:
@@ -61,6 +63,11 @@ class _List(enum.IntEnum):
     TICKET_AUTHORIZATION = 2
     AUTHENTICATOR_AUTHORIZATION = 3
     CHECKSUM = 4
+
+
+class _Restart(enum.IntEnum):
+    STARTED = 1
+    FIRST_LIFE = 2
 
 
 @dataclass(frozen=True)
@@ -106,7 +113,7 @@ class Accepted:
 
     >>> from fevstunik import Acceptor, Keytab
     >>> request = bytes.fromhex(open("examples/calls.txt").readline().split()[2])
-    >>> with Acceptor(Keytab.read("examples/service.keytab"), "host/web@EX", started=None) as service:
+    >>> with Acceptor(Keytab.read("examples/service.keytab"), "host/web@EX", first_life=True) as service:
     ...     accepted = service.accept(request, now=1_700_000_100)
     >>> accepted.client, accepted.time, accepted.session_key, accepted.wants_reply
     ('alice@EX', Moment(seconds=1700000100, micros=5), Key(kind=19), False)
@@ -138,7 +145,7 @@ class Accepted:
 
         >>> from fevstunik import Acceptor, Keytab
         >>> request = bytes.fromhex(open("examples/calls.txt").readline().split()[2])
-        >>> service = Acceptor(Keytab.read("examples/service.keytab"), "host/web@EX", started=None)
+        >>> service = Acceptor(Keytab.read("examples/service.keytab"), "host/web@EX", first_life=True)
         >>> print(service.accept(request, now=1_700_000_100).context)
         None
         """
@@ -154,7 +161,7 @@ class Accepted:
         >>> from fevstunik import Acceptor, CredentialCache, Keytab, make_request
         >>> cache = CredentialCache.read("examples/client.ccache")
         >>> request, pending = make_request(cache, "host/web@EX", now=1_700_000_100)
-        >>> service = Acceptor(Keytab.read("examples/service.keytab"), "host/web@EX", started=None)
+        >>> service = Acceptor(Keytab.read("examples/service.keytab"), "host/web@EX", first_life=True)
         >>> reply = service.accept(request, now=1_700_000_100).reply(seq=7)
         >>> pending.finish(reply).service_seq
         7
@@ -173,12 +180,12 @@ class Accepted:
 
         >>> from fevstunik import Acceptor, Keytab
         >>> request = bytes.fromhex(open("examples/calls.txt").readline().split()[2])
-        >>> service = Acceptor(Keytab.read("examples/service.keytab"), "host/web@EX", started=None)
+        >>> service = Acceptor(Keytab.read("examples/service.keytab"), "host/web@EX", first_life=True)
         >>> stamp = service.accept(request, now=1_700_000_100).stamp()
         >>> len(stamp.data), stamp.keep_until
         (80, Moment(seconds=1700000700, micros=5))
         """
-        until = _library.Time()
+        until = _interface.Time()
         with self._handle.used() as pointer:
             largest = self._skew if skew is None else fitting(skew, 32)
             data = filled(lambda *into: self._handle.library.call("accepted_stamp", pointer, largest, byref(until), *into))
@@ -189,7 +196,7 @@ class Accepted:
 
         >>> from fevstunik import Acceptor, Keytab
         >>> request = bytes.fromhex(open("examples/calls.txt").readline().split()[2])
-        >>> service = Acceptor(Keytab.read("examples/service.keytab"), "host/web@EX", started=None)
+        >>> service = Acceptor(Keytab.read("examples/service.keytab"), "host/web@EX", first_life=True)
         >>> service.accept(request, now=1_700_000_100).close()
         """
         self._handle.close()
@@ -204,7 +211,7 @@ class Accepted:
 def _accepted(handle: Handle, skew: int) -> Accepted:
     """What the handle holds, read as values."""
     with handle.used() as pointer:
-        known, data = read(_library.Known, lambda *words: handle.library.call("accepted_known", pointer, *words))
+        known, data = read(_interface.Known, lambda *words: handle.library.call("accepted_known", pointer, *words))
         lists = {which: _items(handle, pointer, which) for which in _List}
         starttime = _start(handle, pointer)
     checksums = lists[_List.CHECKSUM]
@@ -220,7 +227,7 @@ def _accepted(handle: Handle, skew: int) -> Accepted:
 
 
 def _start(handle: Handle, pointer: object) -> int | None:
-    start = _library.Time()
+    start = _interface.Time()
     answer = handle.library.call("accepted_start", pointer, byref(start))
     return None if answer.code == Code.NOTHING_THERE else (done(answer), start.seconds)[1]
 
@@ -241,14 +248,17 @@ def _item(handle: Handle, pointer: object, which: _List, index: int) -> TypedDat
 class Acceptor:
     """A service. It accepts requests, and remembers them to recognize a repeat.
 
-    keytab   its keys
-    service  the name that is served, as ``host/web@EX``, or None for each name of the keytab. Name it if the keytab has keys of several
-             names: docs/OPERATING.md says why. If the keytab has no entry of this name, that is no fault: then every ticket is refused
-    skew     by how many seconds clocks may differ
-    started  the service's clock at this start, as time.time() (not time.monotonic(): a start that is too early isn't reported). A restarted
-             service has forgotten what it accepted. So it refuses requests with the cause JUST_STARTED until its clock and the client's
-             are both later than this start by more than the skew. Pass None only in the two cases of docs/OPERATING.md, "Restarts": the
-             service then accepts at once, and would accept again what an earlier run accepted
+    keytab      its keys
+    service     the name that is served, as ``host/web@EX``, or None for each name of the keytab. Name it if the keytab has keys of several
+                names: docs/OPERATING.md says why. If the keytab has no entry of this name, that is no fault: then every ticket is refused
+    skew        by how many seconds clocks may differ
+    started     the service's clock at this start, as time.time(). A restarted service has forgotten what it accepted. So it refuses requests
+                with the cause JUST_STARTED until its clock and the client's are both later than this start by more than the skew
+    first_life  True if every key of the keytab is new, so that no service has used one of them before, or if a store of stamps has lost
+                nothing (docs/OPERATING.md, "Restarts"). Then the service accepts at once
+
+    Pass just one of the last two: neither is the default. A start before the year 2020, so any of time.monotonic(), raises the Fault
+    EARLY_START.
 
     Make one and keep it. Any thread may call it. A lock lets one decision run at a time; what was accepted is read without that lock. An
     Acceptor belongs to the process that made it: after a fork, the child's calls raise RuntimeError.
@@ -263,15 +273,11 @@ class Acceptor:
     0
     """
 
-    def __init__(self, keytab: Keytab, service: str | None, skew: int = 300, *, started: When | None) -> None:
-        name = _wanted(service)
-        words = keytab.data, len(keytab.data), fitting(skew, 32), name, len(name)
+    def __init__(self, keytab: Keytab, service: str | None, skew: int = 300, *, started: When | None = None, first_life: bool = False) -> None:
+        name, options = _wanted(service), _options(service, skew, started, first_life)
         self._handle, self._skew = Handle("acceptor"), skew
         with self._handle.used() as pointer:
-            if started is None:
-                done(self._handle.library.call("acceptor_new", pointer, *words))
-            else:
-                done(self._handle.library.call("acceptor_started", pointer, *words, byref(clock(started))))
+            done(self._handle.library.call("acceptor_new", pointer, keytab.data, len(keytab.data), name, len(name), byref(options)))
 
     def accept(self, request: Bytes, now: When | None = None) -> Accepted:
         """Accept the bytes of a request, or raise Refused. `now` is the moment, by default of the machine's clock.
@@ -280,7 +286,7 @@ class Acceptor:
 
         >>> from fevstunik import Acceptor, Keytab
         >>> request = bytes.fromhex(open("examples/calls.txt").readline().split()[2])
-        >>> service = Acceptor(Keytab.read("examples/service.keytab"), "host/web@EX", started=None)
+        >>> service = Acceptor(Keytab.read("examples/service.keytab"), "host/web@EX", first_life=True)
         >>> service.accept(request, now=1_700_000_100).client
         'alice@EX'
         >>> service.accept(request, now=1_700_000_100)
@@ -305,7 +311,7 @@ class Acceptor:
         >>> from fevstunik import Acceptor, Keytab
         >>> keytab = Keytab.read("examples/service.keytab")
         >>> request = bytes.fromhex(open("examples/calls.txt").readline().split()[2])
-        >>> service = Acceptor(keytab, "host/web@EX", started=None)
+        >>> service = Acceptor(keytab, "host/web@EX", first_life=True)
         >>> service.accept(request, now=1_700_000_100).close()
         >>> service.replace_keytab(keytab, "host/web@EX")
         >>> service.remembered
@@ -313,14 +319,15 @@ class Acceptor:
         """
         name = _wanted(service)
         with self._handle.used() as pointer:
-            done(self._handle.library.call("acceptor_replace_keytab", pointer, keytab.data, len(keytab.data), name, len(name)))
+            done(self._handle.library.call(
+                "acceptor_replace_keytab", pointer, keytab.data, len(keytab.data), name, len(name), service is None))
 
     @property
     def remembered(self) -> int:
         """The number of requests that are remembered.
 
         >>> from fevstunik import Acceptor, Keytab
-        >>> Acceptor(Keytab.read("examples/service.keytab"), "host/web@EX", started=None).remembered
+        >>> Acceptor(Keytab.read("examples/service.keytab"), "host/web@EX", first_life=True).remembered
         0
         """
         with self._handle.used() as pointer:
@@ -331,10 +338,10 @@ class Acceptor:
         """The latest moment that accept was given so far, or None. The service decides by it.
 
         >>> from fevstunik import Acceptor, Keytab
-        >>> print(Acceptor(Keytab.read("examples/service.keytab"), "host/web@EX", started=None).latest)
+        >>> print(Acceptor(Keytab.read("examples/service.keytab"), "host/web@EX", first_life=True).latest)
         None
         """
-        latest = _library.Time()
+        latest = _interface.Time()
         with self._handle.used() as pointer:
             answer = self._handle.library.call("acceptor_latest", pointer, byref(latest))
         if answer.code == Code.NOTHING_THERE:
@@ -346,7 +353,7 @@ class Acceptor:
         """Free what the library holds, including what is remembered. A second call does nothing.
 
         >>> from fevstunik import Acceptor, Keytab
-        >>> Acceptor(Keytab.read("examples/service.keytab"), "host/web@EX", started=None).close()
+        >>> Acceptor(Keytab.read("examples/service.keytab"), "host/web@EX", first_life=True).close()
         """
         self._handle.close()
 
@@ -361,6 +368,17 @@ def _wanted(service: str | None) -> bytes:
     if service == "":
         raise ValueError("the service's name is empty: None stands for each name of the keytab")
     return b"" if service is None else service.encode()
+
+
+def _options(service: str | None, skew: int, started: When | None, first_life: bool) -> _interface.AcceptorOptions:
+    """What a service is made with, as the library takes it."""
+    if not isinstance(first_life, bool):
+        raise TypeError(f"first_life is a bool, not {first_life!r}")
+    if first_life == (started is not None):
+        raise TypeError("pass either started, the clock of this start, or first_life=True, if every key of the keytab is new")
+    restarts = _Restart.FIRST_LIFE if started is None else _Restart.STARTED
+    size, at = ctypes.sizeof(_interface.AcceptorOptions), _interface.Time() if started is None else clock(started)
+    return _interface.AcceptorOptions(size, at, fitting(skew, 32), restarts, service is None, False)
 
 
 def _decided(answer: Answer) -> None:

@@ -7,7 +7,7 @@ import hmac
 from ctypes import byref, c_bool
 from dataclasses import dataclass
 
-from . import _library
+from . import _interface
 from ._library import Bytes, filled, library, octets, read
 
 CHECKSUM = 0x8003
@@ -77,7 +77,7 @@ class Token:
         fevstunik.Fault: NOT_A_TOKEN: the first byte isn't that of a token
         """
         token = octets(token)
-        wrapped, request = read(_library.Wrapped, lambda *into: library().call("token_open", token, len(token), *into))
+        wrapped, request = read(_interface.Wrapped, lambda *into: library().call("token_open", token, len(token), *into))
         return cls(request, Mechanism(wrapped.mechanism), Mechanism(wrapped.negotiated) if wrapped.negotiated else None)
 
     def reply(self, reply: Bytes) -> bytes:
@@ -103,8 +103,8 @@ class Token:
         return filled(lambda *into: library().call(name, byref(wrapped), message, len(message), *into))
 
 
-def _wrapped(mechanism: Mechanism, negotiated: Mechanism | None) -> _library.Wrapped:
-    return _library.Wrapped(mechanism, 0 if negotiated is None else negotiated)
+def _wrapped(mechanism: Mechanism, negotiated: Mechanism | None) -> _interface.Wrapped:
+    return _interface.Wrapped(mechanism, 0 if negotiated is None else negotiated)
 
 
 def wrap_request(request: Bytes, *, negotiated: bool = True) -> bytes:
@@ -179,7 +179,7 @@ class Context:
         fevstunik.Fault: CONTEXT_TRUNCATED: the checksum of type 0x8003 is cut off
         """
         checksum = octets(checksum)
-        found, data = read(_library.Context, lambda *into: library().call("context_read", checksum, len(checksum), *into))
+        found, data = read(_interface.Context, lambda *into: library().call("context_read", checksum, len(checksum), *into))
         delegation = found.delegation.of(data) if found.has_delegation else None
         return cls(ContextFlags(found.flags), found.bindings.of(data), delegation, found.extensions.of(data))
 

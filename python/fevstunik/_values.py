@@ -10,7 +10,7 @@ from ctypes import byref
 from dataclasses import dataclass, field
 from typing import Union
 
-from . import _library
+from . import _interface
 from ._codes import Code
 from ._library import Bytes, done, filled, fitting, library, octets
 
@@ -57,6 +57,8 @@ class Moment:
         """
         if isinstance(when, Moment):
             return when
+        if isinstance(when, bool):
+            raise TypeError(f"a moment can't be {when}")
         if isinstance(when, int):
             return cls(when)
         if not math.isfinite(when):
@@ -68,13 +70,13 @@ class Moment:
 When = Union[Moment, int, float]
 
 
-def clock(when: When | None) -> _library.Time:
+def clock(when: When | None) -> _interface.Time:
     """The moment as the library takes it: the machine's clock by default."""
     return _taken(Moment.now() if when is None else Moment.of(when))
 
 
-def _taken(moment: Moment) -> _library.Time:
-    return _library.Time(moment.seconds, moment.micros)
+def _taken(moment: Moment) -> _interface.Time:
+    return _interface.Time(moment.seconds, moment.micros)
 
 
 class _OwnMoments:
@@ -100,7 +102,7 @@ class _OwnMoments:
 _own_moments = _OwnMoments()
 
 
-def clock_of_request(when: When | None) -> _library.Time:
+def clock_of_request(when: When | None) -> _interface.Time:
     """The same for a client's request: by default a moment that no other request of this process has."""
     return _taken(_own_moments.next() if when is None else Moment.of(when))
 
@@ -221,7 +223,7 @@ class Key:
 def chosen(subkey: Key | None, seq: int | None, wants_reply: bool) -> tuple[object, bytes, int]:
     """What a side chooses for its message, as the library takes it."""
     kind, data = (0, b"") if subkey is None else (fitting(subkey.kind, 32, signed=True), octets(subkey.data))
-    choice = _library.Choice(kind, 0 if seq is None else fitting(seq, 32), seq is not None, wants_reply)
+    choice = _interface.Choice(kind, 0 if seq is None else fitting(seq, 32), seq is not None, wants_reply)
     return byref(choice), data, len(data)
 
 

@@ -5,6 +5,7 @@
  *     cache CODE KERBEROS HEX        this is answered where a request is asked for with the cache */
 #include "checks.h"
 #include "listed.h"
+#include "made.h"
 
 /* One byte more than a file may have, and than a message may have. */
 #define LONG_FILE (16777216 + 1)
@@ -96,13 +97,13 @@ static void is_no_keytab(const char *what, const uint8_t *file, size_t size, uns
     fevstunik_key_entry entry;
     void *held;
 
-    is_answer("new", fevstunik_acceptor_new(&service, keytab.at, keytab.size, 86400, EACH_NAME), FEVSTUNIK_OK, 0, 0, 0);
+    is_answer("new", first_life(&service, keytab.at, keytab.size, 86400, EACH_NAME), FEVSTUNIK_OK, 0, 0, 0);
     held = service.opaque;
-    is_answer(what, fevstunik_acceptor_new(&service, file, size, 86400, EACH_NAME), code, 0, at, 0);
+    is_answer(what, first_life(&service, file, size, 86400, EACH_NAME), code, 0, at, 0);
     is("it stays", service.opaque == held, 1);
-    is_answer(what, fevstunik_acceptor_started(&service, file, size, 86400, EACH_NAME, &sent), code, 0, at, 0);
+    is_answer(what, started(&service, file, size, 86400, EACH_NAME, &sent), code, 0, at, 0);
     is("it stays then", service.opaque == held, 1);
-    is_answer(what, fevstunik_acceptor_replace_keytab(&service, file, size, EACH_NAME), code, 0, at, 0);
+    is_answer(what, fevstunik_acceptor_replace_keytab(&service, file, size, EACH_NAME, true), code, 0, at, 0);
     fevstunik_acceptor_free(&service);
     is_answer(what, fevstunik_keytab_check(file, size), code, 0, at, 0);
     is_answer(what, entry_in(file, size, 0, &entry, buffer, sizeof buffer), code, 0, at, 0);
@@ -168,15 +169,15 @@ static void is_no_service(const char *what, const uint8_t *name, size_t size, un
     fevstunik_acceptor service = FEVSTUNIK_ACCEPTOR_INIT;
     void *held;
 
-    is_answer("new", fevstunik_acceptor_new(&service, keytab.at, keytab.size, 86400, WEB), FEVSTUNIK_OK, 0, 0, 0);
+    is_answer("new", first_life(&service, keytab.at, keytab.size, 86400, WEB), FEVSTUNIK_OK, 0, 0, 0);
     held = service.opaque;
-    is_answer(what, fevstunik_acceptor_new(&service, keytab.at, keytab.size, 86400, name, size), code, 0, at, 0);
+    is_answer(what, first_life(&service, keytab.at, keytab.size, 86400, name, size), code, 0, at, 0);
     is("it stays", service.opaque == held, 1);
-    is_answer(what, fevstunik_acceptor_started(&service, keytab.at, keytab.size, 86400, name, size, &sent), code, 0, at, 0);
+    is_answer(what, started(&service, keytab.at, keytab.size, 86400, name, size, &sent), code, 0, at, 0);
     is("it stays then", service.opaque == held, 1);
-    is_answer(what, fevstunik_acceptor_replace_keytab(&service, keytab.at, keytab.size, name, size), code, 0, at, 0);
-    is_answer("the skew first", fevstunik_acceptor_new(&service, keytab.at, keytab.size, 86401, name, size), FEVSTUNIK_BAD_SKEW, 0, 0, 0);
-    is_answer("the keytab then", fevstunik_acceptor_new(&service, keytab.at, 1, 86400, name, size), FEVSTUNIK_FILE_VERSION, 0, 0, 0);
+    is_answer(what, fevstunik_acceptor_replace_keytab(&service, keytab.at, keytab.size, name, size, false), code, 0, at, 0);
+    is_answer("the skew first", first_life(&service, keytab.at, keytab.size, 86401, name, size), FEVSTUNIK_BAD_SKEW, 0, 0, 0);
+    is_answer("the keytab then", first_life(&service, keytab.at, 1, 86400, name, size), FEVSTUNIK_FILE_VERSION, 0, 0, 0);
     fevstunik_acceptor_free(&service);
 }
 
@@ -194,7 +195,7 @@ static void is_refused(const char *what, const uint8_t *request, size_t size, un
     fevstunik_accepted accepted = FEVSTUNIK_ACCEPTED_INIT;
     fevstunik_choice choice = {0, 0, false, false};
 
-    is_answer("new", fevstunik_acceptor_new(&service, keytab.at, keytab.size, 300, EACH_NAME), FEVSTUNIK_OK, 0, 0, 0);
+    is_answer("new", first_life(&service, keytab.at, keytab.size, 300, EACH_NAME), FEVSTUNIK_OK, 0, 0, 0);
     is_answer("ready", fevstunik_accepted_new(&accepted), FEVSTUNIK_OK, 0, 0, 0);
     is_answer(what, fevstunik_acceptor_accept(&service, &accepted, request, size, &sent), code, kerberos, 0, 0);
     is_answer("no reply", fevstunik_accepted_reply(&accepted, request, 16, &choice, request, 0, buffer, sizeof buffer), FEVSTUNIK_NOTHING_THERE,

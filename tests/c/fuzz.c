@@ -15,6 +15,7 @@
 #include "drawn.h"
 #include "fevstunik.h"
 #include "listed.h"
+#include "made.h"
 
 static struct bytes keytab, cache, request, reply, bent;
 static uint8_t buffer[ROOM + GUARD];
@@ -208,9 +209,9 @@ static void one(fevstunik_acceptor *service, fevstunik_accepted *accepted, long 
     switch (below(4)) {
     case 0:
         bend(&keytab);
-        look(fevstunik_acceptor_new(&other, bent.at, bent.size, below(86402), bent.at, below(20)), bent.size, ROOM, at);
+        look(first_life(&other, bent.at, bent.size, below(86402), bent.at, below(20)), bent.size, ROOM, at);
         look(fevstunik_acceptor_accept(&other, accepted, request.at, request.size, &now), request.size, ROOM, at);
-        look(fevstunik_acceptor_started(&other, keytab.at, keytab.size, below(86402), bent.at, below(20), &now), 20, ROOM, at);
+        look(started(&other, keytab.at, keytab.size, below(86402), bent.at, below(20), &now), 20, ROOM, at);
         look(fevstunik_acceptor_error(&other, bent.at, bent.size, 3, &now, buffer, room), bent.size, room, at);
         look(fevstunik_error(below(300), bent.at, bent.size, 3, &now, buffer, room), bent.size, room, at);
         look(entry_in(bent.at, bent.size, below(3), &entry, buffer, room), bent.size, room, at);
@@ -264,7 +265,7 @@ int main(int count, char **words)
     state = strtoull(words[6], NULL, 10);
     for (at = 0; at < most; at++) {
         /* A new service now and then, which hasn't seen the request. */
-        if (at % 8 == 0 && fevstunik_acceptor_new(&service, keytab.at, keytab.size, 300, (const uint8_t *)"host/web@EX", 11).code != FEVSTUNIK_OK)
+        if (at % 8 == 0 && first_life(&service, keytab.at, keytab.size, 300, (const uint8_t *)"host/web@EX", 11).code != FEVSTUNIK_OK)
             wrong("a new service", at);
         /* And now and then nothing is ready for what is accepted, or what was accepted is freed. */
         if (at % 64 == 0)

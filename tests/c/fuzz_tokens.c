@@ -18,6 +18,7 @@
 
 #include "drawn.h"
 #include "fevstunik.h"
+#include "made.h"
 
 /* A token is drawn from its end to its front, so that an element's length is known when its head is drawn. */
 static uint8_t drawn[2 * MOST];
@@ -457,7 +458,7 @@ int main(int count, char **words)
         return 2;
     read_inputs(words);
     tokens = atol(words[3]);
-    if (fevstunik_acceptor_new(&service, keytab.at, keytab.size, 300, (const uint8_t *)"host/web@EX", 11).code != FEVSTUNIK_OK
+    if (first_life(&service, keytab.at, keytab.size, 300, (const uint8_t *)"host/web@EX", 11).code != FEVSTUNIK_OK
         || fevstunik_accepted_new(&accepted).code != FEVSTUNIK_OK)
         wrong("a service");
     for (number = 0; number < tokens; number++) {

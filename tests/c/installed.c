@@ -28,8 +28,9 @@ int main(int count, char **words)
         return 2;
     size_t size = fread(keytab, 1, sizeof keytab, file);
     fclose(file);
+    fevstunik_acceptor_options options = {sizeof options, {0, 0}, 300, FEVSTUNIK_RESTART_FIRST_LIFE, false, false};
     fevstunik_answer answer =
-        fevstunik_acceptor_new(&service, keytab, size, 300, (const uint8_t *)words[2], strlen(words[2]));
+        fevstunik_acceptor_new(&service, keytab, size, (const uint8_t *)words[2], strlen(words[2]), &options);
     if (answer.code == FEVSTUNIK_OK)
         answer = fevstunik_accepted_new(&accepted);
     if (answer.code == FEVSTUNIK_OK)

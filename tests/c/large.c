@@ -3,6 +3,7 @@
  * and of the request. Each line of output that begins with `wrong` is one. */
 #include "checks.h"
 #include "listed.h"
+#include "made.h"
 
 /* Bytes of authorization data, and of the record of the last entry. */
 #define DATA 100000
@@ -67,7 +68,7 @@ static void long_name(size_t entries)
     is_bytes("what was there", buffer, keytab.at, keytab.size);
 }
 
-static void accepted_item(const fevstunik_accepted *accepted)
+static void accepted_item(fevstunik_accepted *accepted)
 {
     int32_t kind = 0;
     size_t i, wrong = 0;
@@ -92,7 +93,7 @@ static void acceptance(void)
     fevstunik_known known;
     fevstunik_answer answer;
 
-    is_answer("service", fevstunik_acceptor_new(&service, keytab.at, keytab.size, 300, WEB), FEVSTUNIK_OK, 0, 0, 0);
+    is_answer("service", first_life(&service, keytab.at, keytab.size, 300, WEB), FEVSTUNIK_OK, 0, 0, 0);
     is_answer("ready", fevstunik_accepted_new(&accepted), FEVSTUNIK_OK, 0, 0, 0);
     is_answer("accept", fevstunik_acceptor_accept(&service, &accepted, request.at, request.size, &now), FEVSTUNIK_OK, 0, 0, 0);
     is_answer("known", fevstunik_accepted_known(&accepted, &known, buffer, room), FEVSTUNIK_OK, 0, 0, 8 + 16 + 11);

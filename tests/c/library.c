@@ -2,6 +2,7 @@
  * keytab and of the cache, and in hex the request, the request with a subkey, the reply, the reply with a subkey, the error, a cache of
  * two credentials with an offset, a request for another service, and a request with lists (tests/c_cases.py). */
 #include "listed.h"
+#include "made.h"
 #include "structs.h"
 
 /* Where the credential begins in the cache: after the version, an empty header and the default principal. */
@@ -57,7 +58,7 @@ static void unready(void)
     fevstunik_accepted none = FEVSTUNIK_ACCEPTED_INIT;
     fevstunik_time now = moment(1700000101, 7), late = moment(1700000401, 0), bad = moment(0, 1000000), latest;
 
-    is_answer("new", fevstunik_acceptor_new(&service, keytab.at, keytab.size, 300, EACH_NAME), FEVSTUNIK_OK, 0, 0, 0);
+    is_answer("new", first_life(&service, keytab.at, keytab.size, 300, EACH_NAME), FEVSTUNIK_OK, 0, 0, 0);
     is_answer("unready", fevstunik_acceptor_accept(&service, &none, request.at, request.size, &now), FEVSTUNIK_EMPTY_HANDLE, 0, 0, 0);
     is("it stays so", none.opaque == NULL, 1);
     is("nothing is seen", (long long)fevstunik_acceptor_count(&service), 0);
@@ -81,14 +82,14 @@ static void started_again(void)
     fevstunik_time now = moment(1700000100, 5), later = moment(1700000100, 6), latest;
     void *held;
 
-    is_answer("a start that is no moment", fevstunik_acceptor_started(&service, keytab.at, keytab.size, 86401, EACH_NAME, &bad),
+    is_answer("a start that is no moment", started(&service, keytab.at, keytab.size, 86401, EACH_NAME, &bad),
               FEVSTUNIK_BAD_MOMENT, 0, 0, 0);
     is("none is made", service.opaque == NULL, 1);
-    is_answer("the skew then", fevstunik_acceptor_started(&service, keytab.at, 1, 86401, EACH_NAME, &start), FEVSTUNIK_BAD_SKEW, 0, 0, 0);
+    is_answer("the skew then", started(&service, keytab.at, 1, 86401, EACH_NAME, &start), FEVSTUNIK_BAD_SKEW, 0, 0, 0);
     is_answer("ready", fevstunik_accepted_new(&kept), FEVSTUNIK_OK, 0, 0, 0);
-    is_answer("started", fevstunik_acceptor_started(&service, keytab.at, keytab.size, 300, WEB, &start), FEVSTUNIK_OK, 0, 0, 0);
+    is_answer("started", started(&service, keytab.at, keytab.size, 300, WEB, &start), FEVSTUNIK_OK, 0, 0, 0);
     held = service.opaque;
-    is_answer("a bad start", fevstunik_acceptor_started(&service, keytab.at, keytab.size, 300, WEB, &bad), FEVSTUNIK_BAD_MOMENT, 0, 0, 0);
+    is_answer("a bad start", started(&service, keytab.at, keytab.size, 300, WEB, &bad), FEVSTUNIK_BAD_MOMENT, 0, 0, 0);
     is("it stays", service.opaque == held, 1);
     is_answer("the start is no moment of its", fevstunik_acceptor_latest(&service, &latest), FEVSTUNIK_NOTHING_THERE, 0, 0, 0);
     is_answer("at the skew", fevstunik_acceptor_accept(&service, &kept, request.at, request.size, &now), FEVSTUNIK_JUST_STARTED, 37, 0, 0);
@@ -97,13 +98,68 @@ static void started_again(void)
     is("it is remembered", (long long)fevstunik_acceptor_count(&service), 1);
     is_answer("latest", fevstunik_acceptor_latest(&service, &latest), FEVSTUNIK_OK, 0, 0, 0);
     is("its microseconds", latest.micros, 6);
-    is_answer("another start", fevstunik_acceptor_started(&service, keytab.at, keytab.size, 300, WEB, &before), FEVSTUNIK_OK, 0, 0, 0);
+    is_answer("another start", started(&service, keytab.at, keytab.size, 300, WEB, &before), FEVSTUNIK_OK, 0, 0, 0);
     is("nothing is remembered", (long long)fevstunik_acceptor_count(&service), 0);
     is_answer("later than the skew", fevstunik_acceptor_accept(&service, &kept, request.at, request.size, &now), FEVSTUNIK_OK, 0, 0, 0);
-    is_answer("a name that isn't served", fevstunik_acceptor_started(&service, keytab.at, keytab.size, 300, (const uint8_t *)"host/a@EX", 9, &start),
+    is_answer("a name that isn't served", started(&service, keytab.at, keytab.size, 300, (const uint8_t *)"host/a@EX", 9, &start),
               FEVSTUNIK_OK, 0, 0, 0);
     is_answer("not us", fevstunik_acceptor_accept(&service, &kept, request.at, request.size, &now), FEVSTUNIK_NOT_US, 35, 0, 0);
     fevstunik_accepted_free(&kept);
+    fevstunik_acceptor_free(&service);
+}
+
+static fevstunik_answer made(fevstunik_acceptor *service, size_t keytab_size, const uint8_t *name, size_t size, fevstunik_acceptor_options options)
+{
+    return fevstunik_acceptor_new(service, keytab.at, keytab_size, name, size, &options);
+}
+
+/* Options are refused by what is wrong first, and what was made stays. */
+static void options(void)
+{
+    static const fevstunik_acceptor_options zero;
+    fevstunik_acceptor service = FEVSTUNIK_ACCEPTOR_INIT;
+    fevstunik_acceptor_options it = {sizeof it, {1700000000, 0}, 86401, 0, false, false};
+    void *held;
+
+    is("the size of the options", sizeof it, 40);
+    is_answer("all zero", made(&service, 1, EACH_NAME, zero), FEVSTUNIK_BAD_OPTIONS, 0, 0, 0);
+    is("none is made", service.opaque == NULL, 1);
+    is_answer("new", first_life(&service, keytab.at, keytab.size, 300, WEB), FEVSTUNIK_OK, 0, 0, 0);
+    held = service.opaque;
+    it.size--;
+    is_answer("too short", made(&service, 1, EACH_NAME, it), FEVSTUNIK_BAD_OPTIONS, 0, 0, 0);
+    it.size += 2;
+    is_answer("longer than known", made(&service, 1, EACH_NAME, it), FEVSTUNIK_BAD_OPTIONS, 0, 0, 0);
+    it.size--;
+    is_answer("no name", made(&service, 1, EACH_NAME, it), FEVSTUNIK_NO_NAME, 0, 0, 0);
+    is_answer("no pointer to a name", made(&service, 1, NULL, 0, it), FEVSTUNIK_NO_NAME, 0, 0, 0);
+    is_answer("how repeats are refused", made(&service, 1, WEB, it), FEVSTUNIK_NO_START, 0, 0, 0);
+    it.any_name = true;
+    it.restarts = 3;
+    is_answer("nor so", made(&service, 1, EACH_NAME, it), FEVSTUNIK_NO_START, 0, 0, 0);
+    it.restarts = FEVSTUNIK_RESTART_STARTED;
+    it.started = moment(0, 1000000);
+    is_answer("a start that is no moment", made(&service, 1, WEB, it), FEVSTUNIK_BAD_MOMENT, 0, 0, 0);
+    it.started = moment(1577836799, 999999);
+    is_answer("before the year 2020", made(&service, 1, WEB, it), FEVSTUNIK_EARLY_START, 0, 0, 0);
+    it.started = moment(86400, 0);
+    is_answer("of the monotonic clock", made(&service, 1, WEB, it), FEVSTUNIK_EARLY_START, 0, 0, 0);
+    it.started = moment(-1, 0);
+    is_answer("of a failed call", made(&service, 1, WEB, it), FEVSTUNIK_EARLY_START, 0, 0, 0);
+    it.any_start = true;
+    is_answer("the skew then", made(&service, 1, WEB, it), FEVSTUNIK_BAD_SKEW, 0, 0, 0);
+    it.skew = 86400;
+    is_answer("the keytab then", made(&service, 1, (const uint8_t *)"host", 4, it), FEVSTUNIK_FILE_VERSION, 0, 0, 0);
+    is_answer("the name then", made(&service, keytab.size, (const uint8_t *)"host", 4, it), FEVSTUNIK_NO_REALM, 0, 0, 0);
+    is("it stays", service.opaque == held, 1);
+    is_answer("any start", made(&service, keytab.size, WEB, it), FEVSTUNIK_OK, 0, 0, 0);
+    it.any_start = false;
+    it.started = moment(1577836800, 0);
+    is_answer("the year 2020", made(&service, keytab.size, EACH_NAME, it), FEVSTUNIK_OK, 0, 0, 0);
+    it.restarts = FEVSTUNIK_RESTART_FIRST_LIFE;
+    it.started = moment(0, 1000000);
+    is_answer("no start", made(&service, keytab.size, WEB, it), FEVSTUNIK_OK, 0, 0, 0);
+    is_answer("a keytab for no name", fevstunik_acceptor_replace_keytab(&service, keytab.at, 1, EACH_NAME, false), FEVSTUNIK_NO_NAME, 0, 0, 0);
     fevstunik_acceptor_free(&service);
 }
 
@@ -115,7 +171,7 @@ static void negative_number(void)
     fevstunik_time now = moment(1700000100, 5);
     fevstunik_known known;
 
-    is_answer("new", fevstunik_acceptor_new(&service, keytab.at, keytab.size, 300, EACH_NAME), FEVSTUNIK_OK, 0, 0, 0);
+    is_answer("new", first_life(&service, keytab.at, keytab.size, 300, EACH_NAME), FEVSTUNIK_OK, 0, 0, 0);
     is_answer("ready", fevstunik_accepted_new(&kept), FEVSTUNIK_OK, 0, 0, 0);
     is_answer("negative", fevstunik_acceptor_accept(&service, &kept, negative.at, negative.size, &now), FEVSTUNIK_OK, 0, 0, 0);
     is("its size", fevstunik_accepted_known(&kept, &known, buffer, sizeof buffer).code, FEVSTUNIK_OK);
@@ -126,7 +182,7 @@ static void negative_number(void)
 }
 
 /* What is handed out of a handle: the client's subkey's type and number, or that nothing is kept there. */
-static void is_kept(const char *what, const fevstunik_accepted *kept, int32_t subkey_type, uint32_t seq)
+static void is_kept(const char *what, fevstunik_accepted *kept, int32_t subkey_type, uint32_t seq)
 {
     fevstunik_known known;
     size_t size = subkey_type == 20 ? 67 : 35;
@@ -145,7 +201,7 @@ static void kept_apart(void)
     fevstunik_time now = moment(1700000100, 5);
     fevstunik_known known;
 
-    is_answer("new", fevstunik_acceptor_new(&service, keytab.at, keytab.size, 300, EACH_NAME), FEVSTUNIK_OK, 0, 0, 0);
+    is_answer("new", first_life(&service, keytab.at, keytab.size, 300, EACH_NAME), FEVSTUNIK_OK, 0, 0, 0);
     is_answer("ready", fevstunik_accepted_new(&first), FEVSTUNIK_OK, 0, 0, 0);
     is_answer("ready too", fevstunik_accepted_new(&second), FEVSTUNIK_OK, 0, 0, 0);
     is_answer("the first", fevstunik_acceptor_accept(&service, &first, keyed.at, keyed.size, &now), FEVSTUNIK_OK, 0, 0, 0);
@@ -155,7 +211,7 @@ static void kept_apart(void)
     is_kept("the first stays", &first, 20, 4294967295);
     fevstunik_acceptor_free(&service);
     is_kept("without the service", &first, 20, 4294967295);
-    is_answer("another", fevstunik_acceptor_new(&service, keytab.at, keytab.size, 300, EACH_NAME), FEVSTUNIK_OK, 0, 0, 0);
+    is_answer("another", first_life(&service, keytab.at, keytab.size, 300, EACH_NAME), FEVSTUNIK_OK, 0, 0, 0);
     is_answer("the second", fevstunik_acceptor_accept(&service, &second, request.at, request.size, &now), FEVSTUNIK_OK, 0, 0, 0);
     is_kept("the second is kept", &second, 0, 0);
     is_kept("and the first", &first, 20, 4294967295);
@@ -178,7 +234,7 @@ static void ready_again(void)
     fevstunik_time now = moment(1700000100, 5);
     fevstunik_known known;
 
-    is_answer("new", fevstunik_acceptor_new(&service, keytab.at, keytab.size, 300, EACH_NAME), FEVSTUNIK_OK, 0, 0, 0);
+    is_answer("new", first_life(&service, keytab.at, keytab.size, 300, EACH_NAME), FEVSTUNIK_OK, 0, 0, 0);
     is_answer("accept", fevstunik_acceptor_accept(&service, &accepted, keyed.at, keyed.size, &now), FEVSTUNIK_OK, 0, 0, 0);
     is_kept("kept", &accepted, 20, 4294967295);
     is_answer("ready again", fevstunik_accepted_new(&accepted), FEVSTUNIK_OK, 0, 0, 0);
@@ -191,10 +247,10 @@ static void faulty_keytabs(fevstunik_acceptor *service)
 {
     void *held = service->opaque;
 
-    is_answer("skew", fevstunik_acceptor_new(service, keytab.at, keytab.size, 86401, EACH_NAME), FEVSTUNIK_BAD_SKEW, 0, 0, 0);
-    is_answer("version", fevstunik_acceptor_new(service, keytab.at + 1, keytab.size - 1, 300, EACH_NAME), FEVSTUNIK_FILE_VERSION, 0, 0, 0);
-    is_answer("no file", fevstunik_acceptor_new(service, keytab.at, 0, 300, EACH_NAME), FEVSTUNIK_FILE_VERSION, 0, 0, 0);
-    is_answer("cut off", fevstunik_acceptor_new(service, keytab.at, 10, 300, EACH_NAME), FEVSTUNIK_FILE_TRUNCATED, 0, 2, 0);
+    is_answer("skew", first_life(service, keytab.at, keytab.size, 86401, EACH_NAME), FEVSTUNIK_BAD_SKEW, 0, 0, 0);
+    is_answer("version", first_life(service, keytab.at + 1, keytab.size - 1, 300, EACH_NAME), FEVSTUNIK_FILE_VERSION, 0, 0, 0);
+    is_answer("no file", first_life(service, keytab.at, 0, 300, EACH_NAME), FEVSTUNIK_FILE_VERSION, 0, 0, 0);
+    is_answer("cut off", first_life(service, keytab.at, 10, 300, EACH_NAME), FEVSTUNIK_FILE_TRUNCATED, 0, 2, 0);
     is("it stays", service->opaque == held, 1);
 }
 
@@ -320,7 +376,7 @@ static void errors(void)
     fevstunik_acceptor service = FEVSTUNIK_ACCEPTOR_INIT;
     fevstunik_time now = moment(1700000100, 7), late = moment(1700000401, 0);
 
-    is_answer("new", fevstunik_acceptor_new(&service, keytab.at, keytab.size, 300, EACH_NAME), FEVSTUNIK_OK, 0, 0, 0);
+    is_answer("new", first_life(&service, keytab.at, keytab.size, 300, EACH_NAME), FEVSTUNIK_OK, 0, 0, 0);
     is_answer("no error yet", error_of(&service, "host/web@EX", now, sizeof buffer), FEVSTUNIK_NOTHING_THERE, 0, 0, 0);
     is_answer("accept", fevstunik_acceptor_accept(&service, &accepted, request.at, request.size, &now), FEVSTUNIK_OK, 0, 0, 0);
     is_answer("no error of it", error_of(&service, "host/web@EX", now, sizeof buffer), FEVSTUNIK_NOTHING_THERE, 0, 0, 0);
@@ -352,15 +408,15 @@ static void wanted_services(void)
     size_t i;
 
     for (i = 0; i < sizeof others / sizeof *others; i++) {
-        is_answer("another", fevstunik_acceptor_new(&service, keytab.at, keytab.size, 300, (const uint8_t *)others[i], strlen(others[i])),
+        is_answer("another", first_life(&service, keytab.at, keytab.size, 300, (const uint8_t *)others[i], strlen(others[i])),
                   FEVSTUNIK_OK, 0, 0, 0);
         is_answer(others[i], fevstunik_acceptor_accept(&service, &accepted, request.at, request.size, &now), FEVSTUNIK_NOT_US, 35, 0, 0);
         is("nothing is seen", (long long)fevstunik_acceptor_count(&service), 0);
     }
-    is_answer("this one", fevstunik_acceptor_new(&service, keytab.at, keytab.size, 300, WEB), FEVSTUNIK_OK, 0, 0, 0);
+    is_answer("this one", first_life(&service, keytab.at, keytab.size, 300, WEB), FEVSTUNIK_OK, 0, 0, 0);
     is_answer("accept", fevstunik_acceptor_accept(&service, &accepted, request.at, request.size, &now), FEVSTUNIK_OK, 0, 0, 0);
     is_answer("repeat", fevstunik_acceptor_accept(&service, &accepted, request.at, request.size, &now), FEVSTUNIK_REPEAT, 34, 0, 0);
-    is_answer("each", fevstunik_acceptor_new(&service, keytab.at, keytab.size, 300, EACH_NAME), FEVSTUNIK_OK, 0, 0, 0);
+    is_answer("each", first_life(&service, keytab.at, keytab.size, 300, EACH_NAME), FEVSTUNIK_OK, 0, 0, 0);
     is_answer("accept anew", fevstunik_acceptor_accept(&service, &accepted, request.at, request.size, &now), FEVSTUNIK_OK, 0, 0, 0);
     fevstunik_acceptor_free(&service);
 }
@@ -612,7 +668,7 @@ static void keyed_client(void)
     wanted.service.at = 24 + 32;
     wanted.seq = 4294967295;
     wanted.has_subkey = wanted.has_seq = wanted.wants_reply = true;
-    is_answer("new", fevstunik_acceptor_new(&service, keytab.at, keytab.size, 0, EACH_NAME), FEVSTUNIK_OK, 0, 0, 0);
+    is_answer("new", first_life(&service, keytab.at, keytab.size, 0, EACH_NAME), FEVSTUNIK_OK, 0, 0, 0);
     is_answer("keyed", fevstunik_acceptor_accept(&service, &accepted, keyed.at, keyed.size, &now), FEVSTUNIK_OK, 0, 0, 0);
     is_answer("told", fevstunik_accepted_known(&accepted, &known, buffer, sizeof buffer), FEVSTUNIK_OK, 0, 0, 67);
     is_known("keyed", &known, &wanted);
@@ -693,7 +749,7 @@ static void lists(void)
     is_answer("ready", fevstunik_accepted_new(&accepted), FEVSTUNIK_OK, 0, 0, 0);
     is_answer("nothing counted", fevstunik_accepted_count(&accepted, FEVSTUNIK_LIST_CHECKSUM), FEVSTUNIK_NOTHING_THERE, 0, 0, 0);
     is_no_item("nothing there", FEVSTUNIK_LIST_CHECKSUM, 0, FEVSTUNIK_NOTHING_THERE);
-    is_answer("new", fevstunik_acceptor_new(&service, keytab.at, keytab.size, 300, EACH_NAME), FEVSTUNIK_OK, 0, 0, 0);
+    is_answer("new", first_life(&service, keytab.at, keytab.size, 300, EACH_NAME), FEVSTUNIK_OK, 0, 0, 0);
     is_answer("accept", fevstunik_acceptor_accept(&service, &accepted, listed.at, listed.size, &now), FEVSTUNIK_OK, 0, 0, 0);
     are_counted(2, 3, 1, 1);
     is_item("an address", FEVSTUNIK_LIST_ADDRESSES, 0, 2, near, 4);
@@ -703,7 +759,7 @@ static void lists(void)
     is_item("the third", FEVSTUNIK_LIST_TICKET_AUTHORIZATION, 2, 1, "the third", 9);
     is_item("the authenticator's", FEVSTUNIK_LIST_AUTHENTICATOR_AUTHORIZATION, 0, 1, "alone", 5);
     is_item("the checksum", FEVSTUNIK_LIST_CHECKSUM, 0, -138, sum, 16);
-    is_answer("new again", fevstunik_acceptor_new(&service, keytab.at, keytab.size, 300, EACH_NAME), FEVSTUNIK_OK, 0, 0, 0);
+    is_answer("new again", first_life(&service, keytab.at, keytab.size, 300, EACH_NAME), FEVSTUNIK_OK, 0, 0, 0);
     is_answer("accept one without", fevstunik_acceptor_accept(&service, &accepted, request.at, request.size, &now), FEVSTUNIK_OK, 0, 0, 0);
     are_counted(-1, -1, -1, -1);
     fevstunik_acceptor_free(&service);
@@ -723,7 +779,7 @@ static void another_service(void)
     wanted.flags = 0x40610000;
     wanted.has_seq = true;
     is("two keys", both.code, FEVSTUNIK_OK);
-    is_answer("new", fevstunik_acceptor_new(&service, buffer, both.size, 300, EACH_NAME), FEVSTUNIK_OK, 0, 0, 0);
+    is_answer("new", first_life(&service, buffer, both.size, 300, EACH_NAME), FEVSTUNIK_OK, 0, 0, 0);
     is_answer("accept", fevstunik_acceptor_accept(&service, &accepted, other.at, other.size, &now), FEVSTUNIK_OK, 0, 0, 0);
     is_answer("told", fevstunik_accepted_known(&accepted, &known, buffer, sizeof buffer), FEVSTUNIK_OK, 0, 0, 31);
     is_known("another service", &known, &wanted);
@@ -885,7 +941,7 @@ static void contexts(void)
     is("short", answer.code, FEVSTUNIK_SHORT_BUFFER);
     answer = fevstunik_context_request(&credentials, &pending, WEB, &at, confounder, 16, &choice, confounder, 0, &wanted, buffer, sizeof buffer);
     is("in a context", answer.code, FEVSTUNIK_OK);
-    is_answer("service", fevstunik_acceptor_new(&service, keytab.at, keytab.size, 300, WEB), FEVSTUNIK_OK, 0, 0, 0);
+    is_answer("service", first_life(&service, keytab.at, keytab.size, 300, WEB), FEVSTUNIK_OK, 0, 0, 0);
     is_answer("ready", fevstunik_accepted_new(&accepted), FEVSTUNIK_OK, 0, 0, 0);
     is_answer("accepted", fevstunik_acceptor_accept(&service, &accepted, buffer, answer.size, &at), FEVSTUNIK_OK, 0, 0, 0);
     is_answer("checksum", fevstunik_accepted_item(&accepted, FEVSTUNIK_LIST_CHECKSUM, 0, &kind, checksum, sizeof checksum), FEVSTUNIK_OK, 0,
@@ -1035,8 +1091,8 @@ static void two_faults(void)
     is_answer("open short and tag", fevstunik_open(19, key, 16, 2, key, 16, buffer, 64), FEVSTUNIK_TEXT_SHORT, 0, 0, 0);
     is_answer("tag type and tag", fevstunik_checksum_check(17, key, 16, 2, key, 3, key, 16), FEVSTUNIK_KEY_TYPE, 0, 0, 0);
     is_answer("tag length and tag", fevstunik_checksum_check(20, key, 16, 2, key, 3, key, 16), FEVSTUNIK_KEY_LENGTH, 0, 0, 0);
-    is_answer("skew and keytab", fevstunik_acceptor_new(&service, none.at, none.size, 86401, EACH_NAME), FEVSTUNIK_BAD_SKEW, 0, 0, 0);
-    is_answer("new", fevstunik_acceptor_new(&service, keytab.at, keytab.size, 300, EACH_NAME), FEVSTUNIK_OK, 0, 0, 0);
+    is_answer("skew and keytab", first_life(&service, none.at, none.size, 86401, EACH_NAME), FEVSTUNIK_BAD_SKEW, 0, 0, 0);
+    is_answer("new", first_life(&service, keytab.at, keytab.size, 300, EACH_NAME), FEVSTUNIK_OK, 0, 0, 0);
     is_answer("nothing and name", error_of(&service, "host/web", now, sizeof buffer), FEVSTUNIK_NOTHING_THERE, 0, 0, 0);
     is_answer("accept", fevstunik_acceptor_accept(&service, &accepted, request.at, request.size, &now), FEVSTUNIK_OK, 0, 0, 0);
     is_answer("reply confounder and type", reply_of(17, 17, 32, sizeof buffer), FEVSTUNIK_BAD_CONFOUNDER, 0, 0, 0);
@@ -1057,7 +1113,7 @@ static void bad_moments(void)
     fevstunik_time now = moment(1700000101, 7), bad = moment(0, 1000000), latest = moment(0, 0);
     fevstunik_known known;
 
-    is_answer("new", fevstunik_acceptor_new(&service, keytab.at, keytab.size, 300, EACH_NAME), FEVSTUNIK_OK, 0, 0, 0);
+    is_answer("new", first_life(&service, keytab.at, keytab.size, 300, EACH_NAME), FEVSTUNIK_OK, 0, 0, 0);
     is_answer("accept", fevstunik_acceptor_accept(&service, &accepted, request.at, request.size, &now), FEVSTUNIK_OK, 0, 0, 0);
     is_answer("no moment", fevstunik_acceptor_accept(&service, &accepted, request.at, request.size, &bad), FEVSTUNIK_BAD_MOMENT, 0, 0, 0);
     is_answer("none told", fevstunik_accepted_known(&accepted, &known, buffer, sizeof buffer), FEVSTUNIK_NOTHING_THERE, 0, 0, 0);
@@ -1104,8 +1160,8 @@ static void no_bytes(void)
     is_answer("removed", fevstunik_keytab_remove(keytab.at, keytab.size, 0, NULL, 0), FEVSTUNIK_SHORT_BUFFER, 0, 0, keytab.size);
     is_answer("write", fevstunik_keytab_write(NULL, 0, NULL, 0), FEVSTUNIK_FILE_VERSION, 0, 0, 0);
     is_answer("name", fevstunik_name_check(NULL, 0), FEVSTUNIK_NO_REALM, 0, 0, 0);
-    is_answer("no service", fevstunik_acceptor_new(&service, NULL, 0, 300, NULL, 0), FEVSTUNIK_FILE_VERSION, 0, 0, 0);
-    is_answer("each name", fevstunik_acceptor_new(&service, keytab.at, keytab.size, 300, NULL, 0), FEVSTUNIK_OK, 0, 0, 0);
+    is_answer("no service", first_life(&service, NULL, 0, 300, NULL, 0), FEVSTUNIK_FILE_VERSION, 0, 0, 0);
+    is_answer("each name", first_life(&service, keytab.at, keytab.size, 300, NULL, 0), FEVSTUNIK_OK, 0, 0, 0);
     is_answer("no request", fevstunik_acceptor_accept(&service, &accepted, NULL, 0, &now), FEVSTUNIK_MALFORMED, 60, 0, 0);
     is_answer("no name", fevstunik_acceptor_error(&service, NULL, 0, 3, &now, NULL, 0), FEVSTUNIK_NO_REALM, 0, 0, 0);
     is_answer("an error", fevstunik_acceptor_error(&service, WEB, 3, &now, NULL, 0), FEVSTUNIK_SHORT_BUFFER, 0, 0, error.size);
@@ -1162,7 +1218,7 @@ static void stamps(void)
     is_answer("stamp of none", fevstunik_accepted_stamp(&none, 300, &until, buffer, sizeof buffer), FEVSTUNIK_EMPTY_HANDLE, 0, 0, 0);
     is_answer("ready", fevstunik_accepted_new(&accepted), FEVSTUNIK_OK, 0, 0, 0);
     is_stamp("nothing yet", 300, sizeof buffer, FEVSTUNIK_NOTHING_THERE, 0);
-    is_answer("new", fevstunik_acceptor_new(&service, keytab.at, keytab.size, 300, EACH_NAME), FEVSTUNIK_OK, 0, 0, 0);
+    is_answer("new", first_life(&service, keytab.at, keytab.size, 300, EACH_NAME), FEVSTUNIK_OK, 0, 0, 0);
     is("accept", accepted_by(&service, &request, moment(1700000100, 5)), FEVSTUNIK_OK);
     is_stamp("skew", 86401, sizeof buffer, FEVSTUNIK_BAD_SKEW, 0);
     is_stamp("short", 86400, 79, FEVSTUNIK_SHORT_BUFFER, 80);
@@ -1186,11 +1242,11 @@ static void starts(void)
     is_answer("start of none", fevstunik_accepted_start(&none, &start), FEVSTUNIK_EMPTY_HANDLE, 0, 0, 0);
     is_answer("ready", fevstunik_accepted_new(&accepted), FEVSTUNIK_OK, 0, 0, 0);
     is_answer("nothing yet", fevstunik_accepted_start(&accepted, &start), FEVSTUNIK_NOTHING_THERE, 0, 0, 0);
-    is_answer("new", fevstunik_acceptor_new(&service, keytab.at, keytab.size, 300, EACH_NAME), FEVSTUNIK_OK, 0, 0, 0);
+    is_answer("new", first_life(&service, keytab.at, keytab.size, 300, EACH_NAME), FEVSTUNIK_OK, 0, 0, 0);
     is("accept", accepted_by(&service, &request, moment(1700000100, 5)), FEVSTUNIK_OK);
     is_answer("it doesn't say", fevstunik_accepted_start(&accepted, &start), FEVSTUNIK_NOTHING_THERE, 0, 0, 0);
     is("it stays", start.seconds == 7 && start.micros == 7, 1);
-    is_answer("new", fevstunik_acceptor_new(&service, keytab.at, keytab.size, 300, EACH_NAME), FEVSTUNIK_OK, 0, 0, 0);
+    is_answer("new", first_life(&service, keytab.at, keytab.size, 300, EACH_NAME), FEVSTUNIK_OK, 0, 0, 0);
     is("accept then", accepted_by(&service, &with_start, moment(1700000100, 5)), FEVSTUNIK_OK);
     is_answer("it says so", fevstunik_accepted_start(&accepted, &start), FEVSTUNIK_OK, 0, 0, 0);
     is("the second", start.seconds, 1700000060);
@@ -1205,25 +1261,25 @@ static void new_keytabs(void)
     fevstunik_time latest;
     void *held;
 
-    is_answer("none", fevstunik_acceptor_replace_keytab(&service, keytab.at, keytab.size, EACH_NAME), FEVSTUNIK_EMPTY_HANDLE, 0, 0, 0);
+    is_answer("none", fevstunik_acceptor_replace_keytab(&service, keytab.at, keytab.size, EACH_NAME, true), FEVSTUNIK_EMPTY_HANDLE, 0, 0, 0);
     is("none then", service.opaque == NULL, 1);
-    is_answer("new", fevstunik_acceptor_new(&service, keytab.at, keytab.size, 300, WEB), FEVSTUNIK_OK, 0, 0, 0);
+    is_answer("new", first_life(&service, keytab.at, keytab.size, 300, WEB), FEVSTUNIK_OK, 0, 0, 0);
     is("accept", accepted_by(&service, &request, moment(1700000101, 5)), FEVSTUNIK_OK);
     held = service.opaque;
-    is_answer("no keytab", fevstunik_acceptor_replace_keytab(&service, keytab.at, keytab.size - 1, WEB), FEVSTUNIK_FILE_TRUNCATED, 0, 2, 0);
-    is_answer("no name", fevstunik_acceptor_replace_keytab(&service, keytab.at, keytab.size, (const uint8_t *)"host", 4), FEVSTUNIK_NO_REALM,
+    is_answer("no keytab", fevstunik_acceptor_replace_keytab(&service, keytab.at, keytab.size - 1, WEB, false), FEVSTUNIK_FILE_TRUNCATED, 0, 2, 0);
+    is_answer("no name", fevstunik_acceptor_replace_keytab(&service, keytab.at, keytab.size, (const uint8_t *)"host", 4, false), FEVSTUNIK_NO_REALM,
               0, 0, 0);
-    is_answer("the keytab first", fevstunik_acceptor_replace_keytab(&service, keytab.at, 1, (const uint8_t *)"host", 4), FEVSTUNIK_FILE_VERSION,
+    is_answer("the keytab first", fevstunik_acceptor_replace_keytab(&service, keytab.at, 1, (const uint8_t *)"host", 4, false), FEVSTUNIK_FILE_VERSION,
               0, 0, 0);
     is("a repeat", accepted_by(&service, &request, moment(1700000101, 5)), FEVSTUNIK_REPEAT);
-    is_answer("no entries", fevstunik_acceptor_replace_keytab(&service, keytab.at, 2, WEB), FEVSTUNIK_OK, 0, 0, 0);
+    is_answer("no entries", fevstunik_acceptor_replace_keytab(&service, keytab.at, 2, WEB, false), FEVSTUNIK_OK, 0, 0, 0);
     is("no key", accepted_by(&service, &request, moment(1700000101, 5)), FEVSTUNIK_NOT_US);
-    is_answer("the same", fevstunik_acceptor_replace_keytab(&service, keytab.at, keytab.size, WEB), FEVSTUNIK_OK, 0, 0, 0);
+    is_answer("the same", fevstunik_acceptor_replace_keytab(&service, keytab.at, keytab.size, WEB, false), FEVSTUNIK_OK, 0, 0, 0);
     is("a repeat still", accepted_by(&service, &request, moment(1700000100, 5)), FEVSTUNIK_REPEAT);
     is("remembered", (long long)fevstunik_acceptor_count(&service), 1);
     is_answer("latest", fevstunik_acceptor_latest(&service, &latest), FEVSTUNIK_OK, 0, 0, 0);
     is("the latest", latest.seconds, 1700000101);
-    is_answer("another name", fevstunik_acceptor_replace_keytab(&service, keytab.at, keytab.size, (const uint8_t *)"host/mail@EX", 12),
+    is_answer("another name", fevstunik_acceptor_replace_keytab(&service, keytab.at, keytab.size, (const uint8_t *)"host/mail@EX", 12, false),
               FEVSTUNIK_OK, 0, 0, 0);
     is("not us", accepted_by(&service, &request, moment(1700000101, 5)), FEVSTUNIK_NOT_US);
     is("one service", held != NULL && service.opaque != NULL, 1);
@@ -1235,12 +1291,12 @@ static void whole_life(void)
 {
     fevstunik_acceptor service = FEVSTUNIK_ACCEPTOR_INIT;
 
-    is_answer("new", fevstunik_acceptor_new(&service, keytab.at, keytab.size, 300, EACH_NAME), FEVSTUNIK_OK, 0, 0, 0);
+    is_answer("new", first_life(&service, keytab.at, keytab.size, 300, EACH_NAME), FEVSTUNIK_OK, 0, 0, 0);
     faulty_keytabs(&service);
     is_accepted(&service);
     replies();
     is_refused(&service);
-    is_answer("new again", fevstunik_acceptor_new(&service, keytab.at, keytab.size, 300, EACH_NAME), FEVSTUNIK_OK, 0, 0, 0);
+    is_answer("new again", first_life(&service, keytab.at, keytab.size, 300, EACH_NAME), FEVSTUNIK_OK, 0, 0, 0);
     is("count anew", (long long)fevstunik_acceptor_count(&service), 0);
     fevstunik_acceptor_free(&service);
     fevstunik_acceptor_free(&service);
@@ -1256,7 +1312,7 @@ static void kept_credentials(void)
 int main(int count, char **words)
 {
     static void (*const parts[])(void) = {
-        empty_handles, started_again, negative_number, unready, kept_apart, ready_again, wanted_services, constants, whole_life, keyed_client,
+        empty_handles, started_again, options, negative_number, unready, kept_apart, ready_again, wanted_services, constants, whole_life, keyed_client,
         another_service, lists, stamps, starts, new_keytabs, errors, names, files, listings, kept_keytab, kept_cache, second_credential, edits,
         additions, second_entry, kept_credentials, requests, negative_answer, contexts, empty_askings, agreements, texts, two_faults_of_requests,
         two_faults, bad_moments, no_bytes};

@@ -4,6 +4,7 @@
  * that begins with `wrong` is one. */
 #include "checks.h"
 #include "listed.h"
+#include "made.h"
 
 /* Where the request has its options, and the encryption type of its ticket. */
 #define OPTIONS_AT 23
@@ -59,19 +60,19 @@ static fevstunik_pending pending;
 
 static fevstunik_answer making(void)
 {
-    return fevstunik_acceptor_new(&service, keytab.at, keytab.size, 300, WEB);
+    return first_life(&service, keytab.at, keytab.size, 300, WEB);
 }
 
 static fevstunik_answer starting(void)
 {
     static const fevstunik_time start = {1699999799, 0};
 
-    return fevstunik_acceptor_started(&service, keytab.at, keytab.size, 300, WEB, &start);
+    return started(&service, keytab.at, keytab.size, 300, WEB, &start);
 }
 
 static fevstunik_answer renewing(void)
 {
-    return fevstunik_acceptor_replace_keytab(&service, keytab.at, keytab.size, WEB);
+    return fevstunik_acceptor_replace_keytab(&service, keytab.at, keytab.size, WEB, false);
 }
 
 static fevstunik_answer stamping(void)
@@ -451,12 +452,12 @@ static fevstunik_answer writing_cut(void)
 
 static fevstunik_answer making_of_cut(void)
 {
-    return fevstunik_acceptor_new(&service, cut.at, cut.size, 300, WEB);
+    return first_life(&service, cut.at, cut.size, 300, WEB);
 }
 
 static fevstunik_answer renewing_by_cut(void)
 {
-    return fevstunik_acceptor_replace_keytab(&service, cut.at, cut.size, WEB);
+    return fevstunik_acceptor_replace_keytab(&service, cut.at, cut.size, WEB, false);
 }
 
 /* There is no memory for the first record, and the fault of the second one is reported. */

@@ -8,7 +8,7 @@
 
 static uint8_t file[MOST], kept_bytes[4096], new_bytes[4096];
 
-static fevstunik_answer ask(const fevstunik_cache *cache, const char *service, long number, uint8_t *bytes)
+static fevstunik_answer ask(fevstunik_cache *cache, const char *service, long number, uint8_t *bytes)
 {
     fevstunik_pending pending = FEVSTUNIK_PENDING_INIT;
     const fevstunik_choice choice = {0, 0, false, true};
@@ -23,7 +23,7 @@ static fevstunik_answer ask(const fevstunik_cache *cache, const char *service, l
     return answer;
 }
 
-static void compare(const fevstunik_cache *kept, size_t size, long number, long service)
+static void compare(fevstunik_cache *kept, size_t size, long number, long service)
 {
     fevstunik_cache new = FEVSTUNIK_CACHE_INIT;
     fevstunik_answer one, other;

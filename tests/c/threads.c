@@ -5,6 +5,7 @@
 
 #include "checks.h"
 #include "listed.h"
+#include "made.h"
 
 #define THREADS 8
 #define CLIENTS 40
@@ -51,7 +52,7 @@ static void make(int at)
     memcpy(requests[at].client, name, 8);
 }
 
-static void look(struct seen *seen, const fevstunik_accepted *accepted, int at, uint32_t code)
+static void look(struct seen *seen, fevstunik_accepted *accepted, int at, uint32_t code)
 {
     uint8_t buffer[256];
     fevstunik_known known;
@@ -144,7 +145,7 @@ int main(int count, char **words)
         is("a cache", fevstunik_cache_new(&held[i], caches[i].at, caches[i].size).code, FEVSTUNIK_OK);
     for (i = 0; i < REQUESTS + CLIENTS; i++)
         make(i);
-    is_answer("new", fevstunik_acceptor_new(&service, keytab.at, keytab.size, 300, WEB), FEVSTUNIK_OK, 0, 0, 0);
+    is_answer("new", first_life(&service, keytab.at, keytab.size, 300, WEB), FEVSTUNIK_OK, 0, 0, 0);
     is_seen("each is its own client's", send_all(0, REQUESTS, 0), REQUESTS, 0);
     is("all are remembered", (long long)fevstunik_acceptor_count(&service), REQUESTS);
     is_seen("none again", send_all(0, 2 * CLIENTS, 1), 0, 2 * CLIENTS * THREADS);

@@ -110,14 +110,6 @@ def test_options(program):
     assert sorted(it for it in words - {"help", "--help"} if it not in manual or it not in document) == []
 
 
-def test_manual(tmp_path):
-    """The manual page of the library is what its script makes of the header (packaging/manual.py makes it)."""
-    page = tmp_path / "fevstunik.3"
-    ran = subprocess.run([sys.executable, TOP / "packaging/manual.py", page], capture_output=True, text=True)
-    assert ran.returncode == 0, ran.stderr
-    assert page.read_text() == text_of("docs/man/fevstunik.3")
-
-
 def test_completions(program, tmp_path):
     """The completions are what their script makes of the program's help (packaging/completion.py makes them)."""
     folder = TOP / "packaging/completion"

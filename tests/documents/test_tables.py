@@ -37,8 +37,8 @@ def numbers(text):
 
 
 def messages():
-    """The sources and definitions of messages that packaging/messages.py makes from their table."""
-    ran = subprocess.run([sys.executable, TOP / "packaging/messages.py", "--check"], capture_output=True, text=True)
+    """What tools/generate makes of tables: the sources of messages, and the files of the library for C."""
+    ran = subprocess.run([sys.executable, "-m", "tools.generate", "--check"], cwd=TOP, capture_output=True, text=True)
     return ran.stderr.strip() or same(ran.returncode, 0)
 
 

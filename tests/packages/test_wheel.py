@@ -19,7 +19,7 @@ RELEASES = {"bookworm": (3, 11), "trixie": (3, 13)}
 LOGIN = """import sys
 import fevstunik
 from fevstunik import Acceptor, CredentialCache, Keytab, Refused, make_request
-cache, service = CredentialCache.read(sys.argv[2]), Acceptor(Keytab.read(sys.argv[1]), "host/web@EX", started=None)
+cache, service = CredentialCache.read(sys.argv[2]), Acceptor(Keytab.read(sys.argv[1]), "host/web@EX", first_life=True)
 request, pending = make_request(cache, "host/web@EX", now=1_700_000_100)
 accepted = service.accept(request, now=1_700_000_100)
 print(sys.version_info[:2], fevstunik.version(), accepted.client, pending.finish(accepted.reply()).client)

@@ -342,10 +342,8 @@ def of_the_program(program, realm, kind):
 
 def refusals(service):
     for header, why in ((None, "no token"), ("Basic YTpi", "no token"), ("Negotiate *", "Only base64 data is allowed"),
-                        ("Negotiate " + base64.b64encode(b"NTLMSSP\0\1").decode(),
-                         "NOT_A_TOKEN: the first byte isn't that of a token"),
-                        ("Negotiate " + base64.b64encode(bytes.fromhex("600a06062b0601050205 0000")).decode(),
-                         "IAKERB: the mechanism at `at` is IAKERB, at 4")):
+                        ("Negotiate " + base64.b64encode(b"NTLMSSP\0\1").decode(), "NOT_A_TOKEN: the first byte isn't that of a token"),
+                        ("Negotiate " + base64.b64encode(bytes.fromhex("600a06062b0601050205 0000")).decode(), "IAKERB: the mechanism is IAKERB, not Kerberos, at 4")):
         yield f"{header} is refused", is_it(service.asked(header)[:2], (401, ["Negotiate"]))
         yield f"the log says why of {header}", is_it(service.last(), why)
 

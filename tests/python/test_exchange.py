@@ -18,7 +18,7 @@ LONG, SHORT = Key(20, bytes(range(32, 64))), Key(19, bytes(range(64, 80)))
 
 @pytest.fixture
 def service():
-    with Acceptor(Keytab(fixture.keytab()), SERVICE, started=None) as made:
+    with Acceptor(Keytab(fixture.keytab()), SERVICE, first_life=True) as made:
         yield made
 
 
@@ -48,7 +48,7 @@ def test_a_request_is_accepted(service):
 
 
 def test_other_numbers(service):
-    whole = Acceptor(Keytab(fixture.keytab()).added(c_cases_entry()), None, started=None)
+    whole = Acceptor(Keytab(fixture.keytab()).added(c_cases_entry()), None, first_life=True)
     accepted = whole.accept(c_cases.for_another_service(), AT)
     assert (accepted.service, accepted.client_type, accepted.service_type, accepted.seq) == ("a\\/b@EX", -7, -3, 0)
     assert accepted.flags == TicketFlags(0x4061_0000) and accepted.subkey is None and not accepted.wants_reply
@@ -115,20 +115,41 @@ def test_malformed_repeat_and_start(service):
 
 def test_acceptors_that_are_none():
     keytab = Keytab(fixture.keytab())
-    with pytest.raises(TypeError):
-        Acceptor(keytab, SERVICE)
     with pytest.raises(ValueError):
-        Acceptor(keytab, "", started=None)
+        Acceptor(keytab, "", first_life=True)
     with pytest.raises(OverflowError):
-        Acceptor(keytab, SERVICE, 2**32, started=None)
-    assert fault_of(lambda: Acceptor(keytab, SERVICE, 86_401, started=None))[0] == "BAD_SKEW"
-    assert fault_of(lambda: Acceptor(keytab, "host/web", started=1.5))[0] == "NO_REALM"
-    assert fault_of(lambda: Acceptor(keytab, "ho\\st@EX", started=None)) == ("BAD_TEXT", 810, 0, 2)
+        Acceptor(keytab, SERVICE, 2**32, first_life=True)
+    assert fault_of(lambda: Acceptor(keytab, SERVICE, 86_401, first_life=True))[0] == "BAD_SKEW"
+    assert fault_of(lambda: Acceptor(keytab, "host/web", started=AT))[0] == "NO_REALM"
+    assert fault_of(lambda: Acceptor(keytab, "ho\\st@EX", first_life=True)) == ("BAD_TEXT", 810, 0, 2)
+
+
+@pytest.mark.parametrize("words", [
+    {}, {"started": None}, {"first_life": False}, {"started": None, "first_life": False}, {"started": AT, "first_life": True},
+    {"started": True}, {"started": False}, {"first_life": 1}, {"first_life": None}, {"started": "now"}])
+def test_acceptors_without_a_word_on_restarts(words):
+    with pytest.raises(TypeError):
+        Acceptor(Keytab(fixture.keytab()), SERVICE, **words)
+
+
+@pytest.mark.parametrize("start", [0, 0.0, -1, 1.5, 86_400, 1_577_836_799, 1_577_836_799.999, Moment(1_577_836_799, 999_999), time.monotonic()])
+def test_starts_that_are_too_early(start):
+    assert fault_of(lambda: Acceptor(Keytab(fixture.keytab()), SERVICE, started=start)) == ("EARLY_START", 419, 0, 0)
+
+
+@pytest.mark.parametrize("start", [float("nan"), float("inf"), -float("inf")])
+def test_starts_that_are_no_moment(start):
+    with pytest.raises(ValueError):
+        Acceptor(Keytab(fixture.keytab()), SERVICE, started=start)
+
+
+def test_the_earliest_start():
+    assert Acceptor(Keytab(fixture.keytab()), SERVICE, started=1_577_836_800).accept(fixture.request(), AT).client == "alice@EX"
 
 
 def test_stamps():
     request = fixture.made()["mutual request with a subkey and a number"]
-    with Acceptor(Keytab(fixture.keytab()), SERVICE, 600, started=None) as service:
+    with Acceptor(Keytab(fixture.keytab()), SERVICE, 600, first_life=True) as service:
         accepted = service.accept(request, AT)
         # the service's own skew, if no other is given
         assert accepted.stamp().keep_until == Moment(AT + 1200, 5)
@@ -186,7 +207,7 @@ def test_a_request_longer_than_the_first_buffer():
     part = c_cases.ticket_part(data=der.sequence(der.key(1, bytes(5_000))))
     with CredentialCache(fixture.cache(c_cases.ticket(part))) as cache:
         request, _ = make_request(cache, SERVICE, now=AT)
-    accepted = Acceptor(Keytab(fixture.keytab()), SERVICE, started=None).accept(request, AT)
+    accepted = Acceptor(Keytab(fixture.keytab()), SERVICE, first_life=True).accept(request, AT)
     assert accepted.authorization == (TypedData(1, bytes(5_000)),)
 
 
@@ -204,8 +225,7 @@ def test_closed(service, cache):
 
 
 def test_context_managers():
-    with CredentialCache(fixture.cache()) as cache, Acceptor(Keytab(fixture.keytab()), SERVICE,
-                                                             started=None) as service:
+    with CredentialCache(fixture.cache()) as cache, Acceptor(Keytab(fixture.keytab()), SERVICE, first_life=True) as service:
         request, pending = make_request(cache, SERVICE, now=AT)
         with pending, service.accept(request, AT) as accepted:
             pending.finish(accepted.reply())

@@ -11,7 +11,7 @@ from types import FunctionType
 
 import fevstunik
 import pytest
-from fevstunik import _library
+from fevstunik import _interface, _library
 
 from support import TOP
 
@@ -41,11 +41,9 @@ def test_functions_are_the_headers():
 
 def test_structs_are_the_headers(tmp_path):
     """Their sizes and places are those that a C compiler gives them."""
-    structs = {"answer": _library.Answer, "time": _library.Time, "span": _library.Span, "known": _library.Known,
-               "agreement": _library.Agreement,
-               "choice": _library.Choice, "key_entry": _library.KeyEntry, "key_parts": _library.KeyParts,
-               "cache_entry": _library.CacheEntry,
-               "owner": _library.Owner, "acceptor": _library.Opaque}
+    kinds = [it for it in vars(_interface).values() if isinstance(it, type) and issubclass(it, ctypes.Structure) and it is not _interface.Opaque]
+    structs = {re.sub("(?<=.)[A-Z]", lambda it: "_" + it[0], it.__name__).lower(): it for it in kinds} | {"acceptor": _interface.Opaque}
+    assert len(structs) == len(re.findall(r"^typedef struct fevstunik_\w+ \{\n(?!    void)", HEADER, re.M)) + 1
     asked, wanted = [], []
     for name, struct in structs.items():
         asked.append(f'printf("{name} %zu\\n", sizeof(fevstunik_{name}));')
@@ -97,7 +95,7 @@ def test_what_is_freed(last, wanted):
     ended = python(f"""
 from fevstunik import Acceptor, Keytab, _library
 call = _library.Library.call
-service = Acceptor(Keytab.read("examples/service.keytab"), "host/web@EX", started=None)
+service = Acceptor(Keytab.read("examples/service.keytab"), "host/web@EX", first_life=True)
 _library.Library.call = lambda self, name, *words: (print(name, flush=True), call(self, name, *words))[1]
 {last}
 """, FEVSTUNIK_LIBRARY=os.environ["FEVSTUNIK_LIBRARY"])

@@ -45,7 +45,7 @@ def sent():
 
 
 def test_one_acceptor(sent):
-    service = Acceptor(Keytab(fixture.keytab()), SERVICE, started=None)
+    service = Acceptor(Keytab(fixture.keytab()), SERVICE, first_life=True)
     found = Counter(each_of(lambda number: sent[number::THREADS], lambda it: answer_of(service, *it)))
     assert found == Counter({(f"{client}@EX", f"{client}@EX"): EACH for client in c_cases.CLIENTS})
     assert service.remembered == len(sent)
@@ -54,16 +54,15 @@ def test_one_acceptor(sent):
 
 
 def test_the_same_requests_by_all(sent):
-    service = Acceptor(Keytab(fixture.keytab()), SERVICE, started=None)
+    service = Acceptor(Keytab(fixture.keytab()), SERVICE, first_life=True)
     found = Counter(each_of(lambda number: sent[number:800] + sent[:number], lambda it: answer_of(service, *it)))
     assert found.pop(220) == (THREADS - 1) * 800 and sum(found.values()) == 800
     assert all(one == other for one, other in found)
 
 
 def test_one_cache_and_one_pending():
-    cache, service = CredentialCache(fixture.cache()), Acceptor(Keytab(fixture.keytab()), SERVICE, started=None)
-    made = each_of(lambda number: range(number, 1_600, THREADS),
-                   lambda micros: make_request(cache, SERVICE, now=Moment(AT, micros))[0])
+    cache, service = CredentialCache(fixture.cache()), Acceptor(Keytab(fixture.keytab()), SERVICE, first_life=True)
+    made = each_of(lambda number: range(number, 1_600, THREADS), lambda micros: make_request(cache, SERVICE, now=Moment(AT, micros))[0])
     assert {answer_of(service, "alice@EX", request) for request in made} == {("alice@EX", "alice@EX")}
     request, pending = make_request(cache, SERVICE, now=Moment(AT, 1_600))
     accepted = service.accept(request, AT)
@@ -73,7 +72,7 @@ def test_one_cache_and_one_pending():
 
 def test_closed_while_it_is_used(sent):
     """A thread closes the service in the middle: each answer is the client, or that the handle is empty."""
-    service = Acceptor(Keytab(fixture.keytab()), SERVICE, started=None)
+    service = Acceptor(Keytab(fixture.keytab()), SERVICE, first_life=True)
 
     def work(it):
         if it == sent[2_000]:
@@ -90,8 +89,7 @@ def test_closed_while_it_is_used(sent):
 def test_each_request_has_a_moment_of_its_own(monkeypatch):
     """Also while the clock stands still: no request is refused as the repeat of another."""
     monkeypatch.setattr("time.time_ns", lambda: AT * 1_000_000_000)
-    with CredentialCache(fixture.cache()) as cache, Acceptor(Keytab(fixture.keytab()), SERVICE,
-                                                             started=None) as service:
+    with CredentialCache(fixture.cache()) as cache, Acceptor(Keytab(fixture.keytab()), SERVICE, first_life=True) as service:
         made = each_of(lambda _: range(EACH), lambda _: make_request(cache, SERVICE)[0])
         times = Counter(service.accept(request, AT).time for request in made)
     assert len(times) == THREADS * EACH and set(times.values()) == {1}
@@ -103,8 +101,7 @@ def test_a_clock_that_is_set_back(monkeypatch):
     nanoseconds = iter([second * 1_000_000_000, second * 1_000_000_000 - 500_000_000, (second - 60) * 1_000_000_000,
                         (second - 60) * 1_000_000_000 + 3_000])
     monkeypatch.setattr("time.time_ns", lambda: next(nanoseconds))
-    with CredentialCache(fixture.cache()) as cache, Acceptor(Keytab(fixture.keytab()), SERVICE,
-                                                             started=None) as service:
+    with CredentialCache(fixture.cache()) as cache, Acceptor(Keytab(fixture.keytab()), SERVICE, first_life=True) as service:
         times = [service.accept(make_request(cache, SERVICE)[0], AT).time for _ in range(4)]
     assert times == [Moment(second), Moment(second, 1), Moment(second - 60), Moment(second - 60, 3)]
 

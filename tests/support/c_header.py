@@ -1,171 +1,101 @@
-"""The header of the library for C beside the crate that it is of: codes, structs, prototypes, and what its comments
-name."""
+"""The crate of the library for C beside the table that its header is made of: structs, prototypes and lists.
+
+The header, the codes and the tables of the Python package are made of crates/krb_c/interface.toml (tools/generate), which says itself if a
+text is wrong. Each check is a pair: its name, and what is wrong, or None.
+"""
 import re
+import subprocess
+import sys
+import tomllib
 
 from support import TOP
+from tools.generate.interface import TABLE, Interface
 
 CRATE = TOP / "crates/krb_c"
 HEADER = TOP / "include/fevstunik.h"
-TYPES = {"u8": "uint8_t", "u32": "uint32_t", "i16": "int16_t", "i32": "int32_t", "i64": "int64_t", "usize": "size_t",
-         "bool": "bool",
-         "Handle": "fevstunik_acceptor", "Slot": "fevstunik_accepted", "KeytabHandle": "fevstunik_keytab",
-         "CacheHandle": "fevstunik_cache",
-         "PendingHandle": "fevstunik_pending"}
-HANDLES = {"Handle", "Slot", "KeytabHandle", "CacheHandle", "PendingHandle"}
-
-
-def without_comments(text):
-    return re.sub(r"/\*.*?\*/", "", text, flags=re.S)
-
-
-def inline_functions():
-    """The functions that the header has whole, with their bodies."""
-    return dict(re.findall(r"^static inline [\w *]+?(fevstunik_\w+)\([^)]*\)\n(\{.*?^\})",
-                           without_comments(HEADER.read_text()), re.M | re.S))
-
-
-def header_functions():
-    """The functions that the header takes from the archive."""
-    return set(re.findall(r"\b(fevstunik_\w+)\s*\(", without_comments(HEADER.read_text()))) - set(inline_functions())
-
-
-def header_codes():
-    return {name: int(value) for name, value in re.findall(r"\bFEVSTUNIK_(?!LIST_|MECHANISM_)(\w+) = (\d+)",
-                                                           without_comments(HEADER.read_text()))}
-
-
-def lists():
-    """The numbers of lists are the crate's."""
-    header = dict(re.findall(r"\bFEVSTUNIK_LIST_(\w+) = (\d+)", without_comments(HEADER.read_text())))
-    crate = dict(re.findall(r"const (\w+): u32 = (\d+);", (CRATE / "src/items.rt").read_text()))
-    return differs(set(header.items()), set(crate.items()))
-
-
-def crate_codes():
-    return {name: int(value) for name, value in re.findall(r"const (\w+): u32 = (\d+);",
-                                                           (CRATE / "src/code.rt").read_text())}
-
-
-def comments():
-    """The header's comment at each function, with what the function returns."""
-    form = (r"/\*((?:(?!\*/).)*)\*/\n"
-            r"(fevstunik_answer|size_t|uint32_t|void|static inline const char) \*?(fevstunik_\w+)\(")
-    return {function: (kind, text) for text, kind, function in re.findall(form, HEADER.read_text(), re.S)}
-
-
-def documented():
-    """The names of the codes that the header names at each function that returns one; a range stands for all of it."""
-    numbers = header_codes()
-    found = {}
-    for function, (kind, text) in comments().items():
-        named = set(re.findall(r"\b(?:FEVSTUNIK)?_([A-Z][A-Z0-9_]*)\b",
-                               re.sub(r"\bFEVSTUNIK_(\w+_INIT|LIST_\w+|MECHANISM_\w+)\b", "", text)))
-        for first, last in re.findall(r"from FEVSTUNIK_(\w+) to[\s*]+FEVSTUNIK_(\w+)", text):
-            named |= {name for name, number in numbers.items() if numbers[first] <= number <= numbers[last]}
-        if kind == "fevstunik_answer":
-            found[function] = named
-    return found
-
-
-def examples():
-    """Each function's comment ends with code that calls it."""
-    told = {function for function, (_, text) in comments().items() if re.search(rf"\n \*     .*\b{function}\(", text)}
-    return differs(told, header_functions() | set(inline_functions()))
-
-
-def kerberos_codes():
-    """The codes of RFC 4120 that the header tells beside its own."""
-    return {name: int(code) for name, code in re.findall(r"\bFEVSTUNIK_(\w+) = \d+,\s*/\* (\d+): ", HEADER.read_text())}
+INTERFACE = Interface(tomllib.loads((TOP / TABLE).read_text()))
+# What the handles are called in the crate.
+HANDLES = {"ServiceHandle": "acceptor", "AcceptedHandle": "accepted", "KeytabHandle": "keytab", "CacheHandle": "cache", "PendingHandle": "pending"}
+# Functions that the header has whole.
+INLINE = {"fevstunik_code_name", "fevstunik_code_text"}
 
 
 def differs(found, wanted):
     return None if found == wanted else f"only here: {sorted(found - wanted)}, only there: {sorted(wanted - found)}"
 
 
-def names_and_texts():
-    """fevstunik_code_name and fevstunik_code_text answer each code's name, and its comment without the code of RFC
-    4120."""
-    found = {function: dict(re.findall(r'case FEVSTUNIK_(\w+): return "([^"]*)";', body)) for function,
-             body in inline_functions().items()}
-    said = dict(re.findall(r"\bFEVSTUNIK_(?!LIST_|MECHANISM_)(\w+) = \d+,?\s*/\* (?:\d+: )?(.*?) \*/",
-                           HEADER.read_text()))
-    wanted = {"fevstunik_code_name": {name: f"FEVSTUNIK_{name}" for name in header_codes()},
-              "fevstunik_code_text": said}
-    return None if found == wanted and set(said) == set(header_codes()) else f"{found}, not {wanted}"
+def header_functions():
+    """The functions that the header takes from the archive."""
+    text = re.sub(r"/\*.*?\*/", "", HEADER.read_text(), flags=re.S)
+    return set(re.findall(r"\b(fevstunik_\w+)\s*\(", text)) - INLINE
 
 
-def order():
-    """The causes stand in the order of the crate's table, each group in its hundreds, and no number is there twice."""
-    numbers = list(header_codes().values())
-    return None if numbers == sorted(set(numbers)) else f"not in order: {numbers}"
+def header_codes():
+    return {it.name: it.number for it in INTERFACE.codes if not it.hidden}
 
 
-def codes():
-    header, crate = header_codes(), crate_codes()
-    other = {name: value for name, value in header.items() if crate.get(name) != value}
-    return f"not those of the crate: {other}" if other else None
+def documented():
+    """The names of the codes that each function returns, for those that return one."""
+    return {f"fevstunik_{it.name}": set(it.codes) for it in INTERFACE.functions if it.codes}
 
 
-def c_type(name):
-    """The header's name of a type of the crate: fevstunik_key_entry for KeyEntry."""
-    return TYPES.get(name) or "fevstunik" + re.sub(r"[A-Z]", lambda it: "_" + it[0].lower(), name)
+def kerberos_codes():
+    """The codes of RFC 4120 that stand beside those of the library."""
+    return {it.name: it.kerberos for it in INTERFACE.codes if it.kerberos is not None}
+
+
+def made():
+    """The files that are made of tables are what they make."""
+    ran = subprocess.run([sys.executable, "-m", "tools.generate", "--check"], cwd=TOP, capture_output=True, text=True)
+    return ran.stderr.strip()[-500:] if ran.returncode else None
+
+
+def lists():
+    """The numbers of lists, and of how repeats are refused across starts, are the crate's."""
+    table = {(one["name"].removeprefix("LIST_"), str(one["number"])) for it in INTERFACE.types if it.name in ("list", "restart") for one in it.numbers}
+    return differs(table, set(re.findall(r"^const (\w+): u32 = (\d+);", crate_text(), re.M)))
 
 
 def crate_text():
     return "\n".join(path.read_text() for path in sorted((CRATE / "src").glob("*.rt")))
 
 
-def fields_of(body):
-    """The fields of a struct of the crate: the name, the type, or that of an array's elements, and how many these
-    are."""
-    found = re.findall(r"^    pub (\w+): (?:(\w+)|\[(\w+); (\d+)\]),$", body, re.M)
-    return [(name, of or element, f"[{count}]" if count else "") for name, of, element, count in found]
+def snake(name):
+    """The table's name of a type of the crate: key_entry for KeyEntry."""
+    return re.sub(r"(?<=.)[A-Z]", lambda it: "_" + it[0], name).lower()
 
 
 def structs():
-    """The header's structs have the crate's fields, in their order. (Handles are opaque.)"""
+    """The table's structs have the crate's fields, in their order."""
     form = r"#\[repr\(C\)\]\n#\[derive\(Clone, Copy\)\]\npub struct (\w+) \{\n(.*?)\n\}"
-    crate = {(c_type(name), tuple((c_type(of), field + count) for field, of, count in fields_of(body)))
+    of = lambda it: it if it.startswith("[") or it.islower() else snake(it)
+    crate = {(snake(name), tuple((field, of(kind)) for field, kind in re.findall(r"^    pub (\w+): ([^,]+),$", body, re.M)))
              for name, body in re.findall(form, crate_text(), re.S)}
-    form = r"typedef struct (\w+) \{\n(.*?)\n\}"
-    header = {(name, tuple(re.findall(r"^    (\w+) (\w+(?:\[\d+\])?);", body, re.M)))
-              for name, body in re.findall(form, without_comments(HEADER.read_text()), re.S)
-              if name not in map(c_type, HANDLES)}
-    return differs(header, crate)
+    return differs({(it.name, tuple((one.name, one.type) for one in it.fields)) for it in INTERFACE.structs}, crate)
 
 
-def c_parameters(name, of, stays):
-    """How C hands in a parameter: a slice as a pointer and a size, a reference as a pointer, and no allocator. A handle
-    is const where a clause says that its value stays."""
-    if of == "Global":
-        return []
+def argument(name, of):
+    """An argument of the crate as the table has it."""
     at = re.sub(r"^&(mut )?", "", of)
-    const = "" if of.startswith("&mut ") and not (stays and at in HANDLES) else "const "
     if at == "[u8]":
-        return [f"{const}uint8_t *{name}", f"size_t {name}_size"]
-    return [f"{const}{c_type(at)} *{name}"] if of.startswith("&") else [f"{c_type(of)} {name}"]
+        return f"{name}: {'buffer' if of.startswith('&mut ') else 'bytes'}"
+    if at in HANDLES:
+        return f"{name}: handle {HANDLES[at]}"
+    how = "out " if of.startswith("&mut ") else "in " if of.startswith("&") else ""
+    return f"{name}: {how}{at if at.islower() or at[0] != at[0].upper() else snake(at)}"
 
 
 def prototypes():
-    """The header's prototypes are those of the crate's exports."""
+    """The table's functions are the crate's exports: their arguments, in their order, and what they return."""
     crate = set()
-    for name, words, answer, clauses in re.findall(r'pub extern "C" fn (\w+)\((.*?)\)(?: -> (\w+))?\n(.*?)^\{$',
-                                                   crate_text(), re.S | re.M):
-        stays = re.findall(r"ensures stays \{ (\w+)\.new\.value ≡ \1\.old\.value \}", clauses)
-        parameters = [it for name_of, of in re.findall(r"(\w+): ([^,]+?)(?:,|\s*$)", words)
-                      for it in c_parameters(name_of, of, name_of in stays)]
-        crate.add(f"{c_type(answer) if answer else 'void'} {name}({', '.join(parameters) or 'void'})")
-    header = re.findall(r"^((?:fevstunik_answer|size_t|uint32_t|void) fevstunik_\w+\([^;]*\));",
-                        without_comments(HEADER.read_text()), re.M)
-    return differs({" ".join(it.split()) for it in header}, crate)
+    for name, words, result in re.findall(r'pub extern "C" fn fevstunik_(\w+)\((.*?)\)(?: -> (\w+))?\n', crate_text(), re.S):
+        arguments = tuple(argument(one, of) for one, of in re.findall(r"(\w+): ([^,]+?)(?:,|\s*$)", words) if of != "Global")
+        crate.add((name, arguments, snake(result) if result else "nothing"))
+    return differs({(it.name, tuple(it.arguments), it.result) for it in INTERFACE.functions}, crate)
 
 
 def header_checks():
-    yield "the header's codes are the crate's", codes()
-    yield "the codes' names and texts are those of the enum", names_and_texts()
-    yield "the codes are in order", order()
-    yield "the header's numbers of lists are the crate's", lists()
-    yield "the header's structs are the crate's", structs()
-    yield "the header's prototypes are the crate's", prototypes()
-    yield "each function has an example in the header", examples()
-    yield "each code is one that a function answers", differs(set().union(*documented().values()), set(header_codes()))
+    yield "what is made of tables is what they make", made()
+    yield "the table's numbers are the crate's", lists()
+    yield "the table's structs are the crate's", structs()
+    yield "the table's functions are the crate's", prototypes()

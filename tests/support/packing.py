@@ -18,7 +18,7 @@ REQUEST = (ROOT / "examples/calls.txt").read_text().split()[2]
 ANSWERS = {"host/web@EX": "alice@EX", "host/mail@EX": "FEVSTUNIK_NOT_US"}
 
 FROM_PYTHON = """import sys, fevstunik
-service = fevstunik.Acceptor(fevstunik.Keytab.read(sys.argv[1]), sys.argv[2], started=None)
+service = fevstunik.Acceptor(fevstunik.Keytab.read(sys.argv[1]), sys.argv[2], first_life=True)
 try:
     print(service.accept(bytes.fromhex(sys.argv[3]), now=1_700_000_100).client)
 except fevstunik.Refused as refused:

@@ -5,7 +5,7 @@ use Rattle.krb_enc.specs.declared.fault.OpenToFault.TheVariants.{ShortSlice}
 use Rattle.krb_enc.specs.Written.{IsWritten}
 use Rattle.krb_c.specs.Answer.{Hands, sized}
 use Rattle.krb_c.specs.Codes.{ok, short_buffer}
-use Rattle.krb_c.specs.declared.answer.Answer.{Answer}
+use Rattle.krb_c.specs.declared.structs.Answer.{Answer}
 
 pub handed : (bytes old new : List ℕ) (size : ℕ) (answer : Answer) → IsWritten OpenToFault (λ needed. ShortSlice needed) bytes old new (Ok size) → answer ≡ sized ok size
     → Hands bytes old new answer

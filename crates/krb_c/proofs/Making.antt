@@ -1,6 +1,6 @@
--- How files are read as the answers that they have, and how a keytab and a skew make a service.
-use Rattle.std.proofs.Common.{◌≡◌, ◌⊎◌, inl, inr, ℕ, ℤ, Option, List, [], ap, refl, subst, sym, ◌∙◌}
-use Rattle.std.specs.Prelude.{Result, Ok, Err, None}
+-- How files are read as the answers that they have.
+use Rattle.std.proofs.Common.{◌≡◌, ◌⊎◌, inl, inr, ℕ, List, ap, subst, sym, ◌∙◌}
+use Rattle.std.specs.Prelude.{Result, Ok, Err}
 use Rattle.krb_keytab.specs.Entry.{KeytabEntry}
 use Rattle.krb_keytab.specs.Format.{IsAnswerOf as IsKeytabAnswerOf, IsFaultOf as IsKeytabFaultOf}
 use Rattle.krb_keytab.specs.declared.fault.KeytabFault.{KeytabFault}
@@ -9,13 +9,9 @@ use Rattle.krb_ccache.specs.Format.{IsAnswerOf, IsFaultOf}
 use Rattle.krb_ccache.specs.Value.{Cache}
 use Rattle.krb_ccache.specs.declared.fault.CacheFault.{CacheFault}
 use Rattle.krb_ccache.specs.declared.fault.CacheFault.TheVariants.{OutOfMemory}
-use Rattle.krb_replay.specs.Memory.{Memory}
-use Rattle.krb_ap.specs.Service.{Service}
-use Rattle.krb_c.specs.Accepting.{IsFresh, Serves, fresh}
 use Rattle.krb_c.specs.Asking.{HasCache}
 use Rattle.krb_c.specs.Editing.{HasKeytab}
-use Rattle.krb_c.specs.declared.answer.Answer.{Answer}
-use Rattle.krb_c.specs.declared.service_state.ServiceState.{ServiceState}
+use Rattle.krb_c.specs.declared.structs.Answer.{Answer}
 
 abbrev fault_or : {X E : Type 0} → E → Result X E → E
 fault_or e (Ok x) = e
@@ -62,15 +58,3 @@ pub keytab_there : (bytes : List ℕ) (f : KeytabFault) (answer : Result (List K
     → ((fault : KeytabFault) → IsKeytabFaultOf bytes fault → ◌≡◌ {A = Result (List KeytabEntry) KeytabFault} (Err f) (Err fault)) → f ≡ keytab.OutOfMemory → HasKeytab bytes
 keytab_there bytes f (Ok entries) is faulty want = (entries, is)
 keytab_there bytes f (Err fault) is faulty want = absurd (subst (IsKeytabFaultOf bytes) (sym (ap (fault_or f) (faulty fault is)) ∙ want) is)
-
-pub fresh_of : (a : Service Memory) (entries found : List KeytabEntry) (skew micros : ℕ) (start : Option ℤ) (memory : Memory)
-    → a.setup ≡ record { entries = found; skew = skew; start = start } → a.memory ≡ memory → memory ≡ record { stamps = []; latest = None }
-    → found ≡ entries → skew ≡ micros → ◌≡◌ {A = ServiceState} (record { acceptor = a; refusal = None }) (fresh entries micros start)
-fresh_of a entries found skew micros start memory s m n e k =
-    λ i. record { acceptor = record { setup = (s ∙ (λ j. record { entries = e j; skew = k j; start = start })) i; memory = (m ∙ n) i }; refusal = None }
-
-pub is_fresh : (a : Service Memory) (text : List ℕ) (entries found kept : List KeytabEntry) (skew micros : ℕ) (start : Option ℤ) (memory : Memory)
-    (state : ServiceState) → a.setup ≡ record { entries = kept; skew = skew; start = start } → a.memory ≡ memory → memory ≡ record { stamps = []; latest = None }
-    → found ≡ entries → skew ≡ micros → Serves text found kept → state ≡ record { acceptor = a; refusal = None } → IsFresh text entries micros start state
-is_fresh a text entries found kept skew micros start memory state s m n e k serves made =
-    (kept, (subst (λ (es : List KeytabEntry). Serves text es kept) e serves, made ∙ fresh_of a kept kept skew micros start memory s m n refl k))

@@ -20,9 +20,9 @@ use Rattle.krb_ap.specs.declared.refusal.Refusal.{Refusal}
 use Rattle.krb_ap.specs.declared.refusal.Refusal.TheVariants.{OutOfMemory}
 use Rattle.krb_c.specs.Answer.{plain, told}
 use Rattle.krb_c.specs.Codes.{nothing_there, ok}
-use Rattle.krb_c.specs.declared.answer.Answer.{Answer}
-use Rattle.krb_c.specs.declared.answer.Time.{Time}
-use Rattle.krb_c.specs.declared.kept.Kept.{Kept}
+use Rattle.krb_c.specs.declared.structs.Answer.{Answer}
+use Rattle.krb_c.specs.declared.structs.Time.{Time}
+use Rattle.krb_c.specs.declared.accepted_state.AcceptedState.{AcceptedState}
 use Rattle.krb_c.specs.declared.service_state.ServiceState.{ServiceState}
 
 -- what it has seen, and the latest moment that it was given
@@ -50,10 +50,6 @@ abbrev pub Serves : List ℕ → List KeytabEntry → List KeytabEntry → Type 
 Serves [] entries kept = kept ≡ entries
 Serves (byte ∷ text) entries kept = (name : Principal) × (IsReadAs (byte ∷ text) (Ok name) × KeepsOnly name entries kept)
 
--- it is new, and decides by the entries of the wanted service
-abbrev pub IsFresh : List ℕ → List KeytabEntry → ℕ → Option ℤ → ServiceState → Type 0
-IsFresh text entries skew start state = (kept : List KeytabEntry) × (Serves text entries kept × (state ≡ fresh kept skew start))
-
 -- what an accepted request is remembered by
 abbrev pub stamp_told : Accepted → Stamp
 stamp_told x = stamp_at x.service x.client (micros_of x.ctime x.cusec)
@@ -73,10 +69,10 @@ abbrev pub cleared : ServiceState → ServiceState
 cleared state = record { acceptor = state.acceptor; refusal = None }
 
 -- nothing accepted is kept
-abbrev pub nothing_kept : Kept
+abbrev pub nothing_kept : AcceptedState
 nothing_kept = record { accepted = None }
 
-abbrev pub emptied : Kept → Kept
+abbrev pub emptied : AcceptedState → AcceptedState
 emptied kept = nothing_kept
 
 -- these are a second of the years 0000 to 9999, and microseconds after it

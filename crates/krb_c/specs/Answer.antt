@@ -6,7 +6,7 @@ use Rattle.krb_ap.specs.Causes.{code_of, offset_of}
 use Rattle.krb_ap.specs.declared.accepted.Accepted.{Accepted}
 use Rattle.krb_ap.specs.declared.refusal.Refusal.{Refusal}
 use Rattle.krb_c.specs.Codes.{cause_code, ok, out_of_memory, short_buffer, file_version, file_truncated, file_bad_item, too_long, no_such_entry, not_read}
-use Rattle.krb_c.specs.declared.answer.Answer.{Answer}
+use Rattle.krb_c.specs.declared.structs.Answer.{Answer}
 
 -- a code alone, or with a number of bytes, or with an offset
 abbrev pub plain : ℕ → Answer

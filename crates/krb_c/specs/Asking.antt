@@ -19,10 +19,10 @@ use Rattle.krb_c.specs.Accepting.{IsMomentOf}
 use Rattle.krb_c.specs.Answer.{Hands, plain, placed, sized}
 use Rattle.krb_c.specs.Choice.{IsChosen, IsConfounderFault, IsSubkeyFault, seq_of}
 use Rattle.krb_c.specs.Codes.{bad_moment, bad_text, bad_ticket, credential_expired, file_bad_item, file_header, file_version, no_credential, no_realm, no_usable_key, not_read, not_utf8, ok, out_of_memory, too_long}
-use Rattle.krb_c.specs.declared.answer.Answer.{Answer}
-use Rattle.krb_c.specs.declared.answer.Time.{Time}
-use Rattle.krb_c.specs.declared.asking.ContextChoice.{ContextChoice}
-use Rattle.krb_c.specs.declared.choice.Choice.{Choice}
+use Rattle.krb_c.specs.declared.structs.Answer.{Answer}
+use Rattle.krb_c.specs.declared.structs.Time.{Time}
+use Rattle.krb_c.specs.declared.structs.ContextChoice.{ContextChoice}
+use Rattle.krb_c.specs.declared.structs.Choice.{Choice}
 
 -- ---- faults
 

@@ -9,8 +9,8 @@ use Rattle.krb_ap.specs.Reply.{IsReply}
 use Rattle.krb_ap.specs.declared.accepted.Accepted.{Accepted}
 use Rattle.krb_c.specs.Answer.{Delivers, plain}
 use Rattle.krb_c.specs.Codes.{bad_confounder, key_length, key_type, nothing_there, ok, out_of_memory, text_integrity, text_short}
-use Rattle.krb_c.specs.declared.answer.Answer.{Answer}
-use Rattle.krb_c.specs.declared.choice.Choice.{Choice}
+use Rattle.krb_c.specs.declared.structs.Answer.{Answer}
+use Rattle.krb_c.specs.declared.structs.Choice.{Choice}
 
 abbrev pub key_value : ℤ → List ℕ → KeyValue
 key_value etype bytes = record { etype = etype; bytes = bytes }

@@ -1,3 +1,4 @@
+-- Made from interface.toml by `make generate`. Don't edit this file.
 -- The codes that calls answer. A number never changes: a cause that comes between two others gets
 -- one of the numbers between theirs.
 use Rattle.std.specs.Prelude.{ℕ, ◌+◌, ◌/◌}
@@ -40,6 +41,18 @@ key_length = 414
 
 abbrev pub no_code : ℕ
 no_code = 415
+
+abbrev pub bad_options : ℕ
+bad_options = 416
+
+abbrev pub no_name : ℕ
+no_name = 417
+
+abbrev pub no_start : ℕ
+no_start = 418
+
+abbrev pub early_start : ℕ
+early_start = 419
 
 abbrev pub file_version : ℕ
 file_version = 500

@@ -6,8 +6,8 @@ use Rattle.krb_gss.specs.declared.checksum.ChecksumFault.TheVariants.{Truncated,
 use Rattle.krb_c.specs.Answer.{Tells, plain}
 use Rattle.krb_c.specs.Codes.{context_bindings, context_delegation, context_truncated}
 use Rattle.krb_c.specs.Known.{is_there, span}
-use Rattle.krb_c.specs.declared.answer.Answer.{Answer}
-use Rattle.krb_c.specs.declared.contexts.Context.{Context}
+use Rattle.krb_c.specs.declared.structs.Answer.{Answer}
+use Rattle.krb_c.specs.declared.structs.Context.{Context}
 
 abbrev pub context_answer : ChecksumFault → Answer
 context_answer Truncated = plain context_truncated

@@ -13,8 +13,8 @@ use Rattle.krb_keytab.specs.declared.fault.KeytabFault.TheVariants as keytab
 use Rattle.krb_c.specs.Answer.{keytab_answer, plain, sized}
 use Rattle.krb_c.specs.Asking.{HasName, IsNameFault}
 use Rattle.krb_c.specs.Codes.{ok, out_of_memory, too_long}
-use Rattle.krb_c.specs.declared.answer.Answer.{Answer}
-use Rattle.krb_c.specs.declared.editing.KeyParts.{KeyParts}
+use Rattle.krb_c.specs.declared.structs.Answer.{Answer}
+use Rattle.krb_c.specs.declared.structs.KeyParts.{KeyParts}
 
 abbrev pub HasKeytab : List ℕ → Type 0
 HasKeytab bytes = (entries : List KeytabEntry) × IsKeytab bytes entries

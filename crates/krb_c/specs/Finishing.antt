@@ -10,8 +10,8 @@ use Rattle.krb_ap.specs.declared.finish_fault.FinishFault.TheVariants as reply
 use Rattle.krb_c.specs.Answer.{Tells, placed, plain}
 use Rattle.krb_c.specs.Codes.{out_of_memory, reply_integrity, reply_malformed, reply_mismatch, reply_type}
 use Rattle.krb_c.specs.Known.{is_there, key_bytes, key_type, number_or_zero, span}
-use Rattle.krb_c.specs.declared.answer.Answer.{Answer}
-use Rattle.krb_c.specs.declared.agreement.Agreement.{Agreement}
+use Rattle.krb_c.specs.declared.structs.Answer.{Answer}
+use Rattle.krb_c.specs.declared.structs.Agreement.{Agreement}
 
 -- why a reply is refused; 46 is KRB_AP_ERR_MUT_FAIL
 abbrev pub finish_answer : FinishFault → Answer

@@ -6,7 +6,7 @@ use Rattle.krb_msg.specs.declared.typed.Typed.{Typed}
 use Rattle.krb_ap.specs.declared.accepted.Accepted.{Accepted}
 use Rattle.krb_c.specs.Answer.{Hands, plain, sized}
 use Rattle.krb_c.specs.Codes.{no_such_entry, nothing_there, ok}
-use Rattle.krb_c.specs.declared.answer.Answer.{Answer}
+use Rattle.krb_c.specs.declared.structs.Answer.{Answer}
 
 -- the numbers of the lists
 

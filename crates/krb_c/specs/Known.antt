@@ -1,14 +1,14 @@
 -- What is returned of an accepted request: bytes one after another, and the place of each part
 -- among them.
-use Rattle.std.specs.Prelude.{◌≡◌, ◌⊎◌, ℕ, ℤ, pos, Bool, true, false, List, [], ◌++◌, length, Option, Some, None}
+use Rattle.std.specs.Prelude.{◌≡◌, ℕ, ℤ, pos, Bool, true, false, List, [], ◌++◌, length, Option, Some, None}
 use Rattle.krb_name.specs.Text.{text_of}
 use Rattle.krb_msg.specs.declared.key.RawKey.{RawKey}
 use Rattle.krb_ap.specs.declared.accepted.Accepted.{Accepted}
 use Rattle.krb_c.specs.Answer.{Tells, plain}
 use Rattle.krb_c.specs.Codes.{nothing_there}
-use Rattle.krb_c.specs.declared.answer.Answer.{Answer}
-use Rattle.krb_c.specs.declared.known.Known.{Known}
-use Rattle.krb_c.specs.declared.known.Span.{Span}
+use Rattle.krb_c.specs.declared.structs.Answer.{Answer}
+use Rattle.krb_c.specs.declared.structs.Known.{Known}
+use Rattle.krb_c.specs.declared.structs.Span.{Span}
 
 abbrev pub key_bytes : Option RawKey → List ℕ
 key_bytes (Some key) = key.bytes.items

@@ -16,3 +16,4 @@ pub mod TokenAnswers
 pub mod Contexts
 pub mod Stamps
 pub mod Renewing
+pub mod Options

@@ -1,6 +1,6 @@
 -- What is returned of files that are kept: the entry of a keytab or the credential of a cache at an
 -- index; and the owner of a cache.
-use Rattle.std.specs.Prelude.{◌≡◌, ◌⊎◌, ℕ, ℤ, pos, List, [], ◌++◌, Option, Some, None}
+use Rattle.std.specs.Prelude.{◌≡◌, ℕ, ℤ, pos, List, [], ◌++◌, Option, Some, None}
 use Rattle.std.specs.List.{slice_get}
 use Rattle.krb_name.specs.Text.{text_of}
 use Rattle.krb_keytab.specs.Entry.{KeytabEntry}
@@ -10,10 +10,10 @@ use Rattle.krb_ccache.specs.declared.credential.Credential.{Credential}
 use Rattle.krb_c.specs.Answer.{Tells, plain}
 use Rattle.krb_c.specs.Codes.{empty_handle, no_such_entry}
 use Rattle.krb_c.specs.Known.{is_there, span}
-use Rattle.krb_c.specs.declared.answer.Answer.{Answer}
-use Rattle.krb_c.specs.declared.listing.CacheEntry.{CacheEntry}
-use Rattle.krb_c.specs.declared.listing.KeyEntry.{KeyEntry}
-use Rattle.krb_c.specs.declared.listing.Owner.{Owner}
+use Rattle.krb_c.specs.declared.structs.Answer.{Answer}
+use Rattle.krb_c.specs.declared.structs.CacheEntry.{CacheEntry}
+use Rattle.krb_c.specs.declared.structs.KeyEntry.{KeyEntry}
+use Rattle.krb_c.specs.declared.structs.Owner.{Owner}
 
 -- the handle is empty, so nothing is written
 abbrev pub IsEmpty : {Told : Type 0} → Told → Told → List ℕ → List ℕ → Answer → Type 0

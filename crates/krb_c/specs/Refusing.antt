@@ -11,8 +11,8 @@ use Rattle.krb_c.specs.Accepting.{IsMomentOf}
 use Rattle.krb_c.specs.Answer.{Delivers, plain}
 use Rattle.krb_c.specs.Asking.{HasName, IsMomentFault, IsNameFault, moment_of}
 use Rattle.krb_c.specs.Codes.{cause_code, no_code, nothing_there, out_of_memory, too_long}
-use Rattle.krb_c.specs.declared.answer.Answer.{Answer}
-use Rattle.krb_c.specs.declared.answer.Time.{Time}
+use Rattle.krb_c.specs.declared.structs.Answer.{Answer}
+use Rattle.krb_c.specs.declared.structs.Time.{Time}
 
 abbrev pub error_answer : ReplyFault → Answer
 error_answer error.NoCode = plain no_code

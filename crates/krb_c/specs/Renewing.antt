@@ -1,14 +1,14 @@
 -- A service that gets a new keytab, and keeps what it has seen.
-use Rattle.std.specs.Prelude.{◌≡◌, ◌⊎◌, ℕ, List, Option, Some, None, IsSomeAnd}
+use Rattle.std.specs.Prelude.{◌≡◌, ◌≢◌, ◌⊎◌, ℕ, Bool, IsTrue, List, [], Option, Some, None, IsSomeAnd}
 use Rattle.krb_keytab.specs.Entry.{KeytabEntry}
 use Rattle.krb_keytab.specs.Format.{IsKeytab}
 use Rattle.krb_ap.specs.Setup.{Arrival, as_decided, with_entries}
 use Rattle.krb_c.specs.Accepting.{Serves, Stands}
 use Rattle.krb_c.specs.Answer.{plain}
 use Rattle.krb_c.specs.Asking.{IsUnnamed}
-use Rattle.krb_c.specs.Codes.{empty_handle, ok}
+use Rattle.krb_c.specs.Codes.{empty_handle, no_name, ok}
 use Rattle.krb_c.specs.Editing.{HasKeytab, HasKeytabFault}
-use Rattle.krb_c.specs.declared.answer.Answer.{Answer}
+use Rattle.krb_c.specs.declared.structs.Answer.{Answer}
 use Rattle.krb_c.specs.declared.service_state.ServiceState.{ServiceState}
 
 -- the same service with other entries
@@ -32,14 +32,23 @@ pub record IsRenewed (text bytes : List ℕ) (old new : ServiceState) : Type 0 w
   pub new_is : new ≡ renewed old kept
   pub stands : (history : List Arrival) → Stands old history → Stands new (as_decided old.acceptor.setup history)
 
+-- a name is given, or each name of the keytab is to be served
+abbrev pub IsNamed : Bool → List ℕ → Type 0
+IsNamed any_name text = (text ≢ []) ⊎ IsTrue any_name
+
 -- no keytab is read, or it is one and the text isn't a name
 abbrev pub IsUnusable : List ℕ → List ℕ → Answer → Type 0
 IsUnusable text bytes answer = HasKeytabFault bytes answer ⊎ (HasKeytab bytes × IsUnnamed text answer)
 
-abbrev pub Renews : List ℕ → List ℕ → ServiceState → ServiceState → Answer → Type 0
-Renews text bytes old new answer =
-    ((answer ≡ plain ok) × IsRenewed text bytes old new) ⊎ (IsUnusable text bytes answer × (new ≡ old))
+-- no name is given, or else there are no entries of it
+abbrev pub IsNotRenewed : Bool → List ℕ → List ℕ → Answer → Type 0
+IsNotRenewed any_name text bytes answer =
+    ((¬ IsNamed any_name text) × (answer ≡ plain no_name)) ⊎ (IsNamed any_name text × IsUnusable text bytes answer)
 
-abbrev pub RenewsHeld : List ℕ → List ℕ → Option ServiceState → Option ServiceState → Answer → Type 0
-RenewsHeld text bytes None new answer = (answer ≡ plain empty_handle) × (new ≡ None)
-RenewsHeld text bytes (Some old) new answer = IsSomeAnd new (λ state. Renews text bytes old state answer)
+abbrev pub Renews : Bool → List ℕ → List ℕ → ServiceState → ServiceState → Answer → Type 0
+Renews any_name text bytes old new answer =
+    ((answer ≡ plain ok) × (IsNamed any_name text × IsRenewed text bytes old new)) ⊎ (IsNotRenewed any_name text bytes answer × (new ≡ old))
+
+abbrev pub RenewsHeld : Bool → List ℕ → List ℕ → Option ServiceState → Option ServiceState → Answer → Type 0
+RenewsHeld any_name text bytes None new answer = (answer ≡ plain empty_handle) × (new ≡ None)
+RenewsHeld any_name text bytes (Some old) new answer = IsSomeAnd new (λ state. Renews any_name text bytes old state answer)

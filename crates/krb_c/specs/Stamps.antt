@@ -8,8 +8,8 @@ use Rattle.krb_ap.specs.declared.accepted.Accepted.{Accepted}
 use Rattle.krb_c.specs.Accepting.{stamp_told}
 use Rattle.krb_c.specs.Answer.{Hands, plain}
 use Rattle.krb_c.specs.Codes.{bad_moment, bad_skew, nothing_there, ok, out_of_memory}
-use Rattle.krb_c.specs.declared.answer.Answer.{Answer}
-use Rattle.krb_c.specs.declared.answer.Time.{Time}
+use Rattle.krb_c.specs.declared.structs.Answer.{Answer}
+use Rattle.krb_c.specs.declared.structs.Time.{Time}
 
 -- the struct is this moment
 abbrev pub IsTimeOf : ℤ → Time → Type 0

@@ -7,7 +7,7 @@ use Rattle.krb_gss.specs.declared.mechanism.Mechanism.{Mechanism}
 use Rattle.krb_gss.specs.declared.opening.Wrapping.{Wrapping}
 use Rattle.krb_c.specs.Answer.{Hands}
 use Rattle.krb_c.specs.Tokens.{token_answer}
-use Rattle.krb_c.specs.declared.answer.Answer.{Answer}
+use Rattle.krb_c.specs.declared.structs.Answer.{Answer}
 
 abbrev pub says_error : Message → Bool
 says_error (reply bytes) = false

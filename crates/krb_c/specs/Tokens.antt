@@ -12,8 +12,8 @@ use Rattle.krb_gss.specs.declared.opening.Wrapping.{Wrapping}
 use Rattle.krb_gss.specs.declared.opening.Wrapping.TheVariants.{Bare, Negotiated}
 use Rattle.krb_c.specs.Answer.{Hands, placed, plain}
 use Rattle.krb_c.specs.Codes.{iakerb, nested_negotiation, not_a_token, ntlm, other_mechanism, token_continues, token_empty, token_id, token_malformed}
-use Rattle.krb_c.specs.declared.answer.Answer.{Answer}
-use Rattle.krb_c.specs.declared.tokens.Wrapped.{Wrapped}
+use Rattle.krb_c.specs.declared.structs.Answer.{Answer}
+use Rattle.krb_c.specs.declared.structs.Wrapped.{Wrapped}
 
 -- the names of Kerberos as numbers; 0 is none
 abbrev pub mechanism_number : Mechanism → ℕ

@@ -9,8 +9,8 @@ use Rattle.krb_gss.specs.declared.opening.Wrapping.{Wrapping}
 use Rattle.krb_c.specs.Answer.{plain}
 use Rattle.krb_c.specs.Codes.{bad_mechanism, out_of_memory, too_long}
 use Rattle.krb_c.specs.Tokens.{wrapped_of}
-use Rattle.krb_c.specs.declared.answer.Answer.{Answer}
-use Rattle.krb_c.specs.declared.tokens.Wrapped.{Wrapped}
+use Rattle.krb_c.specs.declared.structs.Answer.{Answer}
+use Rattle.krb_c.specs.declared.structs.Wrapped.{Wrapped}
 
 -- the numbers stand for no wrapping
 abbrev pub IsNoWrapping : Wrapped → Type 0

@@ -1,32 +1,31 @@
-//! An accepted request: a handle of its own, which a call of the service fills.
+//! An accepted request.
 
-ghost use Rattle.std.specs.Prelude.{◌≡◌, ◌⊎◌, None, Some};
-ghost use Rattle.std.specs.Option.{MatchOption};
+ghost use Rattle.std.specs.Prelude.{None, Some, ◌≡◌, ◌⊎◌};
 ghost use Rattle.krb_c.specs.Accepting.{nothing_kept};
-ghost use Rattle.krb_c.specs.Choice.{TellsReply};
-ghost use Rattle.krb_c.specs.Items.{Counts, TellsItem};
-ghost use Rattle.krb_c.specs.Known.{TellsKnown};
 ghost use Rattle.krb_c.specs.Answer.{plain};
 ghost use Rattle.krb_c.specs.Codes.{empty_handle, ok, out_of_memory};
+ghost use Rattle.std.specs.Option.{MatchOption};
+ghost use Rattle.krb_c.specs.Known.{TellsKnown};
+ghost use Rattle.krb_c.specs.Items.{Counts, TellsItem};
+ghost use Rattle.krb_c.specs.Choice.{TellsReply};
 
-use crate::answer::Answer;
-use crate::choice::Choice;
+use crate::accepted_handle::AcceptedHandle;
+use crate::accepted_state::AcceptedState;
 use crate::code;
-use crate::items::{count, hand_item};
-use crate::kept::Kept;
-use crate::known::Known;
-use crate::slot::Slot;
+use crate::handle::{empty, put, take};
+use crate::list::{count, hand_item};
+use crate::structs::{Answer, Choice, Known};
 use std::alloc::Global;
 
 /// Makes a handle in which `fevstunik_acceptor_accept` keeps what it accepts. Nothing is kept in it
 /// yet. What the handle held is freed. If memory runs out, the handle is unchanged.
 #[unsafe(no_mangle)]
-pub extern "C" fn fevstunik_accepted_new(accepted: &mut Slot, alloc: Global) -> Answer
+pub extern "C" fn fevstunik_accepted_new(accepted: &mut AcceptedHandle, alloc: Global) -> Answer
     ensures { ((result ≡ plain ok) × (accepted.new.value ≡ Some nothing_kept)) ⊎ ((result ≡ plain out_of_memory) × (accepted.new.value ≡ accepted.old.value)) }
 {
-    match Box::new(alloc, Kept { accepted: None }) {
+    match Box::new(alloc, AcceptedState { accepted: None }) {
         Ok(kept) => {
-            *accepted = Slot::of(kept);
+            put(accepted, kept);
             Answer::plain(code::OK)
         }
         Err(_) => Answer::plain(code::OUT_OF_MEMORY),
@@ -38,7 +37,7 @@ pub extern "C" fn fevstunik_accepted_new(accepted: &mut Slot, alloc: Global) -> 
 /// `known`. The places are written even if the buffer is too short.
 #[unsafe(no_mangle)]
 pub extern "C" fn fevstunik_accepted_known(
-    accepted: &mut Slot,
+    accepted: &mut AcceptedHandle,
     alloc: Global,
     known: &mut Known,
     buffer: &mut [u8],
@@ -47,38 +46,38 @@ pub extern "C" fn fevstunik_accepted_known(
         (λ kept. TellsKnown kept.accepted known.old known.new buffer.old buffer.new result) }
     ensures stays { accepted.new.value ≡ accepted.old.value }
 {
-    match accepted.take(alloc) {
-        Some(kept) => {
-            let answer = kept.tell(alloc, known, buffer);
-            *accepted = Slot::of(kept);
-            answer
-        }
-        None => Answer::plain(code::EMPTY_HANDLE),
-    }
+    let Some(kept) = take(accepted, alloc) else {
+        return Answer::plain(code::EMPTY_HANDLE);
+    };
+    let answer = kept.tell(alloc, known, buffer);
+    put(accepted, kept);
+    answer
 }
 
 /// Counts the items of a list of what was accepted: 1 the ticket's addresses, 2 the ticket's
 /// authorization data, 3 the authenticator's, 4 the authenticator's checksum.
 #[unsafe(no_mangle)]
-pub extern "C" fn fevstunik_accepted_count(accepted: &mut Slot, alloc: Global, list: u32) -> Answer
+pub extern "C" fn fevstunik_accepted_count(
+    accepted: &mut AcceptedHandle,
+    alloc: Global,
+    list: u32,
+) -> Answer
     ensures count { MatchOption accepted.old.value (result ≡ plain empty_handle) (λ kept. Counts kept.accepted list result) }
     ensures stays { accepted.new.value ≡ accepted.old.value }
 {
-    match accepted.take(alloc) {
-        Some(kept) => {
-            let answer = count(&kept.accepted, list);
-            *accepted = Slot::of(kept);
-            answer
-        }
-        None => Answer::plain(code::EMPTY_HANDLE),
-    }
+    let Some(kept) = take(accepted, alloc) else {
+        return Answer::plain(code::EMPTY_HANDLE);
+    };
+    let answer = count(&kept.accepted, list);
+    put(accepted, kept);
+    answer
 }
 
 /// Reads one item of a list of what was accepted; `index` counts from 0. Writes its type to `kind`,
 /// and its bytes to the buffer.
 #[unsafe(no_mangle)]
 pub extern "C" fn fevstunik_accepted_item(
-    accepted: &mut Slot,
+    accepted: &mut AcceptedHandle,
     alloc: Global,
     list: u32,
     index: usize,
@@ -89,20 +88,18 @@ pub extern "C" fn fevstunik_accepted_item(
         (λ kept. TellsItem kept.accepted list index kind.old kind.new buffer.old buffer.new result) }
     ensures stays { accepted.new.value ≡ accepted.old.value }
 {
-    match accepted.take(alloc) {
-        Some(kept) => {
-            let answer = hand_item(&kept.accepted, list, index, kind, buffer);
-            *accepted = Slot::of(kept);
-            answer
-        }
-        None => Answer::plain(code::EMPTY_HANDLE),
-    }
+    let Some(kept) = take(accepted, alloc) else {
+        return Answer::plain(code::EMPTY_HANDLE);
+    };
+    let answer = hand_item(&kept.accepted, list, index, kind, buffer);
+    put(accepted, kept);
+    answer
 }
 
 /// Builds the reply to what was accepted. The confounder is 16 random bytes, new for each call.
 #[unsafe(no_mangle)]
 pub extern "C" fn fevstunik_accepted_reply(
-    accepted: &mut Slot,
+    accepted: &mut AcceptedHandle,
     alloc: Global,
     confounder: &[u8],
     choice: &Choice,
@@ -113,20 +110,18 @@ pub extern "C" fn fevstunik_accepted_reply(
         (λ kept. TellsReply kept.accepted confounder.now choice.now subkey.now buffer.old buffer.new result) }
     ensures stays { accepted.new.value ≡ accepted.old.value }
 {
-    match accepted.take(alloc) {
-        Some(kept) => {
-            let answer = kept.reply(alloc, confounder, choice, subkey, buffer);
-            *accepted = Slot::of(kept);
-            answer
-        }
-        None => Answer::plain(code::EMPTY_HANDLE),
-    }
+    let Some(kept) = take(accepted, alloc) else {
+        return Answer::plain(code::EMPTY_HANDLE);
+    };
+    let answer = kept.reply(alloc, confounder, choice, subkey, buffer);
+    put(accepted, kept);
+    answer
 }
 
 /// Frees what the handle holds. The handle is empty then.
 #[unsafe(no_mangle)]
-pub extern "C" fn fevstunik_accepted_free(accepted: &mut Slot, alloc: Global)
+pub extern "C" fn fevstunik_accepted_free(accepted: &mut AcceptedHandle, alloc: Global)
     ensures { accepted.new.value ≡ None }
 {
-    *accepted = Slot::empty(alloc);
+    *accepted = empty(alloc);
 }

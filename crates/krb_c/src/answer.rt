@@ -1,40 +1,17 @@
 //! What each call answers.
 
-ghost use Rattle.std.specs.Prelude.{◌≡◌, ℕ, List, IfOk, SomeIff};
+ghost use Rattle.std.specs.Prelude.{IfOk, List, SomeIff, length, ℕ, ◌++◌, ◌≡◌};
 ghost use Rattle.krb_time.specs.Moments.{micros_of};
 ghost use Rattle.krb_c.specs.Accepting.{IsMomentOf};
-ghost use Rattle.krb_c.specs.Codes.{cause_code};
-ghost use Rattle.krb_c.specs.Answer.{Hands, Tells, keytab_answer, plain, placed, refused, sized};
+ghost use Rattle.krb_c.specs.Answer.{Hands, Tells, keytab_answer, placed, plain, refused, sized};
 
+use crate::cause::code_of;
 use crate::code;
+use crate::structs::{Answer, Span, Time};
 use krb_ap::Refusal;
 use krb_keytab::KeytabFault;
 use krb_msg::Moment;
 use std::alloc::AllocError;
-
-/// The answer of a call. The numbers that don't belong to its code are 0.
-#[repr(C)]
-#[derive(Clone, Copy)]
-pub struct Answer {
-    /// Success, or why not.
-    pub code: u32,
-    /// The error code of RFC 4120, section 7.5.9, that belongs to it.
-    pub kerberos: i32,
-    /// The offset of a fault, in bytes from the start of the argument.
-    pub at: usize,
-    /// The number of bytes that were written, or are needed.
-    pub size: usize,
-}
-
-/// A moment, counted from 1970-01-01T00:00:00Z.
-#[repr(C)]
-#[derive(Clone, Copy)]
-pub struct Time {
-    /// Whole seconds, of the years 0000 to 9999.
-    pub seconds: i64,
-    /// Microseconds after them: 0 to 999,999.
-    pub micros: u32,
-}
 
 impl Time {
     /// The moment, if these are a second and microseconds of one.
@@ -104,33 +81,6 @@ impl Answer {
     }
 }
 
-// The code of a cause.
-fn code_of(refusal: &Refusal) -> u32
-    ensures { result ≡ cause_code refusal.now }
-{
-    match refusal {
-        Refusal::MessageType => code::MESSAGE_TYPE,
-        Refusal::Malformed(_) => code::MALFORMED,
-        Refusal::UserToUser => code::USER_TO_USER,
-        Refusal::TicketEtype => code::TICKET_ETYPE,
-        Refusal::NotUs => code::NOT_US,
-        Refusal::NoKey => code::NO_KEY,
-        Refusal::BadKeyVersion => code::BAD_KEY_VERSION,
-        Refusal::TicketIntegrity => code::TICKET_INTEGRITY,
-        Refusal::SessionKey => code::SESSION_KEY,
-        Refusal::AuthenticatorIntegrity => code::AUTHENTICATOR_INTEGRITY,
-        Refusal::BadMatch => code::BAD_MATCH,
-        Refusal::Skew => code::SKEW,
-        Refusal::JustStarted => code::JUST_STARTED,
-        Refusal::Repeat => code::REPEAT,
-        Refusal::NotYetValid => code::NOT_YET_VALID,
-        Refusal::Expired => code::EXPIRED,
-        Refusal::Transited => code::TRANSITED,
-        Refusal::Authorization => code::AUTHORIZATION,
-        Refusal::OutOfMemory => code::OUT_OF_MEMORY,
-    }
-}
-
 /// Copies bytes to the start of a buffer, if there is room.
 pub(crate) fn hand_over(bytes: &[u8], buffer: &mut [u8]) -> Answer
     ensures { Hands bytes.now buffer.old buffer.new result }
@@ -160,4 +110,16 @@ pub(crate) fn hand_over_with<R: Copy>(
         }
         Err(_) => Answer::plain(code::OUT_OF_MEMORY),
     }
+}
+
+pub(crate) fn append(bytes: &mut Vec<u8>, more: &[u8]) -> Result<Span, AllocError>
+    ensures bytes { IfOk result (λ span. bytes.new.items ≡ bytes.old.items ++ more.now) }
+    ensures span { IfOk result (λ span. span ≡ record { at = length bytes.old.items; size = length more.now }) }
+{
+    let at = bytes.len();
+    bytes.extend_from_slice(more)?;
+    Ok(Span {
+        at,
+        size: more.len(),
+    })
 }

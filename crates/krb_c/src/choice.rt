@@ -1,27 +1,12 @@
-//! What a side chooses, and keys and confounders in the form in which C passes them.
+//! What a side chooses, and numbers that may be absent.
 
-ghost use Rattle.std.specs.Prelude.{◌≡◌, IfErr, IfOk, length};
-ghost use Rattle.krb_enc.specs.Key.{IsUsable};
-ghost use Rattle.krb_c.specs.Choice.{IsChosen, IsConfounderFault, IsKeyFault, key_value, seq_of};
-ghost use Rattle.std.specs.Prelude.{◌≢◌, pos};
+ghost use Rattle.std.specs.Prelude.{IfErr, IfOk, pos, ◌≡◌, ◌≢◌};
+ghost use Rattle.krb_c.specs.Choice.{IsChosen, IsKeyFault, seq_of};
+ghost use Rattle.krb_c.specs.Known.{is_there, number_or_zero};
 
-use crate::answer::Answer;
-use crate::code;
-use krb_enc::{Key, KeyFault};
-
-/// What a side chooses for a request or a reply.
-#[repr(C)]
-#[derive(Clone, Copy)]
-pub struct Choice {
-    /// The encryption type of its subkey, whose bytes are passed separately: 19, 20, or 0 for none.
-    pub subkey_type: i32,
-    /// Its first sequence number.
-    pub seq: u32,
-    /// Whether it sends a sequence number.
-    pub has_seq: bool,
-    /// Whether a client asks for a reply. A service ignores it.
-    pub wants_reply: bool,
-}
+use crate::key::key_of;
+use crate::structs::{Answer, Choice};
+use krb_enc::Key;
 
 impl Choice {
     /// The sequence number, if one is sent.
@@ -46,27 +31,20 @@ impl Choice {
     }
 }
 
-/// The key of a type and bytes.
-pub(crate) fn key_of(etype: i32, bytes: &[u8]) -> Result<Key, Answer>
-    ensures made { IfOk result (λ key. key ≡ key_value etype bytes.now) }
-    ensures usable { IfOk result IsUsable }
-    ensures fault { IfErr result (λ answer. IsKeyFault etype bytes.now answer) }
+pub(crate) fn number(number: Option<u32>) -> u32
+    ensures { result ≡ number_or_zero number }
 {
-    match Key::new(etype, bytes) {
-        Ok(key) => Ok(key),
-        Err(KeyFault::UnknownEtype) => Err(Answer::plain(code::KEY_TYPE)),
-        Err(KeyFault::WrongLength) => Err(Answer::plain(code::KEY_LENGTH)),
+    match number {
+        Some(number) => number,
+        None => 0,
     }
 }
 
-/// A confounder's 16 bytes.
-pub(crate) fn block_of(bytes: &[u8]) -> Result<[u8; 16], Answer>
-    ensures made { IfOk result (λ block. block ≡ bytes.now) }
-    ensures size { IfOk result (λ block. length bytes.now ≡ 16) }
-    ensures fault { IfErr result (λ answer. IsConfounderFault bytes.now answer) }
+pub(crate) fn has_number(number: Option<u32>) -> bool
+    ensures { result ≡ is_there number }
 {
-    match bytes.try_into() {
-        Ok(block) => Ok(block),
-        Err(_) => Err(Answer::plain(code::BAD_CONFOUNDER)),
+    match number {
+        Some(_) => true,
+        None => false,
     }
 }

@@ -1,9 +1,10 @@
+// Made from interface.toml by `make generate`. Don't edit this file.
+
 //! The codes that calls answer. The header has them under the same names. A number never changes: a
 //! cause that comes between two others gets one of the numbers between theirs.
 
 pub(crate) const OK: u32 = 0;
 
-// Why a request is refused, in the order in which the causes are looked at (`krb_ap::Refusal`).
 pub(crate) const MESSAGE_TYPE: u32 = 100;
 
 pub(crate) const MALFORMED: u32 = 110;
@@ -40,7 +41,6 @@ pub(crate) const TRANSITED: u32 = 250;
 
 pub(crate) const AUTHORIZATION: u32 = 260;
 
-// What may come of many calls.
 pub(crate) const OUT_OF_MEMORY: u32 = 400;
 
 pub(crate) const SHORT_BUFFER: u32 = 401;
@@ -63,7 +63,14 @@ pub(crate) const KEY_LENGTH: u32 = 414;
 
 pub(crate) const NO_CODE: u32 = 415;
 
-// What is wrong with a file.
+pub(crate) const BAD_OPTIONS: u32 = 416;
+
+pub(crate) const NO_NAME: u32 = 417;
+
+pub(crate) const NO_START: u32 = 418;
+
+pub(crate) const EARLY_START: u32 = 419;
+
 pub(crate) const FILE_VERSION: u32 = 500;
 
 pub(crate) const FILE_HEADER: u32 = 501;
@@ -76,7 +83,6 @@ pub(crate) const NO_SUCH_ENTRY: u32 = 504;
 
 pub(crate) const NOT_READ: u32 = 505;
 
-// Why there is no request.
 pub(crate) const NO_CREDENTIAL: u32 = 600;
 
 pub(crate) const NO_USABLE_KEY: u32 = 601;
@@ -85,7 +91,6 @@ pub(crate) const CREDENTIAL_EXPIRED: u32 = 602;
 
 pub(crate) const BAD_TICKET: u32 = 603;
 
-// Why a reply is refused.
 pub(crate) const REPLY_TYPE: u32 = 700;
 
 pub(crate) const REPLY_MALFORMED: u32 = 701;
@@ -94,7 +99,6 @@ pub(crate) const REPLY_INTEGRITY: u32 = 702;
 
 pub(crate) const REPLY_MISMATCH: u32 = 703;
 
-// Why a text isn't opened, or a name isn't read.
 pub(crate) const TEXT_SHORT: u32 = 800;
 
 pub(crate) const TEXT_INTEGRITY: u32 = 801;
@@ -105,7 +109,6 @@ pub(crate) const NO_REALM: u32 = 811;
 
 pub(crate) const NOT_UTF8: u32 = 812;
 
-// Why bytes are no token of GSS-API.
 pub(crate) const NOT_A_TOKEN: u32 = 900;
 
 pub(crate) const TOKEN_MALFORMED: u32 = 901;
@@ -126,7 +129,6 @@ pub(crate) const NESTED_NEGOTIATION: u32 = 913;
 
 pub(crate) const BAD_MECHANISM: u32 = 920;
 
-// Why bytes are no checksum of a client of GSS-API.
 pub(crate) const CONTEXT_TRUNCATED: u32 = 930;
 
 pub(crate) const CONTEXT_BINDINGS: u32 = 931;

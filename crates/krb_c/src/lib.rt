@@ -4,25 +4,33 @@
 //! Each export calls a proved function of the other crates, and states its clauses again for the
 //! arguments that C passes: numbers, slices and structs of numbers. None has a condition that C
 //! could break, except what the header says of pointers and handles. It returns an
-//! [`Answer`](answer::Answer): a code, and what belongs to it. `specs/Answer` and `specs/Codes` say
+//! [`Answer`](structs::Answer): a code, and what belongs to it. `specs/Answer` and `specs/Codes` say
 //! which code reports which fault.
 //!
-//! What outlives a call is kept in a handle: one pointer that is null while the handle is
-//! empty. A [`Handle`](handle::Handle) has a service, a [`Slot`](slot::Slot) an accepted request, a
-//! [`CacheHandle`](cache_handle::CacheHandle) a credential cache, a
-//! [`KeytabHandle`](keytab_handle::KeytabHandle) a keytab, and a
-//! [`PendingHandle`](pending_handle::PendingHandle) a request whose reply is awaited.
+//! `interface.toml` has the interface: the header and the modules [`code`](code), [`cause`](cause)
+//! and [`structs`](structs) are made of it.
 //!
-//! `specs/Accepting` says how a call changes a service and what it accepted. `specs/Known` says
-//! what is returned of an accepted request, `specs/Items` what of its lists, and `specs/Choice`
-//! what a side chooses. `specs/Asking` and `specs/Finishing` say what becomes of a client's request
-//! and of the reply to it. `specs/Refusing` says which error reports a refusal, `specs/Listing`
-//! what is returned of the entries of files, and `specs/Editing` what a changed keytab is.
+//! What outlives a call is kept in a handle: one pointer that is null while the handle is empty.
+//! [`Handle`](handle::Handle) says how a handle holds its value, and there is one type of handle
+//! for each kind of thing: a [`ServiceHandle`](service_handle::ServiceHandle) has a service, an
+//! [`AcceptedHandle`](accepted_handle::AcceptedHandle) an accepted request, a
+//! [`KeytabHandle`](keytab_handle::KeytabHandle) a keytab, a
+//! [`CacheHandle`](cache_handle::CacheHandle) a credential cache, and a
+//! [`PendingHandle`](pending_handle::PendingHandle) a request whose reply is awaited. A call takes
+//! the value out of the handle and puts it back.
+//!
+//! `specs/Options` says what a service is made with, and `specs/Accepting` how a call changes a
+//! service and what it accepted. `specs/Known` says what is returned of an accepted request,
+//! `specs/Items` what of its lists, and `specs/Choice` what a side chooses. `specs/Asking` and
+//! `specs/Finishing` say what becomes of a client's request and of the reply to it.
+//! `specs/Refusing` says which error reports a refusal, `specs/Listing` what is returned of the
+//! entries of files, and `specs/Editing` what a changed keytab is.
 //!
 //! ```c
 //! fevstunik_acceptor service = FEVSTUNIK_ACCEPTOR_INIT;
 //! fevstunik_accepted accepted = FEVSTUNIK_ACCEPTED_INIT;
-//! fevstunik_acceptor_new(&service, keytab, keytab_size, 300, name, name_size);
+//! fevstunik_acceptor_options options = {sizeof options, start, 300, FEVSTUNIK_RESTART_STARTED, false, false};
+//! fevstunik_acceptor_new(&service, keytab, keytab_size, name, name_size, &options);
 //! fevstunik_accepted_new(&accepted);
 //! if (fevstunik_acceptor_accept(&service, &accepted, request, request_size, &now).code == FEVSTUNIK_OK)
 //!     fevstunik_accepted_known(&accepted, &known, buffer, sizeof buffer);
@@ -32,34 +40,34 @@
 #![tactic(auto)]
 
 mod accepted;
-mod acceptor;
-mod agreement;
+mod accepted_handle;
+mod accepted_state;
 mod answer;
-mod asking;
+mod cache;
 mod cache_handle;
+mod cause;
 mod choice;
 mod code;
-mod contexts;
-mod editing;
-mod files;
+mod context;
+mod error;
 mod handle;
-mod items;
-mod keeping;
-mod kept;
+mod key;
+mod keytab;
+mod keytab_file;
 mod keytab_handle;
-mod known;
-mod listing;
-mod names;
+mod list;
+mod name;
+mod pending;
 mod pending_handle;
 mod place;
 mod raw_box;
-mod refusing;
-mod renewing;
-mod sealing;
+mod request;
+mod service;
+mod service_handle;
+mod service_options;
 mod service_state;
-mod slot;
-mod stamps;
-mod token_answers;
-mod tokens;
+mod stamp;
+mod structs;
+mod text;
+mod token;
 mod version;
-mod wrapping;

@@ -1,17 +1,20 @@
 //! What a service's handle holds.
 
-ghost use Rattle.std.specs.Prelude.{◌≡◌, IfErr, IfOk, None, Some};
+ghost use Rattle.krb_c.specs.Answer.{plain, refused};
+ghost use Rattle.std.specs.Prelude.{None, Some, ◌≡◌};
 ghost use Rattle.krb_ap.specs.Setup.{arrival};
 ghost use Rattle.krb_c.specs.Accepting.{Decides, TellsLatest, cleared, latest_of};
-ghost use Rattle.krb_c.specs.Answer.{plain, refused};
 ghost use Rattle.krb_c.specs.Codes.{ok};
-ghost use Rattle.krb_c.specs.Refusing.{Errors, IsErrorFault, TellsError, error_answer};
+ghost use Rattle.krb_c.specs.Refusing.{TellsError};
+ghost use Rattle.krb_c.specs.Renewing.{Renews};
 
-use crate::answer::{Answer, Time, hand_over};
-use crate::asking::typed_name_of;
+use crate::accepted_state::AcceptedState;
+use crate::answer::hand_over;
 use crate::code;
-use crate::kept::Kept;
-use krb_ap::{Accepted, Acceptor, Refusal, ReplyFault, error_reply};
+use crate::error::error_of;
+use crate::service_options::{is_named, served};
+use crate::structs::{Answer, Time};
+use krb_ap::{Accepted, Acceptor, Refusal};
 use krb_msg::Moment;
 use krb_replay::{ReplayMemory, TimedMemory};
 use std::alloc::Global;
@@ -28,7 +31,7 @@ impl ServiceState {
     pub(crate) fn decide(
         &mut self,
         alloc: Global,
-        kept: &mut Kept,
+        kept: &mut AcceptedState,
         bytes: &[u8],
         now: Moment,
     ) -> Answer
@@ -40,7 +43,7 @@ impl ServiceState {
         }
     }
 
-    fn keep(&mut self, kept: &mut Kept, accepted: Accepted) -> Answer
+    fn keep(&mut self, kept: &mut AcceptedState, accepted: Accepted) -> Answer
         ensures state { self.new ≡ record { acceptor = self.old.acceptor; refusal = None } }
         ensures kept { kept.new ≡ record { accepted = Some accepted } }
         ensures answer { result ≡ plain ok }
@@ -50,7 +53,7 @@ impl ServiceState {
         Answer::plain(code::OK)
     }
 
-    fn refuse(&mut self, kept: &mut Kept, refusal: Refusal) -> Answer
+    fn refuse(&mut self, kept: &mut AcceptedState, refusal: Refusal) -> Answer
         ensures state { self.new ≡ record { acceptor = self.old.acceptor; refusal = Some refusal } }
         ensures kept { kept.new ≡ record { accepted = None } }
         ensures answer { result ≡ refused refusal }
@@ -103,39 +106,26 @@ impl ServiceState {
             None => Answer::plain(code::NOTHING_THERE),
         }
     }
-}
 
-/// The error that says why a request was refused.
-pub(crate) fn error_of(
-    alloc: Global,
-    refusal: &Refusal,
-    service: &[u8],
-    name_type: i32,
-    now: &Time,
-) -> Result<Vec<u8>, Answer>
-    ensures error { IfOk result (λ bytes. Errors refusal.now service.now name_type now.now bytes.items) }
-    ensures fault { IfErr result (λ answer. IsErrorFault refusal.now service.now name_type now.now answer) }
-{
-    let service = match typed_name_of(alloc, service, name_type) {
-        Ok(service) => service,
-        Err(answer) => return Err(answer),
-    };
-    let now = match now.moment() {
-        Some(now) => now,
-        None => return Err(Answer::plain(code::BAD_MOMENT)),
-    };
-    match error_reply(alloc, refusal, now, &service) {
-        Ok(bytes) => Ok(bytes),
-        Err(fault) => Err(error_told(fault)),
-    }
-}
-
-fn error_told(fault: ReplyFault) -> Answer
-    ensures { result ≡ error_answer fault }
-{
-    match fault {
-        ReplyFault::NoCode => Answer::plain(code::NO_CODE),
-        ReplyFault::TooLong => Answer::plain(code::TOO_LONG),
-        ReplyFault::OutOfMemory => Answer::plain(code::OUT_OF_MEMORY),
+    /// Takes the keytab's entries of the wanted service in place of its own.
+    pub(crate) fn renew(
+        &mut self,
+        alloc: Global,
+        keytab: &[u8],
+        service: &[u8],
+        any_name: bool,
+    ) -> Answer
+        ensures { Renews any_name service.now keytab.now self.old self.new result }
+    {
+        if !is_named(any_name, service) {
+            return Answer::plain(code::NO_NAME);
+        }
+        match served(alloc, keytab, service) {
+            Ok(keytab) => {
+                let _old = self.acceptor.replace_keytab(keytab);
+                Answer::plain(code::OK)
+            }
+            Err(answer) => answer,
+        }
     }
 }

@@ -2,14 +2,14 @@ use Rattle.std.proofs.Common.{refl, sym, subst}
 use Rattle.std.specs.Prelude.{Ok, Err, Some, None}
 use Rattle.krb_ap.specs.Setup.{arrival}
 use Rattle.krb_c.specs.Accepting.{Decides}
-use Rattle.krb_c.specs.declared.kept.Kept.{Kept}
+use Rattle.krb_c.specs.declared.accepted_state.AcceptedState.{AcceptedState}
 use Rattle.krb_c.specs.declared.service_state.ServiceState.{ServiceState}
 use Rattle.krb_c.proofs.Remembered.{is_remembered}
 use Rattle.krb_c.proofs.service_state.ServiceState.decide.Goals as goal
 
 pub returns-in-Ok : goal.returns-in-Ok
 returns-in-Ok c = let accept = c.in-Ok.ensures in
-    subst (λ (kept : Kept). Decides c.args.self.now c.keep.new.self (arrival c.args.bytes.now c.args.now) kept.accepted c.keep.result) (sym c.keep.ensures.kept) (
+    subst (λ (kept : AcceptedState). Decides c.args.self.now c.keep.new.self (arrival c.args.bytes.now c.args.now) kept.accepted c.keep.result) (sym c.keep.ensures.kept) (
     subst (λ (new : ServiceState). Decides c.args.self.now new (arrival c.args.bytes.now c.args.now) (Some c.in-Ok.accepted) c.keep.result) (sym c.keep.ensures.state) (record {
       outcome = Ok c.in-Ok.accepted;
       answers = accept.answer;
@@ -30,7 +30,7 @@ returns-in-Ok c = let accept = c.in-Ok.ensures in
 
 pub returns-in-Err : goal.returns-in-Err
 returns-in-Err c = let accept = c.in-Err.ensures in
-    subst (λ (kept : Kept). Decides c.args.self.now c.refuse.new.self (arrival c.args.bytes.now c.args.now) kept.accepted c.refuse.result) (sym c.refuse.ensures.kept) (
+    subst (λ (kept : AcceptedState). Decides c.args.self.now c.refuse.new.self (arrival c.args.bytes.now c.args.now) kept.accepted c.refuse.result) (sym c.refuse.ensures.kept) (
     subst (λ (new : ServiceState). Decides c.args.self.now new (arrival c.args.bytes.now c.args.now) None c.refuse.result) (sym c.refuse.ensures.state) (record {
       outcome = Err c.in-Err.refusal;
       answers = accept.answer;

@@ -1,0 +1,120 @@
+//! What the handle of an accepted request holds.
+
+ghost use Rattle.std.specs.Prelude.{IfErr, IfOk, None, ◌≡◌};
+ghost use Rattle.krb_c.specs.Choice.{IsReplyFault, Replied, TellsReply};
+ghost use Rattle.krb_c.specs.Known.{TellsKnown, known_of, told_bytes};
+
+use crate::answer::{append, hand_over, hand_over_with};
+use crate::choice::{has_number, number};
+use crate::code;
+use crate::key::{block_of, bytes_of, has_key, type_of};
+use crate::structs::{Answer, Choice, Known};
+use krb_ap::{Accepted, ReplyOptions};
+use std::alloc::{AllocError, Global};
+
+/// What was accepted, if anything was.
+#[derive(Drop)]
+pub struct AcceptedState {
+    pub accepted: Option<Accepted>,
+}
+
+impl AcceptedState {
+    /// Discards what was accepted.
+    pub(crate) fn clear(&mut self)
+        ensures { self.new ≡ record { accepted = None } }
+    {
+        self.accepted = None;
+    }
+
+    /// Returns what was accepted.
+    pub(crate) fn tell(&self, alloc: Global, known: &mut Known, buffer: &mut [u8]) -> Answer
+        ensures { TellsKnown self.now.accepted known.old known.new buffer.old buffer.new result }
+    {
+        match &self.accepted {
+            Some(accepted) => hand_over_with(tell(alloc, accepted), known, buffer),
+            None => Answer::plain(code::NOTHING_THERE),
+        }
+    }
+
+    /// Builds the reply to what was accepted.
+    pub(crate) fn reply(
+        &self,
+        alloc: Global,
+        confounder: &[u8],
+        choice: &Choice,
+        subkey: &[u8],
+        buffer: &mut [u8],
+    ) -> Answer
+        ensures { TellsReply self.now.accepted confounder.now choice.now subkey.now buffer.old buffer.new result }
+    {
+        match &self.accepted {
+            Some(accepted) => match replied(alloc, accepted, confounder, choice, subkey) {
+                Ok(bytes) => hand_over(bytes.as_slice(), buffer),
+                Err(answer) => answer,
+            },
+            None => Answer::plain(code::NOTHING_THERE),
+        }
+    }
+}
+
+// The reply to what was accepted.
+fn replied(
+    alloc: Global,
+    accepted: &Accepted,
+    confounder: &[u8],
+    choice: &Choice,
+    subkey: &[u8],
+) -> Result<Vec<u8>, Answer>
+    ensures reply { IfOk result (λ bytes. Replied accepted.now confounder.now choice.now subkey.now bytes.items) }
+    ensures fault { IfErr result (λ answer. IsReplyFault confounder.now choice.now subkey.now answer) }
+{
+    let confounder = match block_of(confounder) {
+        Ok(confounder) => confounder,
+        Err(answer) => return Err(answer),
+    };
+    let subkey = match choice.subkey(subkey) {
+        Ok(subkey) => subkey,
+        Err(answer) => return Err(answer),
+    };
+    let options = ReplyOptions {
+        subkey,
+        seq: choice.seq(),
+    };
+    match accepted.reply(alloc, &confounder, options) {
+        Ok(bytes) => Ok(bytes),
+        Err(_) => Err(Answer::plain(code::OUT_OF_MEMORY)),
+    }
+}
+
+/// The bytes that are returned, and the place of each part.
+pub(crate) fn tell(alloc: Global, accepted: &Accepted) -> Result<(Vec<u8>, Known), AllocError>
+    ensures { IfOk result (λ made. (made.0.items ≡ told_bytes accepted.now) × (made.1 ≡ known_of accepted.now)) }
+{
+    let mut bytes = Vec::new(alloc);
+    let text = accepted.client.to_text(alloc)?;
+    let client = append(&mut bytes, text.as_bytes())?;
+    let session_key = append(&mut bytes, accepted.session_key.bytes())?;
+    let subkey = append(&mut bytes, bytes_of(&accepted.subkey))?;
+    let text = accepted.service.to_text(alloc)?;
+    let service = append(&mut bytes, text.as_bytes())?;
+    let known = Known {
+        client,
+        session_key,
+        subkey,
+        service,
+        authtime: accepted.authtime.get(),
+        endtime: accepted.endtime.get(),
+        ctime: accepted.ctime.get(),
+        cusec: accepted.cusec.get(),
+        flags: accepted.flags.0,
+        seq: number(accepted.seq),
+        name_type: accepted.client.name_type,
+        service_type: accepted.service.name_type,
+        session_type: accepted.session_key.etype(),
+        subkey_type: type_of(&accepted.subkey),
+        has_subkey: has_key(&accepted.subkey),
+        has_seq: has_number(accepted.seq),
+        wants_reply: accepted.mutual,
+    };
+    Ok((bytes, known))
+}

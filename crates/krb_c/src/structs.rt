@@ -1,0 +1,253 @@
+// Made from interface.toml by `make generate`. Don't edit this file.
+
+//! The structs of arguments and results, as the header has them.
+
+/// The answer of a call. Numbers that don't belong to the code are 0.
+#[repr(C)]
+#[derive(Clone, Copy)]
+pub struct Answer {
+    /// A fevstunik_code.
+    pub code: u32,
+    /// The error code of RFC 4120, section 7.5.9, or 0 if the code has none (0 isn't success).
+    pub kerberos: i32,
+    /// The place of a fault, in bytes from the start of the argument.
+    pub at: usize,
+    /// The number of bytes that were written, or are needed.
+    pub size: usize,
+}
+
+/// A moment: whole seconds since 1970-01-01T00:00:00Z, without leap seconds, and the microseconds
+/// after them.
+#[repr(C)]
+#[derive(Clone, Copy)]
+pub struct Time {
+    /// -62,167,219,200 to 253,402,300,799.
+    pub seconds: i64,
+    /// 0 to 999,999.
+    pub micros: u32,
+}
+
+/// A place in the buffer.
+#[repr(C)]
+#[derive(Clone, Copy)]
+pub struct Span {
+    /// Where it begins, in bytes.
+    pub at: usize,
+    /// How many bytes it has.
+    pub size: usize,
+}
+
+/// What is known of an accepted request. The spans are places in the buffer of the call.
+#[repr(C)]
+#[derive(Clone, Copy)]
+pub struct Known {
+    /// The client as text, such as alice@EX, without a zero byte at its end.
+    pub client: Span,
+    /// The key that client and service share: 16 or 32 bytes.
+    pub session_key: Span,
+    /// The key that the client chose, if any; it may have any length.
+    pub subkey: Span,
+    /// The service that was asked for, as text, such as host/web@EX.
+    pub service: Span,
+    /// When the client was authenticated, in seconds.
+    pub authtime: i64,
+    /// When the ticket expires, in seconds.
+    pub endtime: i64,
+    /// The client's time, in seconds.
+    pub ctime: i64,
+    /// And the microseconds after them.
+    pub cusec: u32,
+    /// The ticket's flags; bit 0 of RFC 4120 is the most significant.
+    pub flags: u32,
+    /// The client's first sequence number, or 0.
+    pub seq: u32,
+    /// The type of the client's name.
+    pub name_type: i32,
+    /// The type of the service's name, as the ticket has it.
+    pub service_type: i32,
+    /// The encryption type of the session key: 19 or 20.
+    pub session_type: i32,
+    /// The encryption type of the client's subkey, or 0; any type.
+    pub subkey_type: i32,
+    /// Whether the client chose a subkey.
+    pub has_subkey: bool,
+    /// Whether it chose a sequence number.
+    pub has_seq: bool,
+    /// Whether it asks for a reply.
+    pub wants_reply: bool,
+}
+
+/// What a client and a service agreed on. The spans are places in the buffer of the call.
+#[repr(C)]
+#[derive(Clone, Copy)]
+pub struct Agreement {
+    /// The client as text.
+    pub client: Span,
+    /// The key that client and service share: 16 or 32 bytes.
+    pub session_key: Span,
+    /// The key that the service chose, if any; it may have any length.
+    pub service_subkey: Span,
+    /// The service's first sequence number, or 0.
+    pub service_seq: u32,
+    /// The type of the client's name.
+    pub name_type: i32,
+    /// The encryption type of the session key: 19 or 20.
+    pub session_type: i32,
+    /// The encryption type of the service's subkey, or 0; any type.
+    pub service_subkey_type: i32,
+    /// Whether the service chose a subkey.
+    pub has_service_subkey: bool,
+    /// Whether it chose a sequence number.
+    pub has_service_seq: bool,
+}
+
+/// What a side chooses for its message.
+#[repr(C)]
+#[derive(Clone, Copy)]
+pub struct Choice {
+    /// The encryption type of its subkey: 19, 20, or 0 for no subkey.
+    pub subkey_type: i32,
+    /// Its first sequence number.
+    pub seq: u32,
+    /// Whether it sends the number.
+    pub has_seq: bool,
+    /// Whether a client asks for a reply; a service ignores it.
+    pub wants_reply: bool,
+}
+
+/// An entry of a keytab. The spans are places in the buffer of the call.
+#[repr(C)]
+#[derive(Clone, Copy)]
+pub struct KeyEntry {
+    /// Whose key it is, as text.
+    pub name: Span,
+    /// The key's bytes, up to 65,535.
+    pub key: Span,
+    /// When the entry was written, in seconds.
+    pub timestamp: u32,
+    /// The key's version number.
+    pub kvno: u32,
+    /// The type of the name.
+    pub name_type: i32,
+    /// The encryption type of the key; any type.
+    pub key_type: i16,
+}
+
+/// What an added entry has besides its name and its key.
+#[repr(C)]
+#[derive(Clone, Copy)]
+pub struct KeyParts {
+    /// When the entry is written, in seconds.
+    pub timestamp: u32,
+    /// The key's version number.
+    pub kvno: u32,
+    /// The type of the name.
+    pub name_type: i32,
+    /// The encryption type of the key.
+    pub key_type: i16,
+}
+
+/// A credential of a cache. The spans are places in the buffer of the call.
+#[repr(C)]
+#[derive(Clone, Copy)]
+pub struct CacheEntry {
+    /// Whose ticket it is, as text.
+    pub client: Span,
+    /// The ticket's service, as text; that of a configuration entry ends with `@X-CACHECONF:`.
+    pub server: Span,
+    /// The session key.
+    pub key: Span,
+    /// The bytes of the ticket, or the value of a configuration entry.
+    pub ticket: Span,
+    /// When the client was authenticated, in seconds.
+    pub authtime: u32,
+    /// When the ticket becomes valid, in seconds, or 0.
+    pub starttime: u32,
+    /// When it expires, in seconds.
+    pub endtime: u32,
+    /// The end of the time in which it can be renewed, in seconds, or 0.
+    pub renew_till: u32,
+    /// The ticket's flags; bit 0 of RFC 4120 is the most significant.
+    pub flags: u32,
+    /// The type of the client's name.
+    pub client_type: i32,
+    /// The type of the service's name.
+    pub server_type: i32,
+    /// The encryption type of the session key; any type.
+    pub key_type: i16,
+    /// Whether the ticket is sealed under another ticket's session key.
+    pub is_skey: bool,
+}
+
+/// The owner of a cache, and the offset of its KDC's clock. The span is a place in the buffer of
+/// the call.
+#[repr(C)]
+#[derive(Clone, Copy)]
+pub struct Owner {
+    /// The default principal, as text.
+    pub name: Span,
+    /// The type of its name.
+    pub name_type: i32,
+    /// The KDC's clock offset in seconds, or 0.
+    pub offset_seconds: i32,
+    /// And the microseconds after them.
+    pub offset_micros: i32,
+    /// Whether the cache has an offset.
+    pub has_offset: bool,
+}
+
+/// What a request, and the answer to it, is wrapped in.
+#[repr(C)]
+#[derive(Clone, Copy)]
+pub struct Wrapped {
+    /// The mechanism by which the token names Kerberos: a fevstunik_mechanism, not NONE.
+    pub mechanism: u32,
+    /// The mechanism that a negotiation (SPNEGO) names first; NONE if there is no negotiation.
+    pub negotiated: u32,
+}
+
+/// What a GSS-API client asks for. The spans are places in the buffer that the call was given.
+#[repr(C)]
+#[derive(Clone, Copy)]
+pub struct Context {
+    /// The MD5 hash of the channel's bindings: 16 bytes, zeros if there are none.
+    pub bindings: Span,
+    /// The credentials that it delegates, a KRB-CRED, if any.
+    pub delegation: Span,
+    /// What is after these, which isn't looked at.
+    pub extensions: Span,
+    /// 1 delegation, 2 mutual, 4 replay, 8 sequence, 16 confidentiality, 32 integrity.
+    pub flags: u32,
+    /// Whether it delegates credentials.
+    pub has_delegation: bool,
+}
+
+/// What a GSS-API client asks for when it builds a request.
+#[repr(C)]
+#[derive(Clone, Copy)]
+pub struct ContextChoice {
+    /// 4 replay, 8 sequence, 16 confidentiality, 32 integrity; 1 (delegation) and 2 (mutual) don't
+    /// count.
+    pub flags: u32,
+    /// The MD5 hash of the channel's bindings (RFC 4121, section 4.1.1.2), or zeros if there are
+    /// none.
+    pub bindings: [u8; 16],
+}
+
+/// What a service is made with.
+#[repr(C)]
+#[derive(Clone, Copy)]
+pub struct AcceptorOptions {
+    /// Sizeof (fevstunik_acceptor_options).
+    pub size: usize,
+    /// With FEVSTUNIK_RESTART_STARTED: the service's clock at this start.
+    pub started: Time,
+    /// By how many seconds clocks may differ: up to 86,400; 300 is usual.
+    pub skew: u32,
+    /// A fevstunik_restart.
+    pub restarts: u32,
+    /// Whether each name of the keytab is served if no name is given.
+    pub any_name: bool,
+    /// Whether a start before the year 2020 is meant.
+    pub any_start: bool,
+}

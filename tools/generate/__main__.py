@@ -1,0 +1,42 @@
+"""Makes the files that follow from tables, or checks them.
+
+    python3 -m tools.generate           writes them (`make generate`)
+    python3 -m tools.generate --check   writes none, and ends with 1 after the first line that differs
+
+crates/krb_c/interface.toml is the table of the library for C, crates/krb_msg/messages.toml that of the messages. Debian's python3-jinja2
+must be installed.
+"""
+import itertools
+import sys
+
+from . import ROOT, interface, messages
+
+
+def difference(path, wanted):
+    """What is wrong with a file, or None."""
+    found = (ROOT / path).read_text() if (ROOT / path).exists() else ""
+    if found == wanted:
+        return None
+    pairs = itertools.zip_longest(found.splitlines(), wanted.splitlines())
+    at, (has, should) = next(((at, it) for at, it in enumerate(pairs, 1) if it[0] != it[1]), (0, ("", "another end of the file")))
+    return f"{path}, line {at}: {has!r} isn't {should!r}, as `make generate` makes it"
+
+
+def main(words):
+    if words not in ([], ["--check"]):
+        sys.exit(__doc__)
+    texts = interface.files() | messages.files()
+    for path in messages.left_over(texts):
+        if words:
+            sys.exit(f"{path} isn't made of messages.toml any more")
+        (ROOT / path).unlink()
+    for path, text in texts.items():
+        if not words:
+            (ROOT / path).parent.mkdir(parents=True, exist_ok=True)
+            (ROOT / path).write_text(text)
+        elif wrong := difference(path, text):
+            sys.exit(wrong)
+
+
+if __name__ == "__main__":
+    main(sys.argv[1:])
