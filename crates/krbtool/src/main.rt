@@ -1,52 +1,18 @@
-//! krbtool: looks into the files of Kerberos clients and services.
+//! krbtool: works with the files of Kerberos clients and services, and is a client or a service itself.
 //!
-//! `main` reads the command line, opens the files, and prints a fault's line on standard error. What a
-//! command answers is said by the contract of its engine over a source and a sink, as `list`.
+//! `main` reads the command line and runs the command that it asks for. What the words mean is said by
+//! `krb_command_line`, and what a command answers by the crates `krb_file_commands`, `krb_client_commands` and
+//! `krb_service_command`.
 #![tactic(auto)]
 
-mod accept;
-mod add;
-mod answer_end;
-mod answering;
-mod arguments;
-mod call_line;
-mod check;
-mod command_line;
-mod commands;
-mod convert;
-mod count;
-mod cut;
-mod fault;
-mod fault_line;
-mod finish;
-mod form;
-mod format;
-mod line;
-mod lines;
-mod list;
-mod part_line;
-mod pick;
-mod remove;
-mod request;
 mod run;
-mod run_accept;
-mod run_finish;
-mod run_pick;
-mod run_request;
-mod run_rewrite;
 mod streams;
-mod table;
-mod token_fault;
-mod walk;
-mod whole;
-mod words;
 
-use crate::fault::{EngineFault, FAILED, WRONG_WORDS};
-use crate::fault_line::{fault_line, file_line};
 use crate::run::run;
 use crate::streams::{NOWHERE, hold_streams};
-use crate::words::read_words;
 use clap::error::ErrorKind;
+use krb_command_line::read_words;
+use krb_file_commands::{FAILED, FileFault, WRONG_WORDS, fault_line, file_line};
 use std::alloc::{AllocError, Global};
 use std::io;
 use std::process::ExitCode;
@@ -78,7 +44,7 @@ fn answer(rt: &HostRuntime) -> u8 {
 fn refuse_words(rt: &HostRuntime, kind: io::ErrorKind) -> u8 {
     let _ = match kind {
         io::ErrorKind::OutOfMemory => {
-            eprintln!(rt; "{}", fault_line("words", &EngineFault::OutOfMemory))
+            eprintln!(rt; "{}", fault_line("words", &FileFault::OutOfMemory))
         }
         _ => eprintln!(rt; "krbtool: an argument isn't valid UTF-8"),
     };
@@ -100,7 +66,7 @@ fn show(rt: &HostRuntime, error: &clap::Error) -> u8 {
         ErrorKind::DisplayHelp | ErrorKind::DisplayVersion => match printed {
             Ok(()) => 0,
             Err(_) => {
-                let _ = eprintln!(rt; "{}", fault_line("output", &EngineFault::Write));
+                let _ = eprintln!(rt; "{}", fault_line("output", &FileFault::Write));
                 FAILED
             }
         },

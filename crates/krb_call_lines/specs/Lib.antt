@@ -1,0 +1,4 @@
+pub mod CallLine
+pub mod Forms
+pub mod TokenText
+pub mod Inner

@@ -1,0 +1,21 @@
+use Rattle.std.proofs.Common.{List, ℕ, subst}
+use Rattle.krb_file_commands.proofs.FaultLaws.{if_err_map, if_ok_map}
+use Rattle.krb_client_commands.proofs.RequestLaws.{longer_token, request_asked, token_asked}
+use Rattle.krb_client_commands.specs.Requesting.{IsTokenOf}
+use Rattle.krb_client_commands.proofs.request.printed_bytes.Goals as goal
+
+pub returns-in-Some-clause-bytes : goal.returns-in-Some-clause-bytes
+returns-in-Some-clause-bytes c = if_ok_map c.token_of.result
+    (λ token holds. token_asked c.args.cache.now c.args.asked.now c.in-Some.wrapping c.in_ok-request.request.items token.items c.in-Some.is
+    c.in_ok-request.ensures.request (subst (λ (r : List ℕ). IsTokenOf c.in-Some.wrapping r token.items) c.deref.ensures.value holds))
+    c.token_of.ensures.token
+
+pub returns-in-Some-clause-fault : goal.returns-in-Some-clause-fault
+returns-in-Some-clause-fault c = if_err_map c.token_of.result
+    (λ fault holds apart. longer_token c.args.cache.now c.args.asked.now c.in-Some.wrapping c.in_ok-request.request.items fault c.in-Some.is
+    c.in_ok-request.ensures.request (rw c.deref.ensures.value at (holds apart)))
+    c.token_of.ensures.fault
+
+pub returns-in-None-clause-bytes : goal.returns-in-None-clause-bytes
+returns-in-None-clause-bytes c =
+    request_asked c.args.cache.now c.args.asked.now c.in_ok-request.request.items c.in-None.is c.in_ok-request.ensures.request

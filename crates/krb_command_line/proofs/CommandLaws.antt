@@ -1,0 +1,54 @@
+-- What clap's definition of a simple command asks of krbtool, what an argument is that needs another, and how the rows of a
+-- table are taken one by one.
+use Rattle.std.proofs.Common.{◌≡◌, ◌&&◌, ◌||◌, ◌<◌, ◌+◌, ℕ, Bool, true, false, not, List, [], ◌∷◌, ◌++◌, Result, Ok, Err, drop, fold, get_or, length, map, refl, ap, sym, ◌∙◌, arith}
+use Rattle.std.specs.Prelude.{IfOk}
+use Rattle.std.specs.Borrow.{Bor}
+use Rattle.std.proofs.lemmas.Bool.{ne_eqb}
+use Rattle.std.proofs.lemmas.List.{at_drop_more, length-append}
+use Rattle.clap.specs.Adds.{AddsRequirements}
+use Rattle.clap.specs.Walk.{is_empty}
+use Rattle.clap.specs.Words.{App, app_of, is_simple, rule_of}
+use Rattle.clap.specs.declared.builder.arg.Arg.{Arg}
+use Rattle.clap.specs.declared.builder.arg.ArgPredicate.{ArgPredicate}
+use Rattle.clap.specs.declared.builder.command.Command.{Command}
+use Rattle.krb_command_line.specs.CommandLine.{bare, commands, krbtool, needing_another, with_command}
+
+pub krbtool_is_simple : is_simple krbtool ≡ true
+unfolding krbtool
+krbtool_is_simple = refl
+
+not_empty : {X : Type 0} (xs : List X) (x : X) → is_empty (xs ++ x ∷ []) ≡ false
+not_empty xs x = ne_eqb (length (xs ++ x ∷ [])) 0 (λ is. absurd (omega (arith, is, length-append xs (x ∷ []))))
+
+third_false : (a b c d : Bool) → c ≡ false → (a && (b && (c && d))) ≡ false
+third_false false b c d is = refl
+third_false true false c d is = refl
+third_false true true c d is = ap (λ (v : Bool). v && d) is
+
+-- it has a rule on another argument, and is else the same
+pub is_needing : {E : Type 0} (result : Result Arg E) (arg : Arg) (other : ArgPredicate × Bor (List ℕ))
+    → IfOk result (λ r. AddsRequirements arg r (other ∷ [])) → IfOk result (λ r. rule_of r ≡ needing_another (rule_of arg))
+is_needing (Ok r) arg other adds =
+    let some : is_empty r.needs.items ≡ false = ap is_empty adds.1 ∙ not_empty arg.needs.items other in
+    ap rule_of adds.0
+    ∙ ap (λ (f : Bool). record (rule_of arg) { is_free = f })
+    (third_false (not arg.exclusive) (is_empty arg.conflicts.items) (is_empty r.needs.items) _ some)
+is_needing (Err e) arg other adds = tt
+
+-- what is left to do, after one more row
+pub one_more : {A B C : Type 0} (f : B → A → B) (g : C → A) (rows : List C) (i : ℕ) (d : C) (old new : B) → i < length rows
+    → new ≡ f old (g (get_or rows i d)) → fold f new (map g (drop (i + 1) rows)) ≡ fold f old (map g (drop i rows))
+one_more {A} {B} {C} f g rows i d old new inside is =
+    ap (λ (b : B). fold f b (map g (drop (i + 1) rows))) is
+    ∙ sym (at_drop_more (λ (rest : List C). fold f old (map g rest)) rows i d inside)
+
+pub none_global : (new old arg : Bool) → new ≡ (old || arg) → old ≡ false → arg ≡ false → new ≡ false
+none_global new old arg is no_old no_arg = is ∙ ap (λ (b : Bool). b || arg) no_old ∙ no_arg
+
+-- with every row it is krbtool
+pub is_krbtool : {E : Type 0} (result : Result Command E) (top : App) (rows : List App) → top ≡ bare → rows ≡ commands
+    → IfOk result (λ c. app_of c ≡ fold with_command top rows) → IfOk result (λ c. app_of c ≡ krbtool)
+unfolding krbtool
+is_krbtool (Ok c) top rows is_bare all is =
+    is ∙ ap (λ (app : App). fold with_command app rows) is_bare ∙ ap (λ (apps : List App). fold with_command bare apps) all
+is_krbtool (Err e) top rows is_bare all is = tt

@@ -1,0 +1,12 @@
+use Rattle.std.proofs.Common.{rules}
+use Rattle.std.proofs.lemmas.Result.{err_from_is_err_and}
+use Rattle.krb_file_commands.proofs.FormatLaws.{keytab_fault_passed, keytab_passed}
+use Rattle.krb_file_commands.proofs.format.KeytabFileFormat.count_file.Goals as goal
+
+pub returns-in_err-count : goal.returns-in_err-count
+returns-in_err-count g c =
+    let p = err_from_is_err_and c.from_residual.result c.from_residual.ensures.1 in
+    rw (p.1, p.2) (keytab_fault_passed _ _ _ _ _ c.walk_keytab.result c.in_err-count.field-0.0 c.walk_keytab.ensures c.in_err-count.was)
+
+pub returns : goal.returns
+returns g c = keytab_passed _ _ _ _ _ _ c.walk_keytab.result c.in_ok-count.count _ c.walk_keytab.ensures c.in_ok-count.was (λ v holds. search rules)

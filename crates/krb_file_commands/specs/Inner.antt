@@ -1,0 +1,4 @@
+pub mod Reading
+pub mod Walk
+pub mod Whole
+pub mod Adding

@@ -1,0 +1,25 @@
+//! The name of a service on the command line.
+
+ghost use Rattle.std.specs.Prelude.{◌≡◌, Result, pos, IfOk};
+ghost use Rattle.krb_name.specs.Reading.{IsReadAs, SameAnswer};
+ghost use Rattle.krb_name.specs.declared.principal.Principal.{Principal};
+ghost use Rattle.krb_name.specs.declared.text_fault.TextFault.{TextFault};
+
+use krb_name::{Principal, TextFault};
+use std::alloc::Global;
+
+// A service on a host (RFC 4120, section 6.2: KRB_NT_SRV_HST).
+const SERVICE_NAME_TYPE: i32 = 3;
+
+/// Reads a service's name off its text, as `Principal::from_text` does, and gives it the name type 3, that of a service on a host
+/// (RFC 4120, section 6.2).
+///
+/// # Errors
+/// Those of `Principal::from_text`.
+pub fn read_service(alloc: Global, text: &str) -> Result<Principal, TextFault>
+    ensures read { IsReadAs text.now result }
+    ensures only { (answer : Result Principal TextFault) → IsReadAs text.now answer → SameAnswer result answer }
+    ensures name_type { IfOk result (λ service. service.name_type ≡ pos 3) }
+{
+    Principal::from_text(alloc, text, SERVICE_NAME_TYPE)
+}

@@ -1,0 +1,69 @@
+//! The bytes of a whole keytab: they are read before one is written.
+
+ghost use Rattle.std.specs.Prelude.{◌≡◌, ◌⊎◌, ◌+◌, ◌-◌, ◌^◌, ◌<◌, [], IfOk, IfErr, IfSome, OnErr, length};
+ghost use Rattle.std.specs.Io.KnownBytes.{Appends};
+ghost use Rattle.krb_keytab.specs.Fault as of_keytab;
+ghost use Rattle.krb_name.specs.File.{TakesFile};
+ghost use Rattle.krb_name.specs.Flow.{AppendsBeginning};
+ghost use Rattle.krb_file_commands.specs.Engine.{failed_writes};
+ghost use Rattle.krb_file_commands.specs.Inner.Whole.{HoldsFile};
+
+use crate::fault::FileFault;
+use krb_keytab::KeytabFault;
+use krb_name::{FILE_LIMIT, Sink, Source, Window, write_all};
+use std::alloc::Global;
+
+/// Reads the bytes of a keytab from a source, to its end or to one byte past 16,777,216.
+///
+/// # Errors
+/// - `Read`: a read of the source failed.
+/// - `OutOfMemory`: there is no memory for the bytes.
+pub(crate) fn read_bytes<S: Source>(alloc: Global, source: &mut S) -> Result<Vec<u8>, KeytabFault>
+    requires { S.failure_count source.old < 2 ^ 64 - 1 }
+    ensures bytes { IfOk result (λ bytes.
+        IfSome (S.remaining source.old) (λ whole. HoldsFile whole bytes.items)) }
+    ensures which { IfErr result (λ fault.
+        (fault ≡ KeytabFault.OutOfMemory) ⊎ (fault ≡ KeytabFault.Read)) }
+    ensures taken { TakesFile (S.remaining source.old) (S.remaining source.new) }
+    ensures failed { S.failure_count source.new
+        ≡ S.failure_count source.old + of_keytab.failed_reads result }
+{
+    let mut window = Window::new(alloc, source);
+    let bytes = window_bytes(alloc, &mut window);
+    let _source = window.into_source();
+    bytes
+}
+
+// Reads the bytes through a window that holds none yet.
+fn window_bytes<S: Source>(alloc: Global, window: &mut Window<S>) -> Result<Vec<u8>, KeytabFault>
+    requires reads { S.failure_count window.old.source < 2 ^ 64 - 1 }
+    requires start { window.old.given ≡ 0 }
+    requires empty { window.old.bytes ≡ [] }
+    ensures bytes { IfOk result (λ bytes.
+        IfSome (S.remaining window.old.source) (λ whole. HoldsFile whole bytes.items)) }
+    ensures which { IfErr result (λ fault.
+        (fault ≡ KeytabFault.OutOfMemory) ⊎ (fault ≡ KeytabFault.Read)) }
+    ensures taken { TakesFile (S.remaining window.old.source) (S.remaining window.new.source) }
+    ensures failed { S.failure_count window.new.source
+        ≡ S.failure_count window.old.source + of_keytab.failed_reads result }
+    ensures lent { S.lender window.new.source ≡ S.lender window.old.source }
+{
+    window.fill(FILE_LIMIT + 1)?;
+    Ok(Vec::from_slice(alloc, window.bytes())?)
+}
+
+/// Writes the bytes, and returns how many they are.
+///
+/// # Errors
+/// `Write`: the sink failed; it took a beginning of the bytes.
+pub(crate) fn write_bytes<T: Sink>(sink: &mut T, bytes: &[u8]) -> Result<usize, FileFault>
+    requires { T.failure_count sink.old < 2 ^ 64 - 1 }
+    ensures ok { IfOk result (λ count. Appends (T.taken sink.old) (T.taken sink.new) bytes.now
+        × (count ≡ length bytes.now)) }
+    ensures err { OnErr result (AppendsBeginning (T.taken sink.old) (T.taken sink.new) bytes.now) }
+    ensures which { IfErr result (λ e. e ≡ FileFault.Write) }
+    ensures writes { T.failure_count sink.new ≡ T.failure_count sink.old + failed_writes result }
+{
+    write_all(sink, bytes)?;
+    Ok(bytes.len())
+}

@@ -1,0 +1,4 @@
+pub mod Status
+pub mod AnswerEnd
+pub mod Answering
+pub mod Inner

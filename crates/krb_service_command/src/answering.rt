@@ -1,0 +1,114 @@
+//! What `accept` prints for a line.
+
+ghost use Rattle.std.specs.Prelude.{◌≡◌, ◌⊎◌, ◌+◌, ◌-◌, ◌^◌, ◌<◌, IfOk, IfErr, OnOk, OnErr, string_bytes};
+ghost use Rattle.std.specs.Io.KnownBytes.{Appends};
+ghost use Rattle.krb_name.specs.Flow.{AppendsBeginning};
+ghost use Rattle.krb_service_command.specs.Answering.{accepted_line, answer_line, call_status, call_text, outcome_status, refused_line};
+ghost use Rattle.krb_service_command.specs.Status.{failed_writes};
+
+use crate::answer_end::{AnswerEnd, LineAnswer, end_text, status_of_end};
+use crate::fault::ServiceFault;
+use krb_ap::{Accepted, Outcome, Refusal};
+use krb_call_lines::bad_token_text;
+use krb_file_commands::{FAILED, REFUSED};
+use krb_gss::TokenFault;
+use krb_name::{Sink, write_all};
+use std::alloc::{AllocError, Global};
+
+/// What becomes of a line.
+#[derive(Drop)]
+pub(crate) enum LineOutcome {
+    /// It spells no call.
+    BadLine,
+    /// What is to be its token isn't one, and has this fault. No call is made.
+    BadToken(TokenFault),
+    /// Its call is answered.
+    Answered(LineAnswer),
+}
+
+/// Prints what became of a line.
+pub(crate) fn print_answer<K: Sink>(
+    alloc: Global,
+    outcome: &LineOutcome,
+    sink: &mut K,
+) -> Result<(), ServiceFault>
+    requires { K.failure_count sink.old < 2 ^ 64 - 1 }
+    ensures ok { OnOk result (Appends (K.taken sink.old) (K.taken sink.new) (answer_line outcome.now)) }
+    ensures err { OnErr result (AppendsBeginning (K.taken sink.old) (K.taken sink.new) (answer_line outcome.now)) }
+    ensures which { IfErr result (λ e. (e ≡ ServiceFault.Write) ⊎ (e ≡ ServiceFault.OutOfMemory)) }
+    ensures writes { K.failure_count sink.new ≡ K.failure_count sink.old + failed_writes result }
+{
+    let line = answer_text(alloc, outcome)?;
+    write_all(sink, line.as_bytes())?;
+    Ok(())
+}
+
+fn answer_text(alloc: Global, outcome: &LineOutcome) -> Result<String, AllocError>
+    ensures { IfOk result (λ text. string_bytes text ≡ answer_line outcome.now) }
+{
+    match outcome {
+        LineOutcome::BadLine => String::from_str(alloc, "bad line\n"),
+        LineOutcome::BadToken(fault) => bad_token_text(alloc, fault),
+        LineOutcome::Answered(answer) => call_text(alloc, &answer.outcome, &answer.end),
+    }
+}
+
+fn call_text(alloc: Global, outcome: &Outcome, end: &AnswerEnd) -> Result<String, AllocError>
+    ensures { IfOk result (λ text. string_bytes text ≡ call_text outcome.now end.now) }
+{
+    match outcome {
+        Ok(accepted) => accepted_text(alloc, accepted, end),
+        Err(refusal) => refused_text(alloc, refusal, end),
+    }
+}
+
+fn accepted_text(alloc: Global, accepted: &Accepted, end: &AnswerEnd) -> Result<String, AllocError>
+    ensures { IfOk result (λ text. string_bytes text ≡ accepted_line accepted.now end.now) }
+{
+    let end = end_text(alloc, end)?;
+    let client = accepted.client.to_text(alloc)?;
+    let etype = accepted.session_key.etype();
+    let ctime = accepted.ctime.get();
+    let cusec = accepted.cusec.get();
+    if accepted.mutual {
+        format!(in alloc; "accepted {client} {etype} {ctime} {cusec} mutual{end}\n")
+    } else {
+        format!(in alloc; "accepted {client} {etype} {ctime} {cusec} plain{end}\n")
+    }
+}
+
+fn refused_text(alloc: Global, refusal: &Refusal, end: &AnswerEnd) -> Result<String, AllocError>
+    ensures { IfOk result (λ text. string_bytes text ≡ refused_line refusal.now end.now) }
+{
+    let end = end_text(alloc, end)?;
+    let name = refusal.name();
+    match refusal.code() {
+        Some(code) => format!(in alloc; "refused {code} {name}{end}\n"),
+        None => format!(in alloc; "refused none {name}{end}\n"),
+    }
+}
+
+/// Returns what an outcome makes of the exit status: 0 if a request was accepted, 1 if a line or its token was bad or its
+/// request was refused, 3 if memory ran out, for a call or for what follows its answer.
+pub(crate) fn status_of_outcome(outcome: &LineOutcome) -> u8
+    ensures { result ≡ outcome_status outcome.now }
+{
+    match outcome {
+        LineOutcome::BadLine | LineOutcome::BadToken(_) => REFUSED,
+        LineOutcome::Answered(answer) => status_of_call(&answer.outcome).max(status_of_end(
+            &answer.end,
+        )),
+    }
+}
+
+fn status_of_call(outcome: &Outcome) -> u8
+    ensures { result ≡ call_status outcome.now }
+{
+    match outcome {
+        Ok(_) => 0,
+        Err(refusal) => match refusal {
+            Refusal::OutOfMemory => FAILED,
+            _ => REFUSED,
+        },
+    }
+}
