@@ -1,12 +1,18 @@
 """What the tests of the Python package share: they run over the built library, at the top of the repository."""
+import fevstunik
 import pytest
 
 from support import TOP
 
 
+@pytest.fixture(scope="session", autouse=True)
+def loaded(library):
+    fevstunik.load(library)
+
+
 @pytest.fixture(autouse=True)
-def over_the_library(library, monkeypatch):
-    """Examples name their files from the top."""
+def at_the_top(library, monkeypatch):
+    """Programs find the library, too, and examples name their files from the top."""
     monkeypatch.setenv("FEVSTUNIK_LIBRARY", str(library))
     monkeypatch.setenv("PYTHONPATH", str(TOP / "python"))
     monkeypatch.chdir(TOP)

@@ -11,7 +11,7 @@ from support import fixture, reference
 FAULTS = {"Version": "FILE_VERSION", "Truncated": "FILE_TRUNCATED", "BadEntry": "FILE_BAD_ITEM",
           "BadItem": "FILE_BAD_ITEM",
           "Header": "FILE_HEADER", "TooLong": "TOO_LONG"}
-SOME = settings(max_examples=500, deadline=None, database=None, print_blob=True)
+SOME = settings(max_examples=200, deadline=None, database=None, print_blob=True)
 texts = draw.binary(max_size=6)
 entries = draw.fixed_dictionaries({
     "realm": texts, "components": draw.lists(texts, max_size=3), "name_type": draw.integers(-2**31, 2**31 - 1),
