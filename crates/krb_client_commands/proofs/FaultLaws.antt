@@ -44,3 +44,11 @@ pub of_reply : {X : Type 0} (P : FinishFault → Type 0) (result : Result X Clie
     → (met ≢ finish.OutOfMemory → P met) → IfErr result (λ e. IfSome (finish_fault e) P)
 of_reply P (Ok value) met is holds = tt
 of_reply P (Err e) met is holds = subst (λ (x : ClientFault). IfSome (finish_fault x) P) (sym (same_err e (Finish met) is)) (of_finish P met holds)
+
+finish_is : (met other : FinishFault) → Finish met ≡ Finish other → met ≡ other
+finish_is met other e = cc
+
+-- what was met of the reply is what is passed on
+pub same_finish : {X : Type 0} (result : Result X ClientFault) (met other : FinishFault) → result ≡ Err (Finish met) → result ≡ Err (Finish other)
+    → met ≡ other
+same_finish result met other is passed = finish_is met other (same_err (Finish met) (Finish other) (sym is ∙ passed))

@@ -4,6 +4,7 @@ use Rattle.krb_ccache.specs.Value.{Cache}
 use Rattle.krb_der.specs.Spells.{limit}
 use Rattle.krb_gss.specs.Wrapping.{request_size}
 use Rattle.krb_gss.specs.declared.opening.Wrapping.{Wrapping}
+use Rattle.krb_ap.specs.Request.{HasGoodTicket}
 use Rattle.krb_ap.specs.declared.request_fault.RequestFault.{RequestFault}
 use Rattle.krb_ap.specs.declared.request_fault.RequestFault.TheVariants.{TooLong}
 use Rattle.krb_client_commands.specs.Requesting.{IsAskedFor, IsPrintedFor, IsRequested, IsTokenOf, IsUnprinted, token_too_long}
@@ -34,3 +35,12 @@ pub longer_token : (cache : Cache) (asked : Asked) (wrapping : Wrapping) (reques
     → (fault ≡ TooLong) × (limit < request_size wrapping (length request)) → IsUnprinted cache asked fault
 longer_token cache asked wrapping request fault is requested long =
     token_too_long (record { wrapping = wrapping; request = request; wrapping_is = is; requested = requested; longer = long.1 }) long.0
+
+-- a request that was built has a ticket that was read
+pub ticket_read : (cache : Cache) (asked : Asked) (request : List ℕ) → IsOf cache asked request → HasGoodTicket cache asked.service asked.at
+ticket_read cache asked request requested = record {
+  credential = requested.request.credential;
+  used = requested.request.used;
+  ticket = requested.request.built.ticket;
+  ticket_is = requested.request.built.ticket_is;
+}

@@ -6,7 +6,7 @@ use Rattle.krb_name.specs.declared.principal.Principal.{Principal}
 use Rattle.krb_ccache.specs.Value.{Cache}
 use Rattle.krb_msg.specs.declared.key.RawKey.{RawKey}
 use Rattle.krb_ap.specs.Request.{Awaited, IsRequest, Prevents}
-use Rattle.krb_ap.specs.Finish.{FinishCause, IsAgreed, agreement_of}
+use Rattle.krb_ap.specs.Finish.{FinishCause, IsAgreed, IsReplyOfType, agreement_of}
 use Rattle.krb_ap.specs.declared.finish.Agreed.{Agreed}
 use Rattle.krb_ap.specs.declared.finish_fault.FinishFault.{FinishFault}
 use Rattle.krb_ap.specs.declared.request_fault.RequestFault.{RequestFault}
@@ -30,6 +30,12 @@ pub record IsRefusedReply (cache : Cache) (service : Principal) (at : ℤ) (repl
   pub awaited : Awaited
   pub pending : IsPending cache service at awaited
   pub cause : FinishCause awaited reply fault
+
+-- the reply to it is a message with the awaited type of key, whatever it is sealed with
+pub record IsReadable (cache : Cache) (service : Principal) (at : ℤ) (reply : List ℕ) : Type 0 where
+  pub awaited : Awaited
+  pub pending : IsPending cache service at awaited
+  pub typed : IsReplyOfType awaited reply
 
 -- ---- the line
 

@@ -1,6 +1,6 @@
 //! The engine of `finish`, and the words that it reads.
 
-ghost use Rattle.std.specs.Prelude.{◌≡◌, ◌≢◌, ◌⊎◌, ◌+◌, ◌-◌, ◌^◌, ◌<◌, ℕ, List, Some, Ok, Err, IfOk, IfErr, IfSome, OnOk, string_bytes};
+ghost use Rattle.std.specs.Prelude.{◌≡◌, ◌≢◌, ◌⊎◌, ◌+◌, ◌-◌, ◌^◌, ◌<◌, ℕ, List, Some, Ok, Err, IfOk, IfErr, IfSome, IsErrOf, OnOk, string_bytes};
 ghost use Rattle.std.specs.Io.KnownBytes.{Appends, Keeps};
 ghost use Rattle.hex.specs.Hex.{decode_of};
 ghost use Rattle.krb_name.specs.File.{TakesFile};
@@ -8,13 +8,14 @@ ghost use Rattle.krb_name.specs.Flow.{AppendsBeginning};
 ghost use Rattle.krb_ccache.specs.Format.{IsCache, IsFaultOf};
 ghost use Rattle.krb_ccache.specs.Value.{Cache};
 ghost use Rattle.krb_ccache.specs.declared.fault.CacheFault.{CacheFault};
+ghost use Rattle.krb_ap.specs.Request.{HasGoodTicket};
 ghost use Rattle.krb_ap.specs.declared.finish_fault.FinishFault.{FinishFault};
 ghost use Rattle.krb_ap.specs.declared.request_fault.RequestFault.{RequestFault};
 ghost use Rattle.krb_ap.specs.declared.request_fault.RequestFault.TheVariants.{OutOfMemory};
 ghost use Rattle.krb_ap.specs.declared.finish_fault.FinishFault.TheVariants.{OutOfMemory as Unread};
 ghost use Rattle.krb_file_commands.specs.Engine.{OfFile};
 ghost use Rattle.krb_client_commands.specs.Engine.{cache_fault, finish_fault, request_fault, FailsWithCache, failed_reads, failed_writes};
-ghost use Rattle.krb_client_commands.specs.Finishing.{IsAgreement, IsAgreedLine, IsPending, IsRefusedReply, IsUnasked, agreed_line, seq_text, subkey_text};
+ghost use Rattle.krb_client_commands.specs.Finishing.{IsAgreement, IsAgreedLine, IsPending, IsRefusedReply, IsReadable, IsUnasked, agreed_line, seq_text, subkey_text};
 
 use crate::fault::ClientFault;
 use hex::FromHexError;
@@ -87,6 +88,13 @@ pub fn finish_line<S: Source, T: Sink>(
     ensures refused { IfErr result (λ e. IfSome (finish_fault e) (λ fault.
         OfFile IsCache (S.remaining source.old) (λ cache. IsRefusedReply cache service.now at reply.now fault))) }
 
+    // Memory for the request is asked for only once a credential is chosen and its ticket was read, and for the reply only if
+    // it is one with the awaited type of key.
+    ensures memory { result ≡ Err (ClientFault.Request OutOfMemory) → OfFile IsCache (S.remaining source.old) (λ cache.
+        HasGoodTicket cache service.now at) }
+    ensures unread_reply { result ≡ Err (ClientFault.Finish Unread) → OfFile IsCache (S.remaining source.old) (λ cache.
+        IsReadable cache service.now at reply.now) }
+
     // If nothing is agreed, the sink is as it was; at any other fault it took a beginning of the line.
     ensures unread { (fault : CacheFault) → result ≡ Err (ClientFault.Cache fault)
         → Keeps (T.taken sink.old) (T.taken sink.new) }
@@ -118,6 +126,8 @@ fn write_agreed<T: Sink>(
     ensures prevented { IfErr result (λ e. IfSome (request_fault e) (λ fault. IsUnasked cache.now service.now at fault)) }
     ensures none { (fault : RequestFault) → IsUnasked cache.now service.now at fault → OnOk result ⊥ }
     ensures refused { IfErr result (λ e. IfSome (finish_fault e) (λ fault. IsRefusedReply cache.now service.now at reply.now fault)) }
+    ensures memory { result ≡ Err (ClientFault.Request OutOfMemory) → HasGoodTicket cache.now service.now at }
+    ensures unread_reply { result ≡ Err (ClientFault.Finish Unread) → IsReadable cache.now service.now at reply.now }
     ensures unmade { (fault : RequestFault) → result ≡ Err (ClientFault.Request fault)
         → Keeps (T.taken sink.old) (T.taken sink.new) }
     ensures unagreed { (fault : FinishFault) → result ≡ Err (ClientFault.Finish fault)
@@ -147,6 +157,8 @@ fn answer_of(
     ensures agreed { IfOk result (λ answer. IfOk answer (IsAgreement cache.now service.now at reply.now)) }
     ensures refused { IfOk result (λ answer. IfErr answer (λ fault. fault ≢ Unread → IsRefusedReply cache.now service.now at reply.now fault)) }
     ensures fault { IfErr result (λ fault. fault ≢ OutOfMemory → IsUnasked cache.now service.now at fault) }
+    ensures memory { IsErrOf result OutOfMemory → HasGoodTicket cache.now service.now at }
+    ensures unread_reply { IfOk result (λ answer. IsErrOf answer Unread → IsReadable cache.now service.now at reply.now) }
 {
     let pending = pending_of(alloc, cache, service, at)?;
     Ok(pending.finish(alloc, reply))
@@ -161,6 +173,7 @@ fn pending_of(
 ) -> Result<Pending, RequestFault>
     ensures pending { IfOk result (λ pending. IsPending cache.now service.now at pending) }
     ensures fault { IfErr result (λ fault. fault ≢ OutOfMemory → IsUnasked cache.now service.now at fault) }
+    ensures memory { IsErrOf result OutOfMemory → HasGoodTicket cache.now service.now at }
 {
     let options = RequestOptions {
         mutual: true,

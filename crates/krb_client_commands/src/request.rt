@@ -1,6 +1,6 @@
 //! The engine of `request`, and the words that it reads.
 
-ghost use Rattle.std.specs.Prelude.{◌≡◌, ◌≢◌, ◌⊎◌, ◌+◌, ◌-◌, ◌^◌, ◌<◌, ℕ, List, Some, None, Err, length, IfOk, IfErr, IfSome, OnOk, OnErr, string_bytes};
+ghost use Rattle.std.specs.Prelude.{◌≡◌, ◌≢◌, ◌⊎◌, ◌+◌, ◌-◌, ◌^◌, ◌<◌, ℕ, List, Some, None, Err, length, IfOk, IfErr, IfSome, IsErrOf, OnOk, OnErr, string_bytes};
 ghost use Rattle.std.specs.Io.KnownBytes.{Appends, Keeps};
 ghost use Rattle.krb_name.specs.File.{TakesFile};
 ghost use Rattle.krb_name.specs.Flow.{AppendsBeginning};
@@ -10,6 +10,7 @@ ghost use Rattle.krb_ccache.specs.declared.fault.CacheFault.{CacheFault};
 ghost use Rattle.krb_der.specs.Spells.{limit};
 ghost use Rattle.krb_gss.specs.Wrapping.{request_size};
 ghost use Rattle.krb_gss.specs.declared.opening.Wrapping.{Wrapping};
+ghost use Rattle.krb_ap.specs.Request.{HasGoodTicket};
 ghost use Rattle.krb_ap.specs.declared.request_fault.RequestFault.{RequestFault};
 ghost use Rattle.krb_ap.specs.declared.request_fault.RequestFault.TheVariants.{OutOfMemory};
 ghost use Rattle.krb_call_lines.specs.CallLine.{SpellsConfounder};
@@ -101,6 +102,10 @@ pub fn request_line<S: Source, T: Sink>(
         → S.remaining source.old ≡ Some bytes → IsCache bytes cache
         → PreventsAsked cache asked.now fault → OnOk result ⊥ }
 
+    // Memory for the request or its token is asked for only once a credential is chosen and its ticket was read.
+    ensures memory { result ≡ Err (ClientFault.Request OutOfMemory) → OfFile IsCache (S.remaining source.old) (λ cache.
+        HasGoodTicket cache asked.now.service asked.now.at) }
+
     // If there is no request, the sink is unchanged; after any other fault it took a prefix of the line.
     ensures unread { (fault : CacheFault) → result ≡ Err (ClientFault.Cache fault)
         → Keeps (T.taken sink.old) (T.taken sink.new) }
@@ -130,6 +135,7 @@ fn write_request<T: Sink>(
         × Appends (T.taken sink.old) (T.taken sink.new) (request_line bytes))) }
     ensures prevented { IfErr result (λ e. IfSome (request_fault e) (λ fault. IsUnprinted cache.now asked.now fault)) }
     ensures none { (fault : RequestFault) → PreventsAsked cache.now asked.now fault → OnOk result ⊥ }
+    ensures memory { result ≡ Err (ClientFault.Request OutOfMemory) → HasGoodTicket cache.now asked.now.service asked.now.at }
     ensures unmade { (fault : RequestFault) → result ≡ Err (ClientFault.Request fault)
         → Keeps (T.taken sink.old) (T.taken sink.new) }
     ensures begun { (result ≡ Err ClientFault.Write) ⊎ (result ≡ Err ClientFault.OutOfMemory)
@@ -151,6 +157,7 @@ fn write_request<T: Sink>(
 fn printed_bytes(alloc: Global, cache: &CCache, asked: &Asked) -> Result<Vec<u8>, RequestFault>
     ensures bytes { IfOk result (λ bytes. IsAskedFor cache.now asked.now bytes.items) }
     ensures fault { IfErr result (λ fault. fault ≢ OutOfMemory → IsUnprinted cache.now asked.now fault) }
+    ensures memory { IsErrOf result OutOfMemory → HasGoodTicket cache.now asked.now.service asked.now.at }
 {
     let request = requested(alloc, cache, asked)?;
     match asked.wrapping {
@@ -164,6 +171,7 @@ fn requested(alloc: Global, cache: &CCache, asked: &Asked) -> Result<Vec<u8>, Re
     ensures request { IfOk result (λ bytes.
         IsRequested cache.now asked.now bytes.items) }
     ensures fault { IfErr result (λ fault. fault ≢ OutOfMemory → PreventsAsked cache.now asked.now fault) }
+    ensures memory { IsErrOf result OutOfMemory → HasGoodTicket cache.now asked.now.service asked.now.at }
 {
     let options = options_of(asked);
     let (bytes, _) = make_request(

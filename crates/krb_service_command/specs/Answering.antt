@@ -1,5 +1,5 @@
 -- What `accept` prints for the lines of its input, and its exit status.
-use Rattle.std.specs.Prelude.{◌≡◌, ◌≢◌, ◌⊎◌, ◌+◌, ◌<◌, ◌≤◌, max, take, ℕ, ℤ, Bool, List, [], ◌∷◌, ◌++◌, Option, Some, None, Result, Ok, Err, All, codes, length, if◌then◌else◌}
+use Rattle.std.specs.Prelude.{◌≡◌, ◌≢◌, ◌⊎◌, ◌+◌, ◌<◌, ◌≤◌, max, take, ℕ, ℤ, Bool, List, [], ◌∷◌, ◌++◌, Option, Some, None, Result, Ok, Err, All, IsErrOf, codes, length, if◌then◌else◌}
 use Rattle.std.specs.List.{flat_map}
 use Rattle.std.specs.Fmt.{decimal, signed_decimal}
 use Rattle.std.specs.Io.KnownBytes.{Appends, Consumes}
@@ -9,6 +9,7 @@ use Rattle.krb_ap.specs.Setup.{Setup, Arrival, arrival}
 use Rattle.krb_ap.specs.History.{StandsFor}
 use Rattle.krb_ap.specs.Answer.{Answers, after}
 use Rattle.krb_ap.specs.Causes.{code_of, name_of}
+use Rattle.krb_ap.specs.Opened.{IsOrdinary}
 use Rattle.krb_ap.specs.declared.accepted.Accepted.{Accepted}
 use Rattle.krb_ap.specs.declared.refusal.Refusal.{Refusal}
 use Rattle.krb_ap.specs.declared.refusal.Refusal.TheVariants.{OutOfMemory}
@@ -63,7 +64,7 @@ pub record HoldsBadToken (form : Form) (line : List ℕ) (fault : TokenFault) : 
   pub unopened : IsUnopened form bytes fault
 
 -- The line spells bytes that carry a request. After a history, this is answered to the request at the line's moment, by a service of this
--- setup, and this is the history then.
+-- setup, and this is the history then. Out of memory is answered to an ordinary request alone.
 pub record BecomesCall (options : AnswerOptions) (setup : Setup) (history : List Arrival) (line : List ℕ) (answer : LineAnswer)
     (end : List Arrival) : Type 0 where
   pub bytes : List ℕ
@@ -75,6 +76,7 @@ pub record BecomesCall (options : AnswerOptions) (setup : Setup) (history : List
   pub carries : Carries options.form bytes envelope request
   pub answers : Answers setup history (arrival request moment) answer.outcome
   pub end_is : end ≡ after history (arrival request moment) answer.outcome
+  pub memory : IsErrOf answer.outcome OutOfMemory → IsOrdinary request
   pub follows : IsAnswerEnd envelope answer.outcome moment confounder (named options.service) answer.end
 
 -- after a history, this becomes of a line, and this is the history then

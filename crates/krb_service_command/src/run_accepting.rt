@@ -26,6 +26,13 @@ struct Times {
     start: Option<Moment>,
 }
 
+// The name that errors have, and the one that requests must be for.
+#[derive(Drop)]
+struct Names {
+    service: Option<Principal>,
+    only: Option<Principal>,
+}
+
 /// Answers the lines of standard input by the keytab, and returns the exit status.
 pub fn run_accept<R: AllocGlobal + Files + Input + Print + Eprint>(
     rt: &R,
@@ -34,19 +41,17 @@ pub fn run_accept<R: AllocGlobal + Files + Input + Print + Eprint>(
     let Some(times) = times_of(words.skew, words.started) else {
         return WRONG_WORDS;
     };
-    let service = match service_of(rt.alloc(), words.service) {
-        Ok(service) => service,
-        Err(fault) => return complain(rt, name_line("service", &fault), service_status(&fault)),
-    };
-    let only = match service_of(rt.alloc(), words.only) {
-        Ok(only) => only,
-        Err(fault) => return complain(rt, name_line("only", &fault), service_status(&fault)),
+    let names = match names_of(rt.alloc(), words.service, words.only) {
+        Ok(names) => names,
+        Err((argument, fault)) => {
+            return complain(rt, name_line(argument, &fault), service_status(&fault));
+        }
     };
     let options = AnswerOptions {
         form: form_of(words.tokens),
-        service: service.as_ref(),
+        service: names.service.as_ref(),
     };
-    serve(rt, words.keytab, only.as_ref(), times, &options)
+    serve(rt, words.keytab, names.only.as_ref(), times, &options)
 }
 
 // Answers the lines by the entries of this name, or all.
@@ -98,6 +103,22 @@ fn form_of(tokens: bool) -> Form {
     if tokens { Form::Token } else { Form::Message }
 }
 
+// An argument that is no name is returned with its fault.
+fn names_of(
+    alloc: Global,
+    service: Option<&str>,
+    only: Option<&str>,
+) -> Result<Names, (&'static str, TextFault)> {
+    let service = match service_of(alloc, service) {
+        Ok(service) => service,
+        Err(fault) => return Err(("service", fault)),
+    };
+    match service_of(alloc, only) {
+        Ok(only) => Ok(Names { service, only }),
+        Err(fault) => Err(("only", fault)),
+    }
+}
+
 fn service_of(alloc: Global, text: Option<&str>) -> Result<Option<Principal>, TextFault> {
     match text {
         Some(text) => Ok(Some(read_service(alloc, text)?)),
@@ -112,12 +133,16 @@ fn answered<R: AllocGlobal + Input + Print>(
     times: Times,
     options: &AnswerOptions<'_>,
 ) -> Result<u8, ServiceFault> {
-    let memory = TimedMemory::new(rt.alloc());
-    let mut acceptor = match times.start {
-        Some(start) => Acceptor::started(keytab, times.skew, memory, start),
-        None => Acceptor::new(keytab, times.skew, memory),
-    };
+    let mut acceptor = acceptor_of(rt.alloc(), keytab, times);
     let mut source = ReadSource::new(rt.reader());
     let mut sink = WriteSink::new(io::writer(rt));
     accept_lines(rt.alloc(), &mut acceptor, &mut source, &mut sink, options)
+}
+
+fn acceptor_of(alloc: Global, keytab: Keytab, times: Times) -> Acceptor<TimedMemory> {
+    let memory = TimedMemory::new(alloc);
+    match times.start {
+        Some(start) => Acceptor::started(keytab, times.skew, memory, start),
+        None => Acceptor::new(keytab, times.skew, memory),
+    }
 }

@@ -14,3 +14,10 @@ returns-clause-refused c = if_err_map c.finish.result (λ fault cause kept. reco
   pending = c.in_ok-pending.ensures.pending;
   cause = cause kept;
 }) c.finish.ensures.fault
+
+pub returns-clause-unread_reply : goal.returns-clause-unread_reply
+returns-clause-unread_reply c = λ unread. record {
+  awaited = c.in_ok-pending.pending;
+  pending = c.in_ok-pending.ensures.pending;
+  typed = c.finish.ensures.memory unread;
+}

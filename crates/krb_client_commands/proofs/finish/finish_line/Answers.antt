@@ -9,7 +9,8 @@ use Rattle.krb_client_commands.specs.declared.fault.ClientFault.TheVariants.{Cac
 use Rattle.krb_ap.specs.declared.finish_fault.FinishFault.{FinishFault}
 use Rattle.krb_client_commands.specs.declared.fault.ClientFault.{ClientFault}
 use Rattle.krb_client_commands.specs.Engine.{finish_fault}
-use Rattle.krb_client_commands.specs.Finishing.{IsAgreedLine, IsRefusedReply}
+use Rattle.krb_ap.specs.Request.{HasGoodTicket}
+use Rattle.krb_client_commands.specs.Finishing.{IsAgreedLine, IsReadable, IsRefusedReply}
 use Rattle.krb_file_commands.proofs.FaultLaws.{passed_on, none_met, value_met, if_err_map, if_some_map}
 use Rattle.krb_file_commands.proofs.FileLaws.{of_file, ok_of_file}
 use Rattle.krb_client_commands.proofs.finish.finish_line.Goals as goal
@@ -51,3 +52,15 @@ returns-clause-refused g c =
     (λ (cache : Cache). IsRefusedReply cache c.args.service.now c.args.at c.args.reply.now fault)
     c.in_ok-cache.ensures.reads.found refused))
     c.write_agreed.ensures.refused
+
+pub returns-clause-memory : goal.returns-clause-memory
+returns-clause-memory g c = λ is.
+    of_file IsCache (g.S.Source.remaining c.args.source.now) c.in_ok-cache.cache
+    (λ (cache : Cache). HasGoodTicket cache c.args.service.now c.args.at)
+    c.in_ok-cache.ensures.reads.found (c.write_agreed.ensures.memory is)
+
+pub returns-clause-unread_reply : goal.returns-clause-unread_reply
+returns-clause-unread_reply g c = λ is.
+    of_file IsCache (g.S.Source.remaining c.args.source.now) c.in_ok-cache.cache
+    (λ (cache : Cache). IsReadable cache c.args.service.now c.args.at c.args.reply.now)
+    c.in_ok-cache.ensures.reads.found (c.write_agreed.ensures.unread_reply is)

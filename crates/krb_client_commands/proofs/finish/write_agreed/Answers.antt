@@ -1,10 +1,11 @@
 use Rattle.std.proofs.Common.{◌∙◌, ap, true, Err, inl, inr}
 use Rattle.std.proofs.lemmas.Result.{err_from_is_err_and}
+use Rattle.krb_ap.specs.declared.finish_fault.FinishFault.TheVariants.{OutOfMemory as Unread}
 use Rattle.krb_client_commands.specs.declared.fault.ClientFault.TheVariants.{Write, OutOfMemory}
 use Rattle.krb_client_commands.specs.Finishing.{IsRefusedReply, agreed_line, no_confounder}
 use Rattle.krb_client_commands.specs.Requesting.{plain_options}
 use Rattle.krb_file_commands.proofs.FaultLaws.{no_ok}
-use Rattle.krb_client_commands.proofs.FaultLaws.{not_finished, not_written, not_of_cache, memory_apart, write_apart, of_reply}
+use Rattle.krb_client_commands.proofs.FaultLaws.{not_finished, not_written, not_of_cache, memory_apart, write_apart, of_reply, same_finish}
 use Rattle.krb_file_commands.proofs.LineLaws.{nothing_begun}
 use Rattle.krb_client_commands.proofs.finish.write_agreed.Goals as goal
 
@@ -64,3 +65,9 @@ pub returns-in_err-write_all-clause-kind : goal.returns-in_err-write_all-clause-
 returns-in_err-write_all-clause-kind g c =
     let p = err_from_is_err_and c.from_residual-in_err-write_all.result c.from_residual-in_err-write_all.ensures.1 in
     not_of_cache c.from_residual-in_err-write_all.result Write (p.1 ∙ ap (λ e. Err e) p.2) write_apart
+
+pub returns-in_err-agreed-clause-unread_reply : goal.returns-in_err-agreed-clause-unread_reply
+returns-in_err-agreed-clause-unread_reply g c =
+    let p = err_from_is_err_and c.from_residual-in_err-agreed.result c.from_residual-in_err-agreed.ensures.1 in
+    λ is. c.in_ok-answer.ensures.unread_reply (c.in_err-agreed.was ∙ ap (λ e. Err e)
+    (same_finish c.from_residual-in_err-agreed.result c.in_err-agreed.field-0.0 Unread (p.1 ∙ ap (λ e. Err e) p.2) is))

@@ -1,6 +1,6 @@
 use Rattle.std.proofs.Common.{List, ℕ, subst}
 use Rattle.krb_file_commands.proofs.FaultLaws.{if_err_map, if_ok_map}
-use Rattle.krb_client_commands.proofs.RequestLaws.{longer_token, request_asked, token_asked}
+use Rattle.krb_client_commands.proofs.RequestLaws.{longer_token, request_asked, ticket_read, token_asked}
 use Rattle.krb_client_commands.specs.Requesting.{IsTokenOf}
 use Rattle.krb_client_commands.proofs.request.printed_bytes.Goals as goal
 
@@ -19,3 +19,6 @@ returns-in-Some-clause-fault c = if_err_map c.token_of.result
 pub returns-in-None-clause-bytes : goal.returns-in-None-clause-bytes
 returns-in-None-clause-bytes c =
     request_asked c.args.cache.now c.args.asked.now c.in_ok-request.request.items c.in-None.is c.in_ok-request.ensures.request
+
+pub returns-in-Some-clause-memory : goal.returns-in-Some-clause-memory
+returns-in-Some-clause-memory c = λ _. ticket_read c.args.cache.now c.args.asked.now c.in_ok-request.request.items c.in_ok-request.ensures.request

@@ -6,6 +6,7 @@ use Rattle.krb_ccache.specs.Format.{IsCache}
 use Rattle.krb_ccache.specs.Value.{Cache}
 use Rattle.krb_ccache.specs.declared.fault.CacheFault.TheVariants.{OutOfMemory, Read}
 use Rattle.krb_client_commands.specs.declared.fault.ClientFault.TheVariants.{Cache as OfCache}
+use Rattle.krb_ap.specs.Request.{HasGoodTicket}
 use Rattle.krb_client_commands.specs.Requesting.{IsAskedFor, request_line}
 use Rattle.krb_file_commands.proofs.FaultLaws.{passed_on, none_met, value_met}
 use Rattle.krb_file_commands.proofs.FileLaws.{of_file, ok_of_file}
@@ -39,3 +40,9 @@ pub returns-clause-none : goal.returns-clause-none
 returns-clause-none g c = λ bytes cache fault tells is prevents.
     let same = value_met OutOfMemory Read c.read.result c.in_ok-cache.cache cache c.in_ok-cache.was (c.read.ensures.reads.only bytes (Ok cache) tells is) in
     c.write_request.ensures.none fault (rw same prevents)
+
+pub returns-clause-memory : goal.returns-clause-memory
+returns-clause-memory g c = λ is.
+    of_file IsCache (g.S.Source.remaining c.args.source.now) c.in_ok-cache.cache
+    (λ (cache : Cache). HasGoodTicket cache c.args.asked.now.service c.args.asked.now.at)
+    c.in_ok-cache.ensures.reads.found (c.write_request.ensures.memory is)
