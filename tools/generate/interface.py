@@ -15,6 +15,7 @@ TEMPLATES = {
     "crates/krb_c/src/code.rt": "code.rt",
     "crates/krb_c/src/cause.rt": "cause.rt",
     "crates/krb_c/src/structs.rt": "structs.rt",
+    "crates/krb_c/src/version.rt": "version.rt",
     "crates/krb_c/specs/Codes.antt": "Codes.antt",
     "python/fevstunik/_codes.py": "_codes.py",
     "python/fevstunik/_interface.py": "_interface.py",
@@ -126,6 +127,7 @@ class Function:
     returns: str = ""
     codes: list = field(default_factory=list)
     python: str = ""
+    since: str = "0.1.0"
 
     @property
     def parts(self):

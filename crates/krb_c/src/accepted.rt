@@ -9,10 +9,9 @@ ghost use Rattle.krb_c.specs.Known.{TellsKnown};
 ghost use Rattle.krb_c.specs.Items.{Counts, TellsItem};
 ghost use Rattle.krb_c.specs.Choice.{TellsReply};
 
-use crate::accepted_handle::AcceptedHandle;
 use crate::accepted_state::AcceptedState;
 use crate::code;
-use crate::handle::{empty, put, take};
+use crate::handle::{AcceptedHandle, empty, put, take};
 use crate::list::{count, hand_item};
 use crate::structs::{Answer, Choice, Known};
 use std::alloc::Global;

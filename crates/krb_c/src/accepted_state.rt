@@ -5,9 +5,8 @@ ghost use Rattle.krb_c.specs.Choice.{IsReplyFault, Replied, TellsReply};
 ghost use Rattle.krb_c.specs.Known.{TellsKnown, known_of, told_bytes};
 
 use crate::answer::{append, hand_over, hand_over_with};
-use crate::choice::{has_number, number};
 use crate::code;
-use crate::key::{block_of, bytes_of, has_key, type_of};
+use crate::key::{block_of, bytes_of, type_of};
 use crate::structs::{Answer, Choice, Known};
 use krb_ap::{Accepted, ReplyOptions};
 use std::alloc::{AllocError, Global};
@@ -68,14 +67,8 @@ fn replied(
     ensures reply { IfOk result (λ bytes. Replied accepted.now confounder.now choice.now subkey.now bytes.items) }
     ensures fault { IfErr result (λ answer. IsReplyFault confounder.now choice.now subkey.now answer) }
 {
-    let confounder = match block_of(confounder) {
-        Ok(confounder) => confounder,
-        Err(answer) => return Err(answer),
-    };
-    let subkey = match choice.subkey(subkey) {
-        Ok(subkey) => subkey,
-        Err(answer) => return Err(answer),
-    };
+    let confounder = block_of(confounder)?;
+    let subkey = choice.subkey(subkey)?;
     let options = ReplyOptions {
         subkey,
         seq: choice.seq(),
@@ -107,13 +100,13 @@ pub(crate) fn tell(alloc: Global, accepted: &Accepted) -> Result<(Vec<u8>, Known
         ctime: accepted.ctime.get(),
         cusec: accepted.cusec.get(),
         flags: accepted.flags.0,
-        seq: number(accepted.seq),
+        seq: accepted.seq.unwrap_or(0),
         name_type: accepted.client.name_type,
         service_type: accepted.service.name_type,
         session_type: accepted.session_key.etype(),
         subkey_type: type_of(&accepted.subkey),
-        has_subkey: has_key(&accepted.subkey),
-        has_seq: has_number(accepted.seq),
+        has_subkey: accepted.subkey.is_some(),
+        has_seq: accepted.seq.is_some(),
         wants_reply: accepted.mutual,
     };
     Ok((bytes, known))

@@ -7,14 +7,12 @@ ghost use Rattle.krb_ccache.specs.declared.fault.CacheFault.{CacheFault as Cache
 ghost use Rattle.krb_c.specs.Answer.{plain, sized};
 ghost use Rattle.krb_c.specs.Asking.{HasCacheFault, Keeps, cache_answer};
 ghost use Rattle.krb_c.specs.Codes.{ok, out_of_memory};
-ghost use Rattle.krb_c.specs.Listing.{ListsCredential, ListsOwner, TellsCredentialIf, TellsOwner, credential_bytes, credential_of, micros_or_zero, seconds_or_zero};
+ghost use Rattle.krb_c.specs.Listing.{ListsCredential, ListsOwner, TellsCredentialIf, TellsOwner, credential_bytes, credential_of};
 ghost use Rattle.std.specs.List.{slice_get};
-ghost use Rattle.krb_c.specs.Known.{is_there};
 
 use crate::answer::{append, hand_over, hand_over_with};
-use crate::cache_handle::CacheHandle;
 use crate::code;
-use crate::handle::{empty, put, take};
+use crate::handle::{CacheHandle, empty, put, take};
 use crate::structs::{Answer, CacheEntry, Owner, Span};
 use krb_ap::Initiator;
 use krb_ccache::laws::each_file_has_one_answer;
@@ -55,10 +53,7 @@ fn kept_of(alloc: Global, file: &[u8]) -> Result<Box<Initiator>, Answer>
     ensures cache { IfOk result (λ kept. IsCache file.now kept.value) }
     ensures fault { IfErr result (λ answer. HasCacheFault file.now answer) }
 {
-    let cache = match cache_of(alloc, file) {
-        Ok(cache) => cache,
-        Err(answer) => return Err(answer),
-    };
+    let cache = cache_of(alloc, file)?;
     match Box::new(alloc, Initiator::new(alloc, cache)) {
         Ok(kept) => Ok(kept),
         Err(_) => Err(cache_told(CacheFault::OutOfMemory)),
@@ -170,44 +165,18 @@ fn tell_owner(alloc: Global, cache: &CCache, owner: &mut Owner, buffer: &mut [u8
         Err(_) => return Answer::plain(code::OUT_OF_MEMORY),
     };
     let offset = cache.kdc_offset();
+    let (offset_seconds, offset_micros) = offset.unwrap_or((0, 0));
     *owner = Owner {
         name: Span {
             at: 0,
             size: text.len(),
         },
         name_type: cache.default_principal().name_type,
-        offset_seconds: seconds(offset),
-        offset_micros: micros(offset),
-        has_offset: is_known(offset),
+        offset_seconds,
+        offset_micros,
+        has_offset: offset.is_some(),
     };
     hand_over(text.as_bytes(), buffer)
-}
-
-fn seconds(offset: Option<(i32, i32)>) -> i32
-    ensures { result ≡ seconds_or_zero offset }
-{
-    match offset {
-        Some((seconds, _)) => seconds,
-        None => 0,
-    }
-}
-
-fn micros(offset: Option<(i32, i32)>) -> i32
-    ensures { result ≡ micros_or_zero offset }
-{
-    match offset {
-        Some((_, micros)) => micros,
-        None => 0,
-    }
-}
-
-fn is_known(offset: Option<(i32, i32)>) -> bool
-    ensures { result ≡ is_there offset }
-{
-    match offset {
-        Some(_) => true,
-        None => false,
-    }
 }
 
 /// Frees what the handle holds. The handle is empty then.

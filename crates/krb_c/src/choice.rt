@@ -1,8 +1,7 @@
-//! What a side chooses, and numbers that may be absent.
+//! What a side chooses.
 
 ghost use Rattle.std.specs.Prelude.{IfErr, IfOk, pos, ◌≡◌, ◌≢◌};
 ghost use Rattle.krb_c.specs.Choice.{IsChosen, IsKeyFault, seq_of};
-ghost use Rattle.krb_c.specs.Known.{is_there, number_or_zero};
 
 use crate::key::key_of;
 use crate::structs::{Answer, Choice};
@@ -28,23 +27,5 @@ impl Choice {
             Ok(key) => Ok(Some(key)),
             Err(answer) => Err(answer),
         }
-    }
-}
-
-pub(crate) fn number(number: Option<u32>) -> u32
-    ensures { result ≡ number_or_zero number }
-{
-    match number {
-        Some(number) => number,
-        None => 0,
-    }
-}
-
-pub(crate) fn has_number(number: Option<u32>) -> bool
-    ensures { result ≡ is_there number }
-{
-    match number {
-        Some(_) => true,
-        None => false,
     }
 }

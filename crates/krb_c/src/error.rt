@@ -9,10 +9,9 @@ ghost use Rattle.krb_c.specs.Codes.{empty_handle};
 use crate::answer::hand_over;
 use crate::cause::cause_of;
 use crate::code;
-use crate::handle::{put, take};
+use crate::handle::{ServiceHandle, put, take};
 use crate::name::typed_name_of;
 use crate::service::fevstunik_acceptor_accept;
-use crate::service_handle::ServiceHandle;
 use crate::structs::{Answer, Time};
 use krb_ap::{Refusal, ReplyFault, error_reply};
 use std::alloc::Global;
@@ -74,10 +73,7 @@ pub(crate) fn error_of(
     ensures error { IfOk result (λ bytes. Errors refusal.now service.now name_type now.now bytes.items) }
     ensures fault { IfErr result (λ answer. IsErrorFault refusal.now service.now name_type now.now answer) }
 {
-    let service = match typed_name_of(alloc, service, name_type) {
-        Ok(service) => service,
-        Err(answer) => return Err(answer),
-    };
+    let service = typed_name_of(alloc, service, name_type)?;
     let now = match now.moment() {
         Some(now) => now,
         None => return Err(Answer::plain(code::BAD_MOMENT)),

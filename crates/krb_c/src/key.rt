@@ -3,7 +3,7 @@
 ghost use Rattle.std.specs.Prelude.{IfErr, IfOk, length, ◌≡◌};
 ghost use Rattle.krb_enc.specs.Key.{IsUsable};
 ghost use Rattle.krb_c.specs.Choice.{IsConfounderFault, IsKeyFault, key_value};
-ghost use Rattle.krb_c.specs.Known.{is_there, key_bytes, key_type};
+ghost use Rattle.krb_c.specs.Known.{key_bytes, key_type};
 
 use crate::code;
 use crate::structs::Answer;
@@ -50,14 +50,5 @@ pub(crate) fn type_of(key: &Option<RawKey>) -> i32
     match key {
         Some(key) => key.etype,
         None => 0,
-    }
-}
-
-pub(crate) fn has_key(key: &Option<RawKey>) -> bool
-    ensures { result ≡ is_there key.now }
-{
-    match key {
-        Some(_) => true,
-        None => false,
     }
 }

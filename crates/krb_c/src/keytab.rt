@@ -12,8 +12,7 @@ ghost use Rattle.std.specs.List.{slice_get};
 
 use crate::answer::{append, hand_over_with};
 use crate::code;
-use crate::handle::{empty, put, take};
-use crate::keytab_handle::KeytabHandle;
+use crate::handle::{KeytabHandle, empty, put, take};
 use crate::structs::{Answer, KeyEntry};
 use krb_keytab::laws::each_file_has_one_answer;
 use krb_keytab::{Entry, Keytab, KeytabFault};
@@ -56,10 +55,7 @@ fn kept_of(alloc: Global, file: &[u8]) -> Result<Box<Keytab>, Answer>
     ensures keytab { IfOk result (λ kept. IsKeytab file.now kept.value) }
     ensures fault { IfErr result (λ answer. HasKeytabFault file.now answer) }
 {
-    let keytab = match keytab_of(alloc, file) {
-        Ok(keytab) => keytab,
-        Err(answer) => return Err(answer),
-    };
+    let keytab = keytab_of(alloc, file)?;
     match Box::new(alloc, keytab) {
         Ok(kept) => Ok(kept),
         Err(_) => Err(Answer::keytab(KeytabFault::OutOfMemory)),

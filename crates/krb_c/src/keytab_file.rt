@@ -74,10 +74,7 @@ fn added(
     ensures added { IfOk result (λ file. Adds keytab.now name.now key.now parts.now file.items) }
     ensures fault { IfErr result (λ answer. IsAddFault keytab.now name.now key.now parts.now answer) }
 {
-    let entry = match entry_made(alloc, name, key, parts) {
-        Ok(entry) => entry,
-        Err(answer) => return Err(answer),
-    };
+    let entry = entry_made(alloc, name, key, parts)?;
     let mut file = match Vec::from_slice(alloc, keytab) {
         Ok(file) => file,
         Err(_) => return Err(Answer::plain(code::OUT_OF_MEMORY)),
@@ -92,10 +89,7 @@ fn entry_made(alloc: Global, name: &[u8], key: &[u8], parts: &KeyParts) -> Resul
     ensures made { IfOk result (λ entry. IsEntryOf name.now key.now parts.now entry) }
     ensures fault { IfErr result (λ answer. IsEntryFault name.now key.now answer) }
 {
-    let name = match typed_name_of(alloc, name, parts.name_type) {
-        Ok(name) => name,
-        Err(answer) => return Err(answer),
-    };
+    let name = typed_name_of(alloc, name, parts.name_type)?;
     let key = match Vec::from_slice(alloc, key) {
         Ok(key) => key,
         Err(_) => return Err(Answer::plain(code::OUT_OF_MEMORY)),
@@ -122,10 +116,7 @@ fn rewritten(alloc: Global, keytab: &[u8]) -> Result<Vec<u8>, Answer>
     ensures written { IfOk result (λ file. WritesAnew keytab.now file.items) }
     ensures fault { IfErr result (λ answer. IsWriteFault keytab.now answer) }
 {
-    let keytab = match keytab_of(alloc, keytab) {
-        Ok(keytab) => keytab,
-        Err(answer) => return Err(answer),
-    };
+    let keytab = keytab_of(alloc, keytab)?;
     match keytab.to_bytes(alloc) {
         Ok(file) => Ok(file),
         Err(fault) => Err(Answer::keytab(fault)),

@@ -7,17 +7,13 @@
 //! [`Answer`](structs::Answer): a code, and what belongs to it. `specs/Answer` and `specs/Codes` say
 //! which code reports which fault.
 //!
-//! `interface.toml` has the interface: the header and the modules [`code`](code), [`cause`](cause)
-//! and [`structs`](structs) are made of it.
+//! `interface.toml` has the interface. The header is made of it, and so are the modules
+//! [`code`](code), [`cause`](cause), [`structs`](structs) and [`version`](version).
 //!
-//! What outlives a call is kept in a handle: one pointer that is null while the handle is empty.
-//! [`Handle`](handle::Handle) says how a handle holds its value, and there is one type of handle
-//! for each kind of thing: a [`ServiceHandle`](service_handle::ServiceHandle) has a service, an
-//! [`AcceptedHandle`](accepted_handle::AcceptedHandle) an accepted request, a
-//! [`KeytabHandle`](keytab_handle::KeytabHandle) a keytab, a
-//! [`CacheHandle`](cache_handle::CacheHandle) a credential cache, and a
-//! [`PendingHandle`](pending_handle::PendingHandle) a request whose reply is awaited. A call takes
-//! the value out of the handle and puts it back.
+//! What outlives a call is kept in a [`Handle`](handle::Handle): one pointer that is null while the
+//! handle is empty. There is one type of handle for each kind of thing: a service, an accepted
+//! request, a keytab, a credential cache, and a request whose reply is awaited. A call takes the
+//! value out of the handle and puts it back.
 //!
 //! `specs/Options` says what a service is made with, and `specs/Accepting` how a call changes a
 //! service and what it accepted. `specs/Known` says what is returned of an accepted request,
@@ -40,11 +36,9 @@
 #![tactic(auto)]
 
 mod accepted;
-mod accepted_handle;
 mod accepted_state;
 mod answer;
 mod cache;
-mod cache_handle;
 mod cause;
 mod choice;
 mod code;
@@ -54,16 +48,13 @@ mod handle;
 mod key;
 mod keytab;
 mod keytab_file;
-mod keytab_handle;
 mod list;
 mod name;
 mod pending;
-mod pending_handle;
 mod place;
 mod raw_box;
 mod request;
 mod service;
-mod service_handle;
 mod service_options;
 mod service_state;
 mod stamp;

@@ -7,11 +7,9 @@ ghost use Rattle.krb_c.specs.Codes.{empty_handle};
 ghost use Rattle.krb_c.specs.Finishing.{Ends, agreed_bytes, agreement_told, finish_answer};
 
 use crate::answer::{append, hand_over_with};
-use crate::choice::{has_number, number};
 use crate::code;
-use crate::handle::{empty, put, take};
-use crate::key::{bytes_of, has_key, type_of};
-use crate::pending_handle::PendingHandle;
+use crate::handle::{PendingHandle, empty, put, take};
+use crate::key::{bytes_of, type_of};
 use crate::structs::{Agreement, Answer};
 use krb_ap::{Agreed, FinishFault, Pending};
 use krb_msg::error_code;
@@ -85,12 +83,12 @@ fn told(alloc: Global, agreed: &Agreed) -> Result<(Vec<u8>, Agreement), AllocErr
         client,
         session_key,
         service_subkey,
-        service_seq: number(agreed.service_seq),
+        service_seq: agreed.service_seq.unwrap_or(0),
         name_type: agreed.client.name_type,
         session_type: agreed.session_key.etype(),
         service_subkey_type: type_of(&agreed.service_subkey),
-        has_service_subkey: has_key(&agreed.service_subkey),
-        has_service_seq: has_number(agreed.service_seq),
+        has_service_subkey: agreed.service_subkey.is_some(),
+        has_service_seq: agreed.service_seq.is_some(),
     };
     Ok((bytes, told))
 }

@@ -7,12 +7,10 @@ ghost use Rattle.krb_c.specs.Asking.{IsAskFault, IsRequestFor, Sends, ask, conte
 ghost use Rattle.krb_c.specs.Codes.{empty_handle};
 
 use crate::answer::hand_over;
-use crate::cache_handle::CacheHandle;
 use crate::code;
-use crate::handle::{put, take};
+use crate::handle::{CacheHandle, PendingHandle, put, take};
 use crate::key::block_of;
 use crate::name::name_of;
-use crate::pending_handle::PendingHandle;
 use crate::structs::{Answer, Choice, ContextChoice, Time};
 use krb_ap::{ContextRequest, Initiator, Pending, RequestFault, RequestOptions};
 use std::alloc::Global;
@@ -144,22 +142,13 @@ fn asked(
     ensures fault { IfErr result (λ answer. IsAskFault (ask cache.old given.now.service.now given.now.at.now given.now.choice.now given.now.subkey.now given.now.context) given.now.confounder.now answer) }
     ensures kept { cache.new ≡ cache.old }
 {
-    let service = match name_of(alloc, given.service) {
-        Ok(service) => service,
-        Err(answer) => return Err(answer),
-    };
+    let service = name_of(alloc, given.service)?;
     let now = match given.at.moment() {
         Some(now) => now,
         None => return Err(Answer::plain(code::BAD_MOMENT)),
     };
-    let confounder = match block_of(given.confounder) {
-        Ok(confounder) => confounder,
-        Err(answer) => return Err(answer),
-    };
-    let subkey = match given.choice.subkey(given.subkey) {
-        Ok(subkey) => subkey,
-        Err(answer) => return Err(answer),
-    };
+    let confounder = block_of(given.confounder)?;
+    let subkey = given.choice.subkey(given.subkey)?;
     let options = RequestOptions {
         mutual: given.choice.wants_reply,
         subkey,

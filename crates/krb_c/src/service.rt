@@ -11,11 +11,9 @@ ghost use Rattle.std.specs.Option.{MatchOption, option_map};
 ghost use Rattle.krb_ap.specs.Setup.{arrival};
 ghost use Rattle.krb_replay.specs.Memory.{IsSizeOf};
 
-use crate::accepted_handle::AcceptedHandle;
 use crate::accepted_state::AcceptedState;
 use crate::code;
-use crate::handle::{empty, put, take};
-use crate::service_handle::ServiceHandle;
+use crate::handle::{AcceptedHandle, ServiceHandle, empty, put, take};
 use crate::service_options::service_of;
 use crate::structs::{AcceptorOptions, Answer, Time};
 use krb_msg::Moment;

@@ -1,6 +1,6 @@
 //! What a service is made with: its options, the keys of its keytab and the name that it serves.
 
-ghost use Rattle.std.specs.Prelude.{◌≡◌, ◌≢◌, ◌*◌, ◌↔◌, Contains, IfErr, IfOk, IsTrue, None, []};
+ghost use Rattle.std.specs.Prelude.{◌≡◌, ◌*◌, ◌↔◌, Contains, IfErr, IfOk, IsTrue, None, []};
 ghost use Rattle.krb_ap.specs.History.{StandsFor};
 ghost use Rattle.krb_c.specs.Accepting.{Serves};
 ghost use Rattle.krb_c.specs.Asking.{IsUnnamed};
@@ -39,14 +39,8 @@ pub(crate) fn service_of(
     ensures made { IfOk result (λ state. IsMade options.now service.now keytab.now state.value) }
     ensures fault { IfErr result (λ answer. IsUnmade options.now service.now keytab.now answer) }
 {
-    let (skew, start) = match options.setup(service) {
-        Ok(setup) => setup,
-        Err(answer) => return Err(answer),
-    };
-    let keytab = match served(alloc, keytab, service) {
-        Ok(keytab) => keytab,
-        Err(answer) => return Err(answer),
-    };
+    let (skew, start) = options.setup(service)?;
+    let keytab = served(alloc, keytab, service)?;
     let state = ServiceState {
         acceptor: acceptor_of(alloc, keytab, skew, start),
         refusal: None,
@@ -133,10 +127,7 @@ pub(crate) fn served(alloc: Global, keytab: &[u8], service: &[u8]) -> Result<Key
     ensures served { IfOk result (IsServed service.now keytab.now) }
     ensures unusable { IfErr result (IsUnusable service.now keytab.now) }
 {
-    let keytab = match keytab_of(alloc, keytab) {
-        Ok(keytab) => keytab,
-        Err(answer) => return Err(answer),
-    };
+    let keytab = keytab_of(alloc, keytab)?;
     wanted(alloc, keytab, service)
 }
 

@@ -9,11 +9,10 @@ ghost use Rattle.krb_c.specs.Stamps.{IsStampFault, IsTimeOf, TellsStamp, TellsSt
 ghost use Rattle.krb_replay.specs.Bytes.{IsBytesOf};
 ghost use Rattle.krb_c.specs.Accepting.{stamp_told};
 
-use crate::accepted_handle::AcceptedHandle;
 use crate::accepted_state::AcceptedState;
 use crate::answer::hand_over;
 use crate::code;
-use crate::handle::{put, take};
+use crate::handle::{AcceptedHandle, put, take};
 use crate::structs::{Answer, Time};
 use krb_ap::Accepted;
 use krb_replay::{Skew, Tuple};

@@ -1,3 +1,5 @@
+// Made from interface.toml by `make generate`. Don't edit this file.
+
 //! The library's version.
 
 ghost use Rattle.std.specs.Prelude.{◌≡◌};

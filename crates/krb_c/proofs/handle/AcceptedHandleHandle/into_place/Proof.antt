@@ -7,12 +7,12 @@ use denote.Signature.{plain}
 use Rattle.core.proofs.alloc.Calls.{Goes-blank}
 use Rattle.krb_c.specs.contracts.accepted_state.AcceptedState.{the_row as V}
 use Rattle.krb_c.specs.contracts.place.Place as place
-use Rattle.krb_c.specs.contracts.accepted_handle.AcceptedHandle as handle
-use Rattle.krb_c.specs.contracts.accepted_handle.AcceptedHandleHandle.into_place.{clauses}
-use Rattle.krb_c.specs.contracts.accepted_handle.AcceptedHandleHandle.into_place.Key.{name}
+use Rattle.krb_c.specs.contracts.handle.AcceptedHandle as handle
+use Rattle.krb_c.specs.contracts.handle.AcceptedHandleHandle.into_place.{clauses}
+use Rattle.krb_c.specs.contracts.handle.AcceptedHandleHandle.into_place.Key.{name}
 use Rattle.krb_c.proofs.Moved.{moved}
-use Rattle.krb_c.proofs.accepted_handle.AcceptedHandleHandle.into_place.Statement.{statement}
-use Rattle.krb_c.proofs.accepted_handle.AcceptedHandleHandle.into_place.Code as code
+use Rattle.krb_c.proofs.handle.AcceptedHandleHandle.into_place.Statement.{statement}
+use Rattle.krb_c.proofs.handle.AcceptedHandleHandle.into_place.Code as code
 
 pub into_place_spec : {M : Type 1} → statement M
 into_place_spec 𝓤 𝓛 𝓜 𝓡 wired =

@@ -5,14 +5,14 @@ use contract.Monad.{fact_i}
 use denote.Exit.{yes}
 use denote.Signature.{plain}
 use Rattle.core.proofs.alloc.Calls.{Goes-blank}
-use Rattle.krb_ap.specs.contracts.initiator.Initiator.{the_row as V}
+use Rattle.krb_keytab.specs.contracts.keytab.Keytab.{the_row as V}
 use Rattle.krb_c.specs.contracts.place.Place as place
-use Rattle.krb_c.specs.contracts.cache_handle.CacheHandle as handle
-use Rattle.krb_c.specs.contracts.cache_handle.CacheHandleHandle.of_place.{clauses}
-use Rattle.krb_c.specs.contracts.cache_handle.CacheHandleHandle.of_place.Key.{name}
+use Rattle.krb_c.specs.contracts.handle.KeytabHandle as handle
+use Rattle.krb_c.specs.contracts.handle.KeytabHandleHandle.of_place.{clauses}
+use Rattle.krb_c.specs.contracts.handle.KeytabHandleHandle.of_place.Key.{name}
 use Rattle.krb_c.proofs.Moved.{moved}
-use Rattle.krb_c.proofs.cache_handle.CacheHandleHandle.of_place.Statement.{statement}
-use Rattle.krb_c.proofs.cache_handle.CacheHandleHandle.of_place.Code as code
+use Rattle.krb_c.proofs.handle.KeytabHandleHandle.of_place.Statement.{statement}
+use Rattle.krb_c.proofs.handle.KeytabHandleHandle.of_place.Code as code
 
 pub of_place_spec : {M : Type 1} → statement M
 of_place_spec 𝓤 𝓛 𝓜 𝓡 wired =

@@ -5,14 +5,14 @@ use contract.Monad.{fact_i}
 use denote.Exit.{yes}
 use denote.Signature.{plain}
 use Rattle.core.proofs.alloc.Calls.{Goes-blank}
-use Rattle.krb_keytab.specs.contracts.keytab.Keytab.{the_row as V}
+use Rattle.krb_c.specs.contracts.service_state.ServiceState.{the_row as V}
 use Rattle.krb_c.specs.contracts.place.Place as place
-use Rattle.krb_c.specs.contracts.keytab_handle.KeytabHandle as handle
-use Rattle.krb_c.specs.contracts.keytab_handle.KeytabHandleHandle.into_place.{clauses}
-use Rattle.krb_c.specs.contracts.keytab_handle.KeytabHandleHandle.into_place.Key.{name}
+use Rattle.krb_c.specs.contracts.handle.ServiceHandle as handle
+use Rattle.krb_c.specs.contracts.handle.ServiceHandleHandle.into_place.{clauses}
+use Rattle.krb_c.specs.contracts.handle.ServiceHandleHandle.into_place.Key.{name}
 use Rattle.krb_c.proofs.Moved.{moved}
-use Rattle.krb_c.proofs.keytab_handle.KeytabHandleHandle.into_place.Statement.{statement}
-use Rattle.krb_c.proofs.keytab_handle.KeytabHandleHandle.into_place.Code as code
+use Rattle.krb_c.proofs.handle.ServiceHandleHandle.into_place.Statement.{statement}
+use Rattle.krb_c.proofs.handle.ServiceHandleHandle.into_place.Code as code
 
 pub into_place_spec : {M : Type 1} → statement M
 into_place_spec 𝓤 𝓛 𝓜 𝓡 wired =

@@ -7,12 +7,12 @@ use denote.Signature.{plain}
 use Rattle.core.proofs.alloc.Calls.{Goes-blank}
 use Rattle.krb_ap.specs.contracts.pending.Pending.{the_row as V}
 use Rattle.krb_c.specs.contracts.place.Place as place
-use Rattle.krb_c.specs.contracts.pending_handle.PendingHandle as handle
-use Rattle.krb_c.specs.contracts.pending_handle.PendingHandleHandle.of_place.{clauses}
-use Rattle.krb_c.specs.contracts.pending_handle.PendingHandleHandle.of_place.Key.{name}
+use Rattle.krb_c.specs.contracts.handle.PendingHandle as handle
+use Rattle.krb_c.specs.contracts.handle.PendingHandleHandle.of_place.{clauses}
+use Rattle.krb_c.specs.contracts.handle.PendingHandleHandle.of_place.Key.{name}
 use Rattle.krb_c.proofs.Moved.{moved}
-use Rattle.krb_c.proofs.pending_handle.PendingHandleHandle.of_place.Statement.{statement}
-use Rattle.krb_c.proofs.pending_handle.PendingHandleHandle.of_place.Code as code
+use Rattle.krb_c.proofs.handle.PendingHandleHandle.of_place.Statement.{statement}
+use Rattle.krb_c.proofs.handle.PendingHandleHandle.of_place.Code as code
 
 pub of_place_spec : {M : Type 1} → statement M
 of_place_spec 𝓤 𝓛 𝓜 𝓡 wired =
