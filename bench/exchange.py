@@ -11,9 +11,9 @@ import files
 from pairs import PAIRS as SHORT_PAIRS, compared, time_of
 
 TOP = Path(__file__).resolve().parent.parent
-sys.path.append(str(TOP / "tests" / "vectors"))
-import fixture as der
-from sealing import BASE, sealed
+sys.path.append(str(TOP / "tests"))
+from support import der, fixture
+from support.sealing import BASE, sealed
 
 REALM, SERVICE, CLIENT = b"EXAMPLE.TEST", (b"host", b"web0.example.test"), b"alice"
 SESSION = {19: bytes(range(16)), 20: bytes(range(32))}
@@ -51,9 +51,9 @@ def ticket(etype, now, extra):
 
 
 def cache(etype, now, extra):
-    client, server = der.principal(1, REALM, CLIENT), der.principal(3, REALM, *SERVICE)
+    client, server = fixture.principal(1, REALM, CLIENT), fixture.principal(3, REALM, *SERVICE)
     times = (now, now, now + HOURS_10, 0)
-    return b"\x05\x04\x00\x00" + client + der.credential(client, server, etype, SESSION[etype], times, ticket(etype, now, extra))
+    return b"\x05\x04\x00\x00" + client + fixture.credential(client, server, etype, SESSION[etype], times, ticket(etype, now, extra))
 
 
 def keytab(etype, entries):

@@ -28,7 +28,8 @@ HERE = Path(__file__).resolve().parent
 TOP = HERE.parent
 sys.path.append(str(TOP / "tests"))
 import edits
-import msg_values as der
+from support import der
+from support.msg_values import TICKET
 
 CRATES = """krb_aes krb_cts krb_kdf krb_enc krb_time krb_der krb_gss krb_index krb_name krb_msg krb_keytab krb_ccache krb_replay krb_ap krb_c""".split()
 # Our programs, and the crates that each stands on.
@@ -152,16 +153,13 @@ def sealing_table(ours, mit):
 def messages():
     """The messages that are timed: a name, the word that the programs know the type by, and the bytes. The last byte is one of an
     OCTET STRING."""
-    request = der.fields(
-        (0, der.integer(5)), (1, der.integer(14)), (2, der.flags(0)), (3, der.TICKET), (4, der.encrypted(19, b"\x5a" * 91)))
-    ticket_part = der.fields(
-        (0, der.flags(0)), (1, der.typed(19, bytes(range(16)))), (2, der.string(b"EX")), (3, der.name(1, b"alice")),
-        (4, der.typed(1, b"")), (5, der.time("20231114221320Z")), (7, der.time("20231115081320Z")),
-        (10, der.sequence(*[der.typed(1, b"\x5a" * 32)] * 20)))
+    request = der.request(0, TICKET, der.encrypted(19, b"\x5a" * 91))
+    data = der.sequence(*[der.key(1, b"\x5a" * 32)] * 20)
+    part = der.enc_ticket_part(0, der.key(19, bytes(range(16))), b"EX", der.name(1, b"alice"), 1_700_000_000, 1_700_036_000, data=data)
     return [
-        ("AP-REQ", "ap-req", der.element(0x6E, request)),
-        ("Ticket", "ticket", der.TICKET),
-        ("EncTicketPart, 20 elements of authorization data", "enc-ticket", der.element(0x63, ticket_part)),
+        ("AP-REQ", "ap-req", request),
+        ("Ticket", "ticket", TICKET),
+        ("EncTicketPart, 20 elements of authorization data", "enc-ticket", part),
     ]
 
 

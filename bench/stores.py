@@ -4,7 +4,7 @@
     bench/stores.py
 
 Beside them are one instance without a store, and MIT krb5's krb5_rd_req with its replay cache in a file, which its processes share. Needs what
-tests/c_shared.py and bench/from_c.py need. Each number is the best of some runs. Nothing here is a test, but each request has to be accepted.
+tests/peers/test_stores.py and bench/from_c.py need. Each number is the best of some runs. Nothing here is a test, but each request has to be accepted.
 """
 import itertools
 import os
@@ -20,9 +20,9 @@ import exchange
 TOP = Path(__file__).resolve().parent.parent
 sys.path += [str(TOP / "tests"), str(TOP / "packaging")]
 import archive  # noqa: E402
-import c_library  # noqa: E402
-import c_shared  # noqa: E402
-import store_servers  # noqa: E402
+from support import c_programs, instances, store_servers  # noqa: E402
+
+ARCHIVE = TOP / "crates/krb_c/out/libkrb_c.a"
 
 INSTANCES, REQUESTS, RUNS = (1, 2, 4), 2_000, 3
 
@@ -35,9 +35,9 @@ def must(ran):
 
 def shared_library(folder):
     """Builds the shared library, and returns its path."""
-    must(archive.build("x86-64-v2", c_library.ARCHIVE))
+    must(archive.build("x86-64-v2", ARCHIVE))
     path = folder / "libfevstunik.so"
-    must(c_library.run("gcc", "-shared", "-o", path, "-Wl,--whole-archive", c_library.ARCHIVE, "-Wl,--no-whole-archive", c_library.toolchain()))
+    must(c_programs.run("gcc", "-shared", "-o", path, "-Wl,--whole-archive", ARCHIVE, "-Wl,--no-whole-archive", c_programs.toolchain()))
     return path
 
 
@@ -45,25 +45,25 @@ def built(folder):
     """Builds the library, and the service in C with a store and without one."""
     shared_library(folder)
     service = "-O2", "-D_DEFAULT_SOURCE", TOP / "examples/service/shared.c"
-    must(c_library.linked(folder / "shared", *service, "-lhiredis"))
-    must(c_library.linked(folder / "alone", *service, TOP / "bench/no_store.c"))
-    flags = must(c_library.run("pkg-config", "--cflags", "--libs", "krb5")).split()
-    must(c_library.run("gcc", "-O2", TOP / "bench/mit_exchange.c", *flags, "-o", folder / "mit"))
+    c_programs.linked(ARCHIVE, folder / "shared", *service, "-lhiredis")
+    c_programs.linked(ARCHIVE, folder / "alone", *service, TOP / "bench/no_store.c")
+    flags = must(c_programs.run("pkg-config", "--cflags", "--libs", "krb5")).split()
+    must(c_programs.run("gcc", "-O2", TOP / "bench/mit_exchange.c", *flags, "-o", folder / "mit"))
 
 
 def answered(instance, requests):
     """Sends requests, some at a time, and counts those that are accepted."""
     count = 0
-    for at in range(0, len(requests), c_shared.BATCH):
-        batch = requests[at:at + c_shared.BATCH]
+    for at in range(0, len(requests), instances.BATCH):
+        batch = requests[at:at + instances.BATCH]
         instance.send(batch)
-        count += instance.answers(len(batch)).count(c_shared.ACCEPTED)
+        count += instance.answers(len(batch)).count(instances.ACCEPTED)
     return count
 
 
 def rate(words, count, requests):
     """How many requests so many instances accept in a second, each a part of them."""
-    instances = [c_shared.Instance(words) for _ in range(count)]
+    instances = [instances.Instance(words) for _ in range(count)]
     try:
         for one in instances:
             if answered(one, ["00"]):
@@ -100,7 +100,7 @@ def row(name, counts, measured):
 
 def table(folder):
     cache = folder / "cache"
-    cache.write_bytes(c_library.current_cache(int(time.time()) - 60))
+    cache.write_bytes(c_programs.current_cache(int(time.time()) - 60))
     library = folder / "libfevstunik.so"
     os.environ["FEVSTUNIK_LIBRARY"] = str(library)
 
@@ -108,18 +108,18 @@ def table(folder):
 
     def timed(words):
         """Each time with requests of another second, which no store has seen."""
-        return lambda count: rate(words, count, c_shared.made_requests(cache, REQUESTS, library, next(ago)))
+        return lambda count: rate(words, count, instances.made_requests(cache, REQUESTS, library, next(ago)))
 
     print("\n| accepted requests a second | " + " | ".join(f"{count} instance{'s' * (count > 1)}" for count in INSTANCES) + " |\n|---|---|---|---|")
-    in_python = [c_shared.PYTHON, "-B", TOP / "examples/shared.py", *c_shared.SERVICE]
-    row("C, no store", (1,), timed([folder / "alone", *c_shared.SERVICE, "none"]))
-    row("Python, no store", (1,), timed([c_shared.PYTHON, "-B", TOP / "examples/serve.py", *c_shared.SERVICE, "--first"]))
+    in_python = [instances.PYTHON, "-B", TOP / "examples/shared.py", *instances.SERVICE]
+    row("C, no store", (1,), timed([folder / "alone", *instances.SERVICE, "none"]))
+    row("Python, no store", (1,), timed([instances.PYTHON, "-B", TOP / "examples/serve.py", *instances.SERVICE, "--first"]))
     for make in (store_servers.Redis, store_servers.Postgres):
         store = make()
         try:
             store.start()
             if make is store_servers.Redis:
-                row("C, Redis", INSTANCES, timed([folder / "shared", *c_shared.SERVICE, store.socket, 20]))
+                row("C, Redis", INSTANCES, timed([folder / "shared", *instances.SERVICE, store.socket, 20]))
             row(f"Python, {store.name}", INSTANCES, timed([*in_python, *store.words, "--wait", "20"]))
         finally:
             store.close()

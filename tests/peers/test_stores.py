@@ -7,10 +7,8 @@ store is down. A store that doesn't answer in time lets nobody in, nor does an i
 """
 import contextlib
 import itertools
-import os
 import random
 import signal
-import subprocess
 import threading
 import time
 from collections import Counter
@@ -19,72 +17,17 @@ from concurrent.futures import ThreadPoolExecutor
 import pytest
 
 from support import TESTS, TOP, c_programs, store_servers
+from support.instances import ACCEPTED, BATCH, PYTHON, REPEAT, SERVICE, STORE, Instance, made_requests
 
 pytestmark = [pytest.mark.packages, pytest.mark.slow]
-PYTHON = "/usr/bin/python3"
-SERVICE = [TOP / "examples/service.keytab", "host/web@EX"]
 # How many requests there are in each phase (PostgreSQL takes some milliseconds for each), and more for what comes after
 # the phases.
 REQUESTS, MORE = {"Redis": (2_000, 2_000, 2_000), "PostgreSQL": (2_000, 1_000, 1_000)}, 20
 # How often each instance is killed in the second phase.
 KILLS = 4
-# How many requests an instance is sent before its answers are read; they fit into a pipe.
-BATCH = 40
 # How long an instance waits for the store while both run on a busy machine, and where that is tested; how long a phase
 # may take.
 PATIENT, IMPATIENT, SECONDS = 20, 1, 90
-MAKE = """
-import sys
-from fevstunik import CredentialCache, Moment, make_request
-cache = CredentialCache.read(sys.argv[1])
-for number in range(int(sys.argv[2])):
-    print(make_request(cache, "host/web@EX", now=Moment(int(sys.argv[3]), number))[0].hex())
-"""
-ACCEPTED, REPEAT, STORE = ("accepted", "alice@EX"), ("refused", "REPEAT"), ("refused", "STORE")
-
-
-class Instance:
-    """A process that answers lines by lines."""
-
-    def __init__(self, words, **more):
-        self.words, self.env = [str(it) for it in words], {**os.environ, "PYTHONPATH": str(TOP / "python"), **more}
-        self.start()
-
-    def start(self):
-        self.process = subprocess.Popen(self.words, stdin=subprocess.PIPE, stdout=subprocess.PIPE,
-                                        stderr=subprocess.DEVNULL, text=True, env=self.env)
-
-    def send(self, requests):
-        self.process.stdin.write("".join(f"{it}\n" for it in requests))
-        self.process.stdin.flush()
-
-    def answers(self, count):
-        """The first two words of so many answers, or of fewer if the instance has ended."""
-        lines = (self.process.stdout.readline() for _ in range(count))
-        return [tuple(line.split()[:2]) for line in lines if line.endswith("\n")]
-
-    def asked(self, request):
-        self.send([request])
-        return self.answers(1)[0]
-
-    def kill(self):
-        self.process.kill()
-        self.process.wait()
-
-    def killed(self, count, before):
-        """What it answers of so many requests if it is killed after the first answers; then it is started again."""
-        answers = self.answers(before)
-        self.kill()
-        answers += self.answers(count - before)
-        self.close()
-        self.start()
-        return answers
-
-    def close(self):
-        self.kill()
-        with contextlib.suppress(BrokenPipeError):
-            self.process.stdin.close()
-        self.process.stdout.close()
 
 
 class Delivery:
@@ -281,16 +224,6 @@ def user_of_redis():
         yield "Redis: without a password nobody adds a stamp", is_it(store.said(*step)[:6], "NOAUTH")
     finally:
         store.close()
-
-
-def made_requests(cache, count, library, ago=0):
-    """Requests of one second, so many seconds ago."""
-    where = {**os.environ, "FEVSTUNIK_LIBRARY": str(library), "PYTHONPATH": str(TOP / "python")}
-    ran = subprocess.run([PYTHON, "-B", "-c", MAKE, str(cache), str(count), str(int(time.time()) - ago)],
-                         capture_output=True, text=True, env=where)
-    if ran.returncode:
-        raise OSError(ran.stderr[-500:])
-    return ran.stdout.split()
 
 
 # ---------------------------------------------------------------- tests

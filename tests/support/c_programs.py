@@ -5,8 +5,6 @@ import subprocess
 import time
 from pathlib import Path
 
-import pytest
-
 from support import TESTS, TOP, fixture
 from support.c_header import HEADER, documented, header_codes
 
@@ -20,11 +18,8 @@ KEYED = "mutual request with a subkey and a number"
 
 
 def run(*words, **more):
-    try:
-        return subprocess.run([str(word) for word in words], capture_output=True, text=True, cwd=more.pop("cwd", TOP),
-                              **more)
-    except FileNotFoundError as error:
-        pytest.fail(str(error))
+    words, cwd = [str(word) for word in words], more.pop("cwd", TOP)
+    return subprocess.run(words, capture_output=True, text=True, cwd=cwd, **more)
 
 
 def well(ran):
