@@ -1,5 +1,5 @@
-"""packaging/prove in a small repository, where rt is a stand-in: crates are proved in a folder of their own, and what was
-built is brought back."""
+"""packaging/prove in a small repository, where rt is a stand-in: crates are proved in a folder of their own, and what
+was built is brought back."""
 import os
 import shutil
 import subprocess
@@ -8,7 +8,8 @@ import pytest
 
 from support import TOP
 
-# Notes each call, and builds what `rt ci` leaves of the crates of a folder. `rt lib` and `rt run` are those of an author.
+# Notes each call, and builds what `rt ci` leaves of the crates of a folder. `rt lib` and `rt run` are those of an
+# author.
 RT = """#!/bin/sh
 case $1 in
 ci)
@@ -26,7 +27,13 @@ ci)
 *) echo "${PWD##*/}: $*" >>"$CALLS" ;;
 esac
 """
-CRATES = "# a comment\nkrb_name: thiserror\nkrb_key: krb_name\nkrb_other:\nkrb_c staticlib: krb_name core\nkrbtool: krb_key krb_name clap\n"
+CRATES = """# a comment
+krb_name: thiserror
+krb_key: krb_name
+krb_other:
+krb_c staticlib: krb_name core
+krbtool: krb_key krb_name clap
+"""
 
 
 @pytest.fixture
@@ -81,7 +88,8 @@ def test_program_is_older_than_a_change(room):
 
 
 def test_library_that_is_there(room):
-    """A library of `rt ci` that is the same stays, since another run may read it; one of an author's checks is replaced."""
+    """A library of `rt ci` that is the same stays, since another run may read it; one of an author's checks is
+    replaced."""
     proved(room, "krbtool")
     before = library(room, "krb_name").stat().st_ino
     proved(room, "krbtool")
