@@ -46,8 +46,7 @@ all: $(BUILD)/krbtool $(LIBRARIES) $(BUILD)/NOTICES
 generate:
 	python3 -m tools.generate
 
-# The program and the library are built side by side, once the libraries that both stand on are proved. (The kinds of the library are built
-# one after another, since each is left in the crate's out/ at first.)
+# The program and the library are built side by side, once the libraries that both stand on are proved.
 MAKEFLAGS += --jobs=2
 
 $(BUILD)/proved: $(SOURCES) packaging/prove
@@ -59,8 +58,6 @@ $(BUILD)/krbtool: $(BUILD)/proved packaging/program.py packaging/archive.py
 
 $(BUILD)/%/libfevstunik.a: $(BUILD)/proved packaging/build-library packaging/archive.py packaging/fevstunik.map
 	packaging/build-library $* $(BUILD)/$* $(VERSION)
-$(BUILD)/x86-64-v2/libfevstunik.a: | $(BUILD)/x86-64/libfevstunik.a
-$(BUILD)/x86-64-v3/libfevstunik.a: | $(BUILD)/x86-64-v2/libfevstunik.a
 
 $(BUILD)/NOTICES: crates.txt packaging/notices.py
 	packaging/notices.py $@

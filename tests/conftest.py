@@ -151,14 +151,11 @@ def top():
 
 @pytest.fixture(scope="session")
 def program():
-    """The built krbtool."""
-    return built(TOP / "crates/krbtool/out/krbtool", "./krbtool --version")
-
-
-def built(path, how):
-    if not path.is_file():
-        pytest.fail(f"{path.relative_to(TOP)} isn't built: `{how}` builds it")
-    return path
+    """The built krbtool: that of `./test`, or else of `make`."""
+    for path in (TOP / "crates/krbtool/out/krbtool", TOP / "build/krbtool"):
+        if path.is_file():
+            return path
+    pytest.fail("krbtool isn't built: run `make`")
 
 
 @pytest.fixture(scope="session")
