@@ -31,7 +31,6 @@ def pytest_addoption(parser):
 
 
 def pytest_configure(config):
-    config.checked = config.failing = config.passing = 0
     seed = config.getoption("seed")
     given = getattr(config, "workerinput", {}).get("seed", seed)
     config.seed = random.SystemRandom().randrange(1_000_000) if given is None else given
@@ -76,19 +75,19 @@ def checks(request, record_property):
     record_property("checks", found.count)
 
 
-@pytest.hookimpl(hookwrapper=True)
+@pytest.hookimpl(tryfirst=True)
 def pytest_pyfunc_call(pyfuncitem):
-    outcome = yield
+    """Runs a test that collects checks, and fails it at its end if one of them is wrong."""
     found = pyfuncitem.funcargs.get("checks")
     if found is None:
-        return
-    if outcome.excinfo is None:
-        try:
-            found.end()
-        except AssertionError as error:
-            outcome.force_exception(error)
-    elif found.wrong:
+        return None
+    try:
+        pyfuncitem.obj(**{name: pyfuncitem.funcargs[name] for name in pyfuncitem._fixtureinfo.argnames})
+    except Exception:
         print(*found.wrong[:20], sep="\n")
+        raise
+    found.end()
+    return True
 
 
 # ---------------------------------------------------------------- counts
@@ -104,7 +103,7 @@ def pytest_runtest_logreport(report):
         TOTALS["checks"] += count
 
 
-TOTALS = {"passed": 0, "failed": 0, "checks": 0}
+TOTALS = {"passed": 0, "failed": 0, "checks": 0, "lacking": []}
 
 
 def is_whole(config):
@@ -123,9 +122,8 @@ def pytest_sessionfinish(session):
     for name, count in (("least_tests", ran), ("least_checks", TOTALS["checks"])):
         least = int(config.getini(name))
         if count < least:
-            TOTALS["failed"] += 1
             what = name.partition("_")[2]
-            TOTALS[name] = f"FAILED: the whole suite has {least} {what} (pyproject.toml), and {count} ran"
+            TOTALS["lacking"].append(f"FAILED: the whole suite has {least} {what} (pyproject.toml), and {count} ran")
             session.exitstatus = pytest.ExitCode.TESTS_FAILED
 
 
@@ -133,11 +131,8 @@ def pytest_unconfigure(config):
     """The last line."""
     if hasattr(config, "workerinput") or config.getoption("collectonly"):
         return
-    for name in ("least_tests", "least_checks"):
-        if name in TOTALS:
-            print(TOTALS[name])
-    print(f"{TOTALS['checks']} checks in {TOTALS['passed'] + TOTALS['failed']} tests")
-    print(f"{TOTALS['passed']} passed, {TOTALS['failed']} failed")
+    print(*TOTALS["lacking"], f"{TOTALS['checks']} checks in {TOTALS['passed'] + TOTALS['failed']} tests", sep="\n")
+    print(f"{TOTALS['passed']} passed, {TOTALS['failed'] + len(TOTALS['lacking'])} failed")
 
 
 # ---------------------------------------------------------------- what is built
