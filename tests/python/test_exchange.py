@@ -132,7 +132,7 @@ def test_acceptors_without_a_word_on_restarts(words):
         Acceptor(Keytab(fixture.keytab()), SERVICE, **words)
 
 
-@pytest.mark.parametrize("start", [0, 0.0, -1, 1.5, 86_400, 1_577_836_799, 1_577_836_799.999, Moment(1_577_836_799, 999_999), time.monotonic()])
+@pytest.mark.parametrize("start", [0, 0.0, -1, 1.5, 86_400, 1_577_836_799, 1_577_836_799.999, Moment(1_577_836_799, 999_999), pytest.param(time.monotonic(), id="the monotonic clock")])
 def test_starts_that_are_too_early(start):
     assert fault_of(lambda: Acceptor(Keytab(fixture.keytab()), SERVICE, started=start)) == ("EARLY_START", 419, 0, 0)
 
