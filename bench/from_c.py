@@ -3,7 +3,7 @@
 
     bench/from_c.py
 
-The library is built for x86-64-v2, as the static one that is installed, and as the loader takes the shared one for this processor.
+The library is built for x86-64-v2, as the loader takes the shared one for this processor. (The static one that is installed runs on every x86-64.)
 Needs a C compiler and Debian's packages libkrb5-dev and pkg-config. It proves and builds the library, which takes a while on a new clone.
 Nothing here is a test: it asserts nothing but that the program ends well. run.py prints this table too.
 """
