@@ -142,7 +142,7 @@ def test_words(program):
     for it in commands:
         said = subprocess.run([program, it, "--help"], stdout=subprocess.PIPE, text=True, check=True).stdout
         usage = re.search(r"(?m)^Usage: .*$", said)[0]
-        operands[it] = re.findall(r"(?<! )(?<!--)\s<([A-Z]+)>", re.sub(r"--\S+ <[^>]*>", "", usage))
+        operands[it] = re.findall(r"<([A-Z]+)>", usage)
         valued |= {*re.findall(r"(?m)^ .*(--[a-z]+) <", said)}
     assert operands == {name: names.split() for name, names in unproved.OPERANDS.items()}
     assert valued == {*unproved.VALUED}
