@@ -723,8 +723,10 @@ fevstunik_answer fevstunik_acceptor_new(fevstunik_acceptor *handle, const uint8_
 
 /* Gives a service another keytab, for example with a changed key. The service keeps all else: what
  * it has seen, the latest moment, the skew and the start. So a request that was accepted under the
- * old keytab isn't accepted again. (fevstunik_acceptor_new on a handle that holds a service forgets
- * what that service has seen.) `service` and `any_name` are as in fevstunik_acceptor_new.
+ * old keytab isn't accepted again. If the service is in its first life
+ * (FEVSTUNIK_RESTART_FIRST_LIFE), each key that the new keytab adds has to be new, too.
+ * (fevstunik_acceptor_new on a handle that holds a service forgets what that service has seen.)
+ * `service` and `any_name` are as in fevstunik_acceptor_new.
  *
  * Returns FEVSTUNIK_OK; or leaves the service unchanged and returns the first that applies:
  * FEVSTUNIK_EMPTY_HANDLE; FEVSTUNIK_NO_NAME; FEVSTUNIK_TOO_LONG, _FILE_VERSION, _FILE_TRUNCATED or

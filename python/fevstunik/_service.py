@@ -305,6 +305,7 @@ class Acceptor:
 
     def replace_keytab(self, keytab: Keytab, service: str | None) -> None:
         """Take another keytab, for example with a changed key. What the service has seen is kept, so nothing is accepted twice.
+        If it was made with first_life, each key that the new keytab adds has to be new, too.
 
         service  the name that is served, as for Acceptor
 
