@@ -34,10 +34,12 @@ BUILD := build
 # krbtool and the libraries of the first kind run on every x86-64. The loader takes a shared library for a newer processor by itself.
 NEWER := x86-64-v2 x86-64-v3
 SOURCES := $(shell find crates -path '*/out' -prune -o -type f \( -name '*.rt' -o -name '*.antt' \) -print) crates.txt
+# What overwrites keys, around the proved code.
+WIPING := $(wildcard packaging/wiping/*)
 LIBRARIES := $(BUILD)/x86-64/libfevstunik.a $(NEWER:%=$(BUILD)/%/libfevstunik.a)
 MANUALS := $(wildcard docs/man/*.[1-8])
 # The documents link to each other, and the manual pages name them: they are installed in the folders in which they are here.
-DOCUMENTS := README.md CHANGELOG.md CONTRIBUTING.md bench/README.md tests/README.md $(wildcard docs/*.md)
+DOCUMENTS := README.md CHANGELOG.md CONTRIBUTING.md SECURITY.md bench/README.md tests/README.md $(wildcard docs/*.md)
 EXAMPLES := $(shell find examples -name __pycache__ -prune -o -type f -print | LC_ALL=C sort)
 
 .PHONY: all check generate install uninstall dist dist-src wheel clean distclean
@@ -46,18 +48,25 @@ all: $(BUILD)/krbtool $(LIBRARIES) $(BUILD)/NOTICES
 generate:
 	python3 -m tools.generate
 
-# The program and the library are built side by side, once the libraries that both stand on are proved.
+# The program and the library are proved and built side by side. (A run that comes to a crate that another one proves waits for it.)
 MAKEFLAGS += --jobs=2
 
-$(BUILD)/proved: $(SOURCES) packaging/prove
-	packaging/prove --below krbtool krb_c
+$(BUILD)/proved-krbtool $(BUILD)/proved-krb_c: $(BUILD)/proved-%: $(SOURCES) packaging/prove
+	packaging/prove --below $*
 	mkdir -p $(BUILD) && touch $@
 
-$(BUILD)/krbtool: $(BUILD)/proved packaging/program.py packaging/archive.py
+$(BUILD)/krbtool.o: $(BUILD)/proved-krbtool packaging/program.py packaging/archive.py
 	packaging/program.py x86-64 $@
 
-$(BUILD)/%/libfevstunik.a: $(BUILD)/proved packaging/build-library packaging/archive.py packaging/fevstunik.map
-	packaging/build-library $* $(BUILD)/$* $(VERSION)
+$(BUILD)/krbtool: $(BUILD)/krbtool.o packaging/link-program $(WIPING)
+	packaging/link-program x86-64 $< $@
+
+# (a crate's out/ has what was proved for one kind, and the next goes on from that)
+$(LIBRARIES:%/libfevstunik.a=%/libkrb_c.a): $(BUILD)/%/libkrb_c.a: $(BUILD)/proved-krb_c packaging/archive.py
+	flock $(BUILD)/.building packaging/archive.py $* $@
+
+$(BUILD)/%/libfevstunik.a: $(BUILD)/%/libkrb_c.a packaging/link-library packaging/depths.py packaging/fevstunik.map include/fevstunik.h $(WIPING)
+	packaging/link-library $* $(BUILD)/$* $(VERSION)
 
 $(BUILD)/NOTICES: crates.txt packaging/notices.py
 	packaging/notices.py $@
@@ -119,7 +128,7 @@ distclean: clean
 
 # ---- for contributors ----
 PYTEST := /usr/bin/python3 -m pytest
-SHELL_FILES := test krbtool packaging/build-library packaging/dist packaging/dist-src packaging/prove packaging/commit packaging/version
+SHELL_FILES := test krbtool packaging/build-library packaging/link-library packaging/link-program packaging/dist packaging/dist-src packaging/prove packaging/commit packaging/version
 
 .PHONY: help lint test
 help:

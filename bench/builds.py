@@ -43,20 +43,19 @@ def supported():
 
 
 def archive_of(folder, cpu):
-    """The path of the library's archive for this kind of processor."""
-    path = folder / f"{cpu}.a"
+    """The path of the static library for this kind of processor."""
+    path = folder / cpu / "libfevstunik.a"
     if not path.exists():
-        said(TOP / "packaging/archive.py", cpu, path)
+        said(TOP / "packaging/build-library", cpu, folder / cpu, said(TOP / "packaging/version").strip())
     return path
 
 
 def built(folder):
     """The path of the program over each build."""
     programs = {}
-    toolchain = Path(said("rt", "doc").strip()).parent
     for cpu in supported():
         programs[cpu] = folder / f"texts-{cpu}"
-        said("cc", "-O2", f"-I{TOP}/include", HERE / "texts.c", archive_of(folder, cpu), toolchain / "c/liblibc_c.a", "-o", programs[cpu])
+        said("cc", "-O2", f"-I{TOP}/include", HERE / "texts.c", archive_of(folder, cpu), "-o", programs[cpu])
     return programs
 
 

@@ -101,6 +101,9 @@ def table(folder, ours, mit, run_of):
         for word in ("make", "accept"):
             it = compared(run_of([ours, word, keys, tickets, now, str(held), count]), run_of([mit, word, keys, tickets, count]))
             print(f"| {shown(etype, entries, extra, held)} | {word} | {time_of(it.ours)} | {time_of(it.theirs)} | {it.shown} |", flush=True)
+    keys, tickets, now = laid_out(folder, 19, 1, 0)
+    few, many = (run_of([ours, "accept", keys, tickets, now, held, "1000"]) for held in ("1000", "1000000"))
+    print(f"\naccept with 1,000,000 requests remembered takes {compared(few, many, pairs=3).shown} times as long as with 1,000.")
 
 
 def processor_seconds(command, **more):

@@ -137,7 +137,7 @@ static double our_acceptor(void)
     fevstunik_accepted accepted = FEVSTUNIK_ACCEPTED_INIT;
     fevstunik_known known;
     uint8_t told[4096];
-    fevstunik_acceptor_options options = {sizeof options, {0, 0}, 300, FEVSTUNIK_RESTART_FIRST_LIFE, false, false};
+    fevstunik_acceptor_options options = {.size = sizeof options, .skew = 300, .restarts = FEVSTUNIK_RESTART_FIRST_LIFE};
     is_well(fevstunik_acceptor_new(&acceptor, keytab.at, keytab.size, (const uint8_t *)service, strlen(service), &options), "a service");
     is_well(fevstunik_accepted_new(&accepted), "a place");
     double start = processor_time();

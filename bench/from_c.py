@@ -31,13 +31,12 @@ def said(command, **more):
 
 def built(folder):
     """The path of the program over the build of the static library, and over the one that the loader takes here."""
-    toolchain = Path(said(["rt", "doc"]).strip()).parent
     flags = said(["pkg-config", "--cflags", "--libs", "krb5"]).split()
     programs = {}
     for cpu in dict.fromkeys((builds.STATIC, builds.supported()[-1])):
         programs[cpu] = folder / f"from_c-{cpu}"
         archive = builds.archive_of(folder, cpu)
-        said(["cc", "-O2", f"-I{TOP}/include", HERE / "from_c.c", archive, toolchain / "c/liblibc_c.a", *flags, "-o", programs[cpu]])
+        said(["cc", "-O2", f"-I{TOP}/include", HERE / "from_c.c", archive, *flags, "-o", programs[cpu]])
     return programs
 
 

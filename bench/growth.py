@@ -89,7 +89,7 @@ def commands(program, folder):
             others = folder / "others"
             keys.write_bytes(held_of(size))
             others.write_bytes(others_of(size))
-            return files.processor_time([program, "add-keys", str(keys), str(others), str(out)])
+            return files.processor_time([program, "add-keys", str(keys), str(others), "--out", str(out)])
 
         return run_of
 
@@ -103,7 +103,7 @@ def commands(program, folder):
     yield "list-keytab, entries", 10_000, on_keytab("list-keytab")
     yield "check-keytab, entries", 10_000, on_keytab("check-keytab")
     yield "convert-keytab, entries", 10_000, on_keytab("convert-keytab", "{out}")
-    yield "remove-key, entries", 10_000, on_keytab("remove-key", "{out}", "{last}")
+    yield "remove-key, entries", 10_000, on_keytab("remove-key", "{last}", "--out", "{out}")
     yield "add-keys, entries of other names", 1_000, adding(files.keytab, lambda size: files.keytab(size, size))
     yield "add-keys, the same entries", 1_000, adding(files.keytab, files.keytab)
     yield "add-keys, version numbers of one name", 1_000, adding(

@@ -3,7 +3,7 @@
 run, most of them beside OpenSSL and MIT krb5, and prints all tables of bench/README.md.
 
     bench/run.py [TABLE..]      the tables of these names, or all: cipher, sealing, messages, requests, c, builds, stores, process, listings,
-                                memory, growth
+                                memory, greatest, growth
 
 Both sides of a row run in turn, in nine pairs; a row says the median of the pairs' ratios, and the least and the greatest of them. If these
 differ by more than a third of the median, the row says that the machine was too busy to tell. Needs a C compiler and Debian's packages
@@ -22,6 +22,7 @@ import exchange
 import files
 import from_c
 import stores
+import wiping
 from pairs import PAIRS, compared, of_pairs, time_of
 
 HERE = Path(__file__).resolve().parent
@@ -188,6 +189,23 @@ def memory_table(ours):
     print(f"\nadvance drops 500,000 tuples in {half * 500_000 / 1e6:.0f} ms, and 250,000 in {quarter * 250_000 / 1e6:.0f} ms.")
 
 
+def greatest_table(folder, ours, held=10_000_000, thousands=1_000):
+    """What a call takes more at most, of a million calls on a memory that has as many tuples as its limits allow: valgrind counts the instructions
+    of a thousand calls at a time, so one call can't take more than what the greatest count is above the least."""
+    out = folder / "counted"
+    said(["valgrind", "-q", "--tool=callgrind", f"--callgrind-out-file={out}", "--dump-before=write", ours, "calls", "limited", str(held), str(thousands)])
+    # before the first line the memory is filled
+    counts = [instructions(folder / f"counted.{it}") for it in range(2, thousands + 2)]
+    least, greatest = min(counts), max(counts)
+    print(f"\n{held:,} tuples held, {1_000 * thousands:,} calls: a thousand calls take {least:,} instructions at least and {greatest:,} at most, "
+          f"so a call takes at most {greatest - least:,} more than another.")
+
+
+def instructions(path):
+    """The count of a file of callgrind."""
+    return next(int(line.split()[1]) for line in path.read_text().splitlines() if line.startswith("totals:"))
+
+
 def growth_table(folder):
     """In a process of its own, since it changes how memory is freed."""
     library = stores.shared_library(folder)
@@ -202,10 +220,12 @@ TABLES = {
     "requests": lambda folder, programs: exchange.table(folder, programs["krb_exchange"], programs["mit_exchange"], run_of),
     "c": lambda folder, programs: from_c.table(folder, from_c.built(folder)),
     "builds": lambda folder, programs: builds.tables(folder),
+    "wiping": lambda folder, programs: wiping.table(folder),
     "stores": lambda folder, programs: stores.tables(folder),
     "process": lambda folder, programs: exchange.lines_table(folder, programs["krb_exchange"], KRBTOOL, programs["mit_exchange"]),
     "listings": lambda folder, programs: files.tables(KRBTOOL),
     "memory": lambda folder, programs: memory_table(programs["krb_bench"]),
+    "greatest": lambda folder, programs: greatest_table(folder, programs["krb_bench"]),
     "growth": lambda folder, programs: growth_table(folder),
 }
 

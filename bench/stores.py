@@ -18,11 +18,9 @@ from pathlib import Path
 import exchange
 
 TOP = Path(__file__).resolve().parent.parent
-sys.path += [str(TOP / "tests"), str(TOP / "packaging")]
-import archive  # noqa: E402
+sys.path += [str(TOP / "tests")]
+import builds  # noqa: E402
 from support import c_programs, instances, store_servers  # noqa: E402
-
-ARCHIVE = TOP / "crates/krb_c/out/libkrb_c.a"
 
 INSTANCES, REQUESTS, RUNS = (1, 2, 4), 2_000, 3
 
@@ -33,20 +31,21 @@ def must(ran):
     return ran.stdout
 
 
+def archive_of(folder):
+    return builds.archive_of(folder, "x86-64-v2")
+
+
 def shared_library(folder):
-    """Builds the shared library, and returns its path."""
-    must(archive.build("x86-64-v2", ARCHIVE))
-    path = folder / "libfevstunik.so"
-    must(c_programs.run("gcc", "-shared", "-o", path, "-Wl,--whole-archive", ARCHIVE, "-Wl,--no-whole-archive", c_programs.toolchain()))
+    """Builds the library, and returns the path of the shared one."""
+    (path,) = archive_of(folder).parent.glob("libfevstunik.so.*")
     return path
 
 
 def built(folder):
     """Builds the library, and the service in C with a store and without one."""
-    shared_library(folder)
     service = "-O2", "-D_DEFAULT_SOURCE", TOP / "examples/service/shared.c"
-    c_programs.linked(ARCHIVE, folder / "shared", *service, "-lhiredis")
-    c_programs.linked(ARCHIVE, folder / "alone", *service, TOP / "bench/no_store.c")
+    c_programs.linked(archive_of(folder), folder / "shared", *service, "-lhiredis")
+    c_programs.linked(archive_of(folder), folder / "alone", *service, TOP / "bench/no_store.c")
     flags = must(c_programs.run("pkg-config", "--cflags", "--libs", "krb5")).split()
     must(c_programs.run("gcc", "-O2", TOP / "bench/mit_exchange.c", *flags, "-o", folder / "mit"))
 
@@ -101,7 +100,7 @@ def row(name, counts, measured):
 def table(folder):
     cache = folder / "cache"
     cache.write_bytes(c_programs.current_cache(int(time.time()) - 60))
-    library = folder / "libfevstunik.so"
+    library = shared_library(folder)
     os.environ["FEVSTUNIK_LIBRARY"] = str(library)
 
     ago = itertools.count(250, -1)

@@ -3,8 +3,8 @@
  *
  * Each function of the library calls a proved function of this repository; crates/krb_c has their
  * contracts. (fevstunik_code_name and fevstunik_code_text are inline functions of this header.)
- * Link with `pkg-config --libs fevstunik`. The library calls malloc, realloc, free and memory
- * functions of the C library, and nothing else.
+ * Link with `pkg-config --libs fevstunik`. The library calls malloc, free and memory functions of
+ * the C library, and nothing else.
  *
  * What is proved of a call holds if its caller follows these rules. Otherwise nothing is promised:
  *  - A handle is empty (all zero) before its first use, as
@@ -24,13 +24,20 @@
  *  - What a call writes to (its handle, its buffer, its other results) overlaps nothing else that
  *    the call is given.
  *  - A bool is 0 or 1. Sizes are at most PTRDIFF_MAX.
- *  - malloc, realloc and free belong to one allocator, which aligns memory as C requires.
+ *  - malloc and free belong to one allocator, which aligns memory as C requires.
+ *  - A call has 64 KiB of stack.
  * Never call a function of this library from a signal handler, or in the child of a process that
  * forked while it had several threads.
  *
  * The library keeps its state in handles only. It reads no clock and no random numbers, and has no
- * output but its results. Freed memory isn't wiped of keys. No call is promised to take constant
- * time, so whoever can time calls may learn about keys.
+ * output but its results.
+ *
+ * A call overwrites memory before it frees it. Before it returns, it overwrites the stack below its
+ * caller's frame and the registers that it may change. So keys are left in handles, and in what the
+ * caller passes and is given, which the caller has to overwrite. No jump and no address of a call
+ * depends on a key or a plain text, except on what the call is to find out, such as whether a tag
+ * is right, and except in the build for every x86-64, which looks up tables by secret bytes. This
+ * is tested, not proved. SECURITY.md has the exceptions, and what remains in memory.
  *
  * Arguments belong to the caller: no function keeps a pointer to them or frees them. The library
  * allocates what a handle holds, and the handle's function whose name ends in _free frees it. There
@@ -78,7 +85,8 @@ uint32_t fevstunik_version(void);
  * treat a code that you don't know as a failure.
  */
 typedef enum fevstunik_code {
-    FEVSTUNIK_OK = 0, /* success */
+    FEVSTUNIK_OK = 0,    /* success */
+    FEVSTUNIK_GO_ON = 1, /* the login goes on with the client's next token; send the bytes first */
 
     /* Why a request is refused. The causes are checked in this order, and the first that applies is
      * returned. A number before a text is the code of RFC 4120, section 7.5.9, which the answer has
@@ -102,12 +110,19 @@ typedef enum fevstunik_code {
     FEVSTUNIK_TRANSITED = 250,               /* 60: the client is of another realm, and no KDC checked the realms between */
     FEVSTUNIK_AUTHORIZATION = 260,           /* 60: the request has authorization data that may not be ignored */
 
+    /* Why fevstunik_service_answer doesn't let a client in though its request is accepted: the
+     * first that applies. */
+    FEVSTUNIK_ANONYMOUS_CLIENT = 280, /* 60: the client is anonymous */
+    FEVSTUNIK_FOREIGN_REALM = 290,    /* 60: the client is of a realm that isn't let in */
+    FEVSTUNIK_CHANNEL_BINDINGS = 300, /* 60: the channel bindings aren't those of the connection */
+
     /* Codes that many calls may return. */
-    FEVSTUNIK_OUT_OF_MEMORY = 400,  /* out of memory; malloc or realloc returned NULL */
+    FEVSTUNIK_OUT_OF_MEMORY = 400,  /* out of memory; malloc returned NULL */
     FEVSTUNIK_SHORT_BUFFER = 401,   /* the buffer is too short; `size` bytes are needed */
     FEVSTUNIK_EMPTY_HANDLE = 402,   /* the handle is empty */
     FEVSTUNIK_NOTHING_THERE = 403,  /* the handle has no accepted request, no refusal, or no such moment */
     FEVSTUNIK_TOO_LONG = 404,       /* a file, a request, an error, a token, a name or a key is longer than its limit */
+    FEVSTUNIK_FULL = 405,           /* the service remembers as many requests as it may, of all clients or of this one; `limit` or `limit_for_client` is reached */
     FEVSTUNIK_BAD_SKEW = 410,       /* the skew is more than 86,400 seconds */
     FEVSTUNIK_BAD_MOMENT = 411,     /* the moment is outside the years 0000 to 9999, or has 1,000,000 microseconds or more */
     FEVSTUNIK_BAD_CONFOUNDER = 412, /* the confounder isn't 16 bytes long */
@@ -118,6 +133,8 @@ typedef enum fevstunik_code {
     FEVSTUNIK_NO_NAME = 417,        /* no name to serve is given; `any_name` isn't set either */
     FEVSTUNIK_NO_START = 418,       /* it isn't said how repeats are refused after a start; `restarts` isn't a fevstunik_restart */
     FEVSTUNIK_EARLY_START = 419,    /* the start is before the year 2020; `any_start` isn't set */
+    FEVSTUNIK_BAD_BINDINGS = 420,   /* the number isn't that of a rule for channel bindings; `bindings` isn't a fevstunik_bindings */
+    FEVSTUNIK_BAD_RANDOM = 421,     /* there are fewer or more random bytes than the service needs; 16, and those of its subkey */
 
     /* What is wrong with a file. */
     FEVSTUNIK_FILE_VERSION = 500,   /* the file doesn't begin with 05 02 (a keytab), or with 05 03 or 05 04 (a cache) */
@@ -137,6 +154,7 @@ typedef enum fevstunik_code {
     FEVSTUNIK_REPLY_MALFORMED = 701, /* the bytes aren't a reply; `at` is the place of the fault */
     FEVSTUNIK_REPLY_INTEGRITY = 702, /* the session key doesn't open the reply */
     FEVSTUNIK_REPLY_MISMATCH = 703,  /* 46: the reply's time isn't the request's */
+    FEVSTUNIK_ERROR_MALFORMED = 704, /* the bytes aren't a KRB-ERROR; `at` is the place of the fault */
 
     /* Why a text isn't opened or a tag isn't its checksum, and why a text isn't a name. */
     FEVSTUNIK_TEXT_SHORT = 800,     /* the text has fewer bytes than a sealed empty text: 32 (type 19) or 40 (type 20) */
@@ -151,11 +169,15 @@ typedef enum fevstunik_code {
     FEVSTUNIK_TOKEN_CONTINUES = 902,    /* the token continues a negotiation, and doesn't begin one */
     FEVSTUNIK_TOKEN_EMPTY = 903,        /* the negotiation has no token of Kerberos; `at` is the place of its mechanism */
     FEVSTUNIK_TOKEN_ID = 904,           /* the token of Kerberos holds a message of another kind; `at` is the place of its identifier */
+    FEVSTUNIK_TOKEN_UNFRAMED = 905,     /* a request without a token around it, as clients of DCE style send it; `at` is its place */
     FEVSTUNIK_OTHER_MECHANISM = 910,    /* the mechanism isn't Kerberos; `at` is its place */
     FEVSTUNIK_NTLM = 911,               /* the mechanism is NTLM, not Kerberos; `at` is its place */
     FEVSTUNIK_IAKERB = 912,             /* the mechanism is IAKERB, not Kerberos; `at` is its place */
     FEVSTUNIK_NESTED_NEGOTIATION = 913, /* the mechanism is a nested negotiation, not Kerberos; `at` is its place */
     FEVSTUNIK_BAD_MECHANISM = 920,      /* the number isn't that of a mechanism */
+    FEVSTUNIK_BAD_VERDICT = 921,        /* the numbers aren't those of a verdict */
+    FEVSTUNIK_BAD_NEGOTIATION = 922,    /* the numbers aren't those of a negotiation */
+    FEVSTUNIK_NEGOTIATION_OVER = 923,   /* the negotiation is over: it has taken a request, or refused a token */
     FEVSTUNIK_CONTEXT_TRUNCATED = 930,  /* the checksum of type 0x8003 is cut off */
     FEVSTUNIK_CONTEXT_BINDINGS = 931,   /* the length of the bindings in the checksum of type 0x8003 isn't 16 */
     FEVSTUNIK_CONTEXT_DELEGATION = 932  /* the delegation option in the checksum of type 0x8003 isn't 1 */
@@ -170,6 +192,7 @@ static inline const char *fevstunik_code_name(uint32_t code)
 {
     switch (code) {
     case FEVSTUNIK_OK: return "FEVSTUNIK_OK";
+    case FEVSTUNIK_GO_ON: return "FEVSTUNIK_GO_ON";
     case FEVSTUNIK_MESSAGE_TYPE: return "FEVSTUNIK_MESSAGE_TYPE";
     case FEVSTUNIK_MALFORMED: return "FEVSTUNIK_MALFORMED";
     case FEVSTUNIK_USER_TO_USER: return "FEVSTUNIK_USER_TO_USER";
@@ -188,11 +211,15 @@ static inline const char *fevstunik_code_name(uint32_t code)
     case FEVSTUNIK_EXPIRED: return "FEVSTUNIK_EXPIRED";
     case FEVSTUNIK_TRANSITED: return "FEVSTUNIK_TRANSITED";
     case FEVSTUNIK_AUTHORIZATION: return "FEVSTUNIK_AUTHORIZATION";
+    case FEVSTUNIK_ANONYMOUS_CLIENT: return "FEVSTUNIK_ANONYMOUS_CLIENT";
+    case FEVSTUNIK_FOREIGN_REALM: return "FEVSTUNIK_FOREIGN_REALM";
+    case FEVSTUNIK_CHANNEL_BINDINGS: return "FEVSTUNIK_CHANNEL_BINDINGS";
     case FEVSTUNIK_OUT_OF_MEMORY: return "FEVSTUNIK_OUT_OF_MEMORY";
     case FEVSTUNIK_SHORT_BUFFER: return "FEVSTUNIK_SHORT_BUFFER";
     case FEVSTUNIK_EMPTY_HANDLE: return "FEVSTUNIK_EMPTY_HANDLE";
     case FEVSTUNIK_NOTHING_THERE: return "FEVSTUNIK_NOTHING_THERE";
     case FEVSTUNIK_TOO_LONG: return "FEVSTUNIK_TOO_LONG";
+    case FEVSTUNIK_FULL: return "FEVSTUNIK_FULL";
     case FEVSTUNIK_BAD_SKEW: return "FEVSTUNIK_BAD_SKEW";
     case FEVSTUNIK_BAD_MOMENT: return "FEVSTUNIK_BAD_MOMENT";
     case FEVSTUNIK_BAD_CONFOUNDER: return "FEVSTUNIK_BAD_CONFOUNDER";
@@ -203,6 +230,8 @@ static inline const char *fevstunik_code_name(uint32_t code)
     case FEVSTUNIK_NO_NAME: return "FEVSTUNIK_NO_NAME";
     case FEVSTUNIK_NO_START: return "FEVSTUNIK_NO_START";
     case FEVSTUNIK_EARLY_START: return "FEVSTUNIK_EARLY_START";
+    case FEVSTUNIK_BAD_BINDINGS: return "FEVSTUNIK_BAD_BINDINGS";
+    case FEVSTUNIK_BAD_RANDOM: return "FEVSTUNIK_BAD_RANDOM";
     case FEVSTUNIK_FILE_VERSION: return "FEVSTUNIK_FILE_VERSION";
     case FEVSTUNIK_FILE_HEADER: return "FEVSTUNIK_FILE_HEADER";
     case FEVSTUNIK_FILE_TRUNCATED: return "FEVSTUNIK_FILE_TRUNCATED";
@@ -216,6 +245,7 @@ static inline const char *fevstunik_code_name(uint32_t code)
     case FEVSTUNIK_REPLY_MALFORMED: return "FEVSTUNIK_REPLY_MALFORMED";
     case FEVSTUNIK_REPLY_INTEGRITY: return "FEVSTUNIK_REPLY_INTEGRITY";
     case FEVSTUNIK_REPLY_MISMATCH: return "FEVSTUNIK_REPLY_MISMATCH";
+    case FEVSTUNIK_ERROR_MALFORMED: return "FEVSTUNIK_ERROR_MALFORMED";
     case FEVSTUNIK_TEXT_SHORT: return "FEVSTUNIK_TEXT_SHORT";
     case FEVSTUNIK_TEXT_INTEGRITY: return "FEVSTUNIK_TEXT_INTEGRITY";
     case FEVSTUNIK_BAD_TEXT: return "FEVSTUNIK_BAD_TEXT";
@@ -226,11 +256,15 @@ static inline const char *fevstunik_code_name(uint32_t code)
     case FEVSTUNIK_TOKEN_CONTINUES: return "FEVSTUNIK_TOKEN_CONTINUES";
     case FEVSTUNIK_TOKEN_EMPTY: return "FEVSTUNIK_TOKEN_EMPTY";
     case FEVSTUNIK_TOKEN_ID: return "FEVSTUNIK_TOKEN_ID";
+    case FEVSTUNIK_TOKEN_UNFRAMED: return "FEVSTUNIK_TOKEN_UNFRAMED";
     case FEVSTUNIK_OTHER_MECHANISM: return "FEVSTUNIK_OTHER_MECHANISM";
     case FEVSTUNIK_NTLM: return "FEVSTUNIK_NTLM";
     case FEVSTUNIK_IAKERB: return "FEVSTUNIK_IAKERB";
     case FEVSTUNIK_NESTED_NEGOTIATION: return "FEVSTUNIK_NESTED_NEGOTIATION";
     case FEVSTUNIK_BAD_MECHANISM: return "FEVSTUNIK_BAD_MECHANISM";
+    case FEVSTUNIK_BAD_VERDICT: return "FEVSTUNIK_BAD_VERDICT";
+    case FEVSTUNIK_BAD_NEGOTIATION: return "FEVSTUNIK_BAD_NEGOTIATION";
+    case FEVSTUNIK_NEGOTIATION_OVER: return "FEVSTUNIK_NEGOTIATION_OVER";
     case FEVSTUNIK_CONTEXT_TRUNCATED: return "FEVSTUNIK_CONTEXT_TRUNCATED";
     case FEVSTUNIK_CONTEXT_BINDINGS: return "FEVSTUNIK_CONTEXT_BINDINGS";
     case FEVSTUNIK_CONTEXT_DELEGATION: return "FEVSTUNIK_CONTEXT_DELEGATION";
@@ -247,6 +281,7 @@ static inline const char *fevstunik_code_text(uint32_t code)
 {
     switch (code) {
     case FEVSTUNIK_OK: return "success";
+    case FEVSTUNIK_GO_ON: return "the login goes on with the client's next token";
     case FEVSTUNIK_MESSAGE_TYPE: return "the first byte isn't that of a request";
     case FEVSTUNIK_MALFORMED: return "the bytes aren't a request";
     case FEVSTUNIK_USER_TO_USER: return "the option use-session-key is set";
@@ -265,11 +300,15 @@ static inline const char *fevstunik_code_text(uint32_t code)
     case FEVSTUNIK_EXPIRED: return "the ticket has expired";
     case FEVSTUNIK_TRANSITED: return "the client is of another realm, and no KDC checked the realms between";
     case FEVSTUNIK_AUTHORIZATION: return "the request has authorization data that may not be ignored";
+    case FEVSTUNIK_ANONYMOUS_CLIENT: return "the client is anonymous";
+    case FEVSTUNIK_FOREIGN_REALM: return "the client is of a realm that isn't let in";
+    case FEVSTUNIK_CHANNEL_BINDINGS: return "the channel bindings aren't those of the connection";
     case FEVSTUNIK_OUT_OF_MEMORY: return "out of memory";
     case FEVSTUNIK_SHORT_BUFFER: return "the buffer is too short";
     case FEVSTUNIK_EMPTY_HANDLE: return "the handle is empty";
     case FEVSTUNIK_NOTHING_THERE: return "the handle has no accepted request, no refusal, or no such moment";
     case FEVSTUNIK_TOO_LONG: return "a file, a request, an error, a token, a name or a key is longer than its limit";
+    case FEVSTUNIK_FULL: return "the service remembers as many requests as it may, of all clients or of this one";
     case FEVSTUNIK_BAD_SKEW: return "the skew is more than 86,400 seconds";
     case FEVSTUNIK_BAD_MOMENT: return "the moment is outside the years 0000 to 9999, or has 1,000,000 microseconds or more";
     case FEVSTUNIK_BAD_CONFOUNDER: return "the confounder isn't 16 bytes long";
@@ -280,6 +319,8 @@ static inline const char *fevstunik_code_text(uint32_t code)
     case FEVSTUNIK_NO_NAME: return "no name to serve is given";
     case FEVSTUNIK_NO_START: return "it isn't said how repeats are refused after a start";
     case FEVSTUNIK_EARLY_START: return "the start is before the year 2020";
+    case FEVSTUNIK_BAD_BINDINGS: return "the number isn't that of a rule for channel bindings";
+    case FEVSTUNIK_BAD_RANDOM: return "there are fewer or more random bytes than the service needs";
     case FEVSTUNIK_FILE_VERSION: return "the file doesn't begin with 05 02 (a keytab), or with 05 03 or 05 04 (a cache)";
     case FEVSTUNIK_FILE_HEADER: return "the header of the cache is malformed";
     case FEVSTUNIK_FILE_TRUNCATED: return "the keytab ends within a record";
@@ -293,6 +334,7 @@ static inline const char *fevstunik_code_text(uint32_t code)
     case FEVSTUNIK_REPLY_MALFORMED: return "the bytes aren't a reply";
     case FEVSTUNIK_REPLY_INTEGRITY: return "the session key doesn't open the reply";
     case FEVSTUNIK_REPLY_MISMATCH: return "the reply's time isn't the request's";
+    case FEVSTUNIK_ERROR_MALFORMED: return "the bytes aren't a KRB-ERROR";
     case FEVSTUNIK_TEXT_SHORT: return "the text has fewer bytes than a sealed empty text: 32 (type 19) or 40 (type 20)";
     case FEVSTUNIK_TEXT_INTEGRITY: return "the tag is wrong";
     case FEVSTUNIK_BAD_TEXT: return "the text isn't a valid name";
@@ -303,11 +345,15 @@ static inline const char *fevstunik_code_text(uint32_t code)
     case FEVSTUNIK_TOKEN_CONTINUES: return "the token continues a negotiation, and doesn't begin one";
     case FEVSTUNIK_TOKEN_EMPTY: return "the negotiation has no token of Kerberos";
     case FEVSTUNIK_TOKEN_ID: return "the token of Kerberos holds a message of another kind";
+    case FEVSTUNIK_TOKEN_UNFRAMED: return "a request without a token around it, as clients of DCE style send it";
     case FEVSTUNIK_OTHER_MECHANISM: return "the mechanism isn't Kerberos";
     case FEVSTUNIK_NTLM: return "the mechanism is NTLM, not Kerberos";
     case FEVSTUNIK_IAKERB: return "the mechanism is IAKERB, not Kerberos";
     case FEVSTUNIK_NESTED_NEGOTIATION: return "the mechanism is a nested negotiation, not Kerberos";
     case FEVSTUNIK_BAD_MECHANISM: return "the number isn't that of a mechanism";
+    case FEVSTUNIK_BAD_VERDICT: return "the numbers aren't those of a verdict";
+    case FEVSTUNIK_BAD_NEGOTIATION: return "the numbers aren't those of a negotiation";
+    case FEVSTUNIK_NEGOTIATION_OVER: return "the negotiation is over: it has taken a request, or refused a token";
     case FEVSTUNIK_CONTEXT_TRUNCATED: return "the checksum of type 0x8003 is cut off";
     case FEVSTUNIK_CONTEXT_BINDINGS: return "the length of the bindings in the checksum of type 0x8003 isn't 16";
     case FEVSTUNIK_CONTEXT_DELEGATION: return "the delegation option in the checksum of type 0x8003 isn't 1";
@@ -317,7 +363,9 @@ static inline const char *fevstunik_code_text(uint32_t code)
 
 /* ---- arguments and results ---- */
 
-/* A struct never gains a field. New results get functions of their own. */
+/* A struct never gains a field, but for fevstunik_acceptor_options, which begins with its size. New
+ * results get functions of their own.
+ */
 
 /* The answer of a call. Numbers that don't belong to the code are 0. */
 typedef struct fevstunik_answer {
@@ -443,14 +491,52 @@ typedef struct fevstunik_owner {
 typedef enum fevstunik_mechanism {
     FEVSTUNIK_MECHANISM_NONE = 0,     /* no name */
     FEVSTUNIK_MECHANISM_KERBEROS = 1, /* 1.2.840.113554.1.2.2 (RFC 4121) */
-    FEVSTUNIK_MECHANISM_WINDOWS = 2   /* 1.2.840.48018.1.2.2, which Windows clients name first */
+    FEVSTUNIK_MECHANISM_WINDOWS = 2,  /* 1.2.840.48018.1.2.2, which Windows clients name first */
+    FEVSTUNIK_MECHANISM_DRAFT = 3,    /* 1.3.5.1.5.2, which implementations of the drafts before RFC 1964 use */
+    FEVSTUNIK_MECHANISM_NAMED = 100   /* the one that an earlier answer of the negotiation named */
 } fevstunik_mechanism;
 
 /* What a request, and the answer to it, is wrapped in. */
 typedef struct fevstunik_wrapped {
-    uint32_t mechanism;  /* the mechanism by which the token names Kerberos: a fevstunik_mechanism, not NONE */
-    uint32_t negotiated; /* the mechanism that a negotiation (SPNEGO) names first; NONE if there is no negotiation */
+    uint32_t mechanism;  /* the mechanism by which the token names Kerberos: KERBEROS, WINDOWS or DRAFT */
+    uint32_t negotiated; /* the mechanism that a negotiation (SPNEGO) names first; NONE if there is no negotiation; NAMED in a later token */
 } fevstunik_wrapped;
+
+/* The service's side of a negotiation: all zero before its first token. */
+typedef struct fevstunik_negotiation {
+    uint32_t stage; /* 0 before the first token, 1 if the client was asked for its token, 2 if it is over */
+    uint32_t asked; /* in stage 1: the mechanism that the client named first; else NONE */
+} fevstunik_negotiation;
+
+/* What an answer without a token says. */
+typedef enum fevstunik_says {
+    FEVSTUNIK_SAYS_COMPLETED = 1,  /* the client is accepted, and no reply is wanted (accept-completed) */
+    FEVSTUNIK_SAYS_INCOMPLETE = 2, /* the client is to send its token (accept-incomplete) */
+    FEVSTUNIK_SAYS_REJECTED = 3    /* the client is refused (reject) */
+} fevstunik_says;
+
+/* What a service says in a negotiation without a token of Kerberos. */
+typedef struct fevstunik_verdict {
+    uint32_t says;      /* a fevstunik_says */
+    uint32_t mechanism; /* the mechanism that it names. COMPLETED names the negotiation's first one in the first answer to a client, and none later. INCOMPLETE names one, and REJECTED none: NONE */
+} fevstunik_verdict;
+
+/* What a KRB-ERROR says (RFC 4120, section 5.9.1). The spans are places in the buffer of the call.
+ */
+typedef struct fevstunik_krb_error {
+    fevstunik_span service; /* the service as text, such as host/web@EX */
+    fevstunik_span client;  /* the client as text, if the error has its name and realm */
+    fevstunik_span text;    /* a text for people, if any */
+    fevstunik_span data;    /* more about the error, if any */
+    fevstunik_time stime;   /* the service's time */
+    fevstunik_time ctime;   /* the client's time in the request, if any: the seconds, and the microseconds or 0 */
+    int32_t code;           /* what went wrong (RFC 4120, section 7.5.9) */
+    int32_t service_type;   /* the type of the service's name */
+    bool has_client;        /* whether there is a client */
+    bool has_text;          /* whether there is a text */
+    bool has_data;          /* whether there are data */
+    bool has_ctime;         /* whether there is the client's time */
+} fevstunik_krb_error;
 
 /* What a GSS-API client asks for. The spans are places in the buffer that the call was given. */
 typedef struct fevstunik_context {
@@ -475,15 +561,56 @@ typedef enum fevstunik_restart {
     FEVSTUNIK_RESTART_FIRST_LIFE = 2 /* there are none: no service has used any key of the keytab before, or a store of stamps has lost nothing */
 } fevstunik_restart;
 
-/* What a service is made with. */
+/* What fevstunik_service_answer does with a client's channel bindings. A number never changes its
+ * meaning.
+ */
+typedef enum fevstunik_bindings {
+    FEVSTUNIK_BINDINGS_IGNORED = 0, /* it doesn't look at them */
+    FEVSTUNIK_BINDINGS_IF_SENT = 1, /* a client that sends bindings must send those of the options */
+    FEVSTUNIK_BINDINGS_REQUIRED = 2 /* each client must send those of the options */
+} fevstunik_bindings;
+
+/* What a service is made with. The fields after `limit_for_client` count for
+ * fevstunik_service_answer alone. A size of 56, that of a struct without them, is valid too: they
+ * are 0 then.
+ */
 typedef struct fevstunik_acceptor_options {
-    size_t size;            /* sizeof (fevstunik_acceptor_options) */
-    fevstunik_time started; /* with FEVSTUNIK_RESTART_STARTED: the service's clock at this start */
-    uint32_t skew;          /* by how many seconds clocks may differ: up to 86,400; 300 is usual */
-    uint32_t restarts;      /* a fevstunik_restart */
-    bool any_name;          /* whether each name of the keytab is served if no name is given */
-    bool any_start;         /* whether a start before the year 2020 is meant */
+    size_t size;               /* sizeof (fevstunik_acceptor_options) */
+    fevstunik_time started;    /* with FEVSTUNIK_RESTART_STARTED: the service's clock at this start */
+    uint32_t skew;             /* by how many seconds clocks may differ: up to 86,400; 300 is usual */
+    uint32_t restarts;         /* a fevstunik_restart */
+    bool any_name;             /* whether each name of the keytab is served if no name is given */
+    bool any_start;            /* whether a start before the year 2020 is meant */
+    size_t limit;              /* the most requests that it remembers; 0 stands for 1,000,000 */
+    size_t limit_for_client;   /* the most of one client; 0 stands for a tenth of the limit, but at least 1 */
+    uint32_t bindings;         /* a fevstunik_bindings */
+    uint32_t subkey_type;      /* the encryption type of the subkey that a reply sends: 19, 20, or 0 for no subkey */
+    uint8_t bindings_hash[16]; /* the MD5 hash of the channel's bindings (RFC 4121, section 4.1.1.2) */
+    bool anonymous;            /* whether anonymous clients are let in (RFC 8062) */
+    bool only_realms;          /* whether only clients of the realms that fevstunik_acceptor_add_realm adds are let in */
 } fevstunik_acceptor_options;
+
+/* What a request asks for. Nothing of it is sealed, so it proves nothing. The span is a place in
+ * the buffer of the call.
+ */
+typedef struct fevstunik_asked {
+    fevstunik_span service; /* the service that its ticket is for, as text, such as host/web@EX */
+    int32_t etype;          /* the encryption type that the ticket is sealed with */
+    uint32_t kvno;          /* the version number of the key that it is sealed with, or 0 */
+    int32_t service_type;   /* the type of the service's name */
+    bool has_kvno;          /* whether the ticket has a version number */
+    bool wants_reply;       /* whether the client asks for a reply */
+} fevstunik_asked;
+
+/* What a service remembers, and how much it may. */
+typedef struct fevstunik_usage {
+    size_t remembered;       /* how many requests are remembered */
+    size_t held;             /* the same, with those that are forgotten and aren't freed yet */
+    size_t bytes;            /* about how many bytes they take */
+    size_t limit;            /* the most requests that it remembers */
+    size_t limit_for_client; /* the most of one client */
+    size_t full;             /* how many requests were answered with FEVSTUNIK_FULL */
+} fevstunik_usage;
 
 /* A service that accepts requests: opaque, and all zero before its first use. */
 typedef struct fevstunik_acceptor {
@@ -494,6 +621,14 @@ typedef struct fevstunik_acceptor {
 typedef struct fevstunik_accepted {
     void *opaque;
 } fevstunik_accepted;
+
+/* A client's login: all zero before its first use. Each client has one of its own. `accepted` is
+ * what is let in: every function that reads an accepted request takes `&login.accepted`.
+ */
+typedef struct fevstunik_login {
+    fevstunik_accepted accepted;
+    void *opaque;
+} fevstunik_login;
 
 /* A keytab that was read: opaque, and all zero before its first use. */
 typedef struct fevstunik_keytab {
@@ -513,6 +648,7 @@ typedef struct fevstunik_pending {
 /* The values that initialize handles as empty. */
 #define FEVSTUNIK_ACCEPTOR_INIT {NULL}
 #define FEVSTUNIK_ACCEPTED_INIT {NULL}
+#define FEVSTUNIK_LOGIN_INIT {{NULL}, NULL}
 #define FEVSTUNIK_KEYTAB_INIT {NULL}
 #define FEVSTUNIK_CACHE_INIT {NULL}
 #define FEVSTUNIK_PENDING_INIT {NULL}
@@ -705,17 +841,27 @@ fevstunik_answer fevstunik_name_check(const uint8_t *name, size_t name_size);
  * (fevstunik_accepted_stamp) that has lost nothing (docs/OPERATING.md, "Restarts", has the exact
  * conditions).
  *
- * `options` must point to a whole struct, whatever `options->size` says.
+ * The service remembers at most `options->limit` requests, and at most `options->limit_for_client`
+ * of one client. Past that fevstunik_acceptor_accept returns FEVSTUNIK_FULL (docs/OPERATING.md,
+ * "Sizes", says how to choose the limits).
+ *
+ * The last five options are the terms of fevstunik_service_answer: which channel bindings a client
+ * must send, whether it may be anonymous, of which realms it may be, and whether a reply sends a
+ * subkey.
+ *
+ * `options` must point to as many bytes as `options->size` says, or to more.
  *
  * Returns FEVSTUNIK_OK; or leaves the handle unchanged and returns the first that applies:
- * FEVSTUNIK_BAD_OPTIONS if `options->size` isn't the size of the struct; FEVSTUNIK_NO_NAME;
+ * FEVSTUNIK_BAD_OPTIONS if `options->size` isn't the size of the struct, or 56; FEVSTUNIK_NO_NAME;
  * FEVSTUNIK_NO_START; FEVSTUNIK_BAD_MOMENT or FEVSTUNIK_EARLY_START for the start;
- * FEVSTUNIK_BAD_SKEW; FEVSTUNIK_TOO_LONG, _FILE_VERSION, _FILE_TRUNCATED or _FILE_BAD_ITEM for the
- * keytab; FEVSTUNIK_OUT_OF_MEMORY for the keytab; FEVSTUNIK_NOT_UTF8, _BAD_TEXT or _NO_REALM for
- * the service; or FEVSTUNIK_OUT_OF_MEMORY.
+ * FEVSTUNIK_BAD_SKEW; FEVSTUNIK_BAD_BINDINGS; FEVSTUNIK_KEY_TYPE for the type of the subkey;
+ * FEVSTUNIK_TOO_LONG, _FILE_VERSION, _FILE_TRUNCATED or _FILE_BAD_ITEM for the keytab;
+ * FEVSTUNIK_OUT_OF_MEMORY for the keytab; FEVSTUNIK_NOT_UTF8, _BAD_TEXT or _NO_REALM for the
+ * service; or FEVSTUNIK_OUT_OF_MEMORY.
  *
  *     fevstunik_acceptor service = FEVSTUNIK_ACCEPTOR_INIT;
- *     fevstunik_acceptor_options options = {sizeof options, {time(NULL) + 1, 0}, 300, FEVSTUNIK_RESTART_STARTED, false, false};
+ *     fevstunik_acceptor_options options = {
+ *         .size = sizeof options, .started = {time(NULL) + 1, 0}, .skew = 300, .restarts = FEVSTUNIK_RESTART_STARTED};
  *     fevstunik_answer answer = fevstunik_acceptor_new(&service, file, file_size, (const uint8_t *)"host/web@EX", 11, &options);
  */
 fevstunik_answer fevstunik_acceptor_new(fevstunik_acceptor *handle, const uint8_t *keytab, size_t keytab_size, const uint8_t *service,
@@ -768,10 +914,11 @@ fevstunik_answer fevstunik_accepted_new(fevstunik_accepted *accepted);
  * returns anything but FEVSTUNIK_EMPTY_HANDLE. fevstunik_acceptor_error builds the error from it.
  *
  * Returns FEVSTUNIK_OK, or the first that applies: FEVSTUNIK_BAD_MOMENT; FEVSTUNIK_EMPTY_HANDLE if
- * either handle is empty; or a cause from FEVSTUNIK_MESSAGE_TYPE to FEVSTUNIK_AUTHORIZATION, or
- * FEVSTUNIK_OUT_OF_MEMORY. FEVSTUNIK_EMPTY_HANDLE leaves the service unchanged.
- * FEVSTUNIK_BAD_MOMENT and FEVSTUNIK_OUT_OF_MEMORY leave what is remembered and the latest moment
- * unchanged.
+ * either handle is empty; or a cause from FEVSTUNIK_MESSAGE_TYPE to FEVSTUNIK_AUTHORIZATION,
+ * FEVSTUNIK_FULL or FEVSTUNIK_OUT_OF_MEMORY. FEVSTUNIK_FULL means that the request can't be
+ * remembered, because a limit is reached: it isn't decided, and may be sent again later.
+ * FEVSTUNIK_EMPTY_HANDLE leaves the service unchanged. FEVSTUNIK_BAD_MOMENT, FEVSTUNIK_FULL and
+ * FEVSTUNIK_OUT_OF_MEMORY leave what is remembered and the latest moment unchanged.
  *
  *     fevstunik_time now = {1700000101, 0};
  *     if (fevstunik_acceptor_accept(&service, &accepted, request, request_size, &now).code == FEVSTUNIK_OK) ...
@@ -918,8 +1065,18 @@ fevstunik_answer fevstunik_error(uint32_t code, const uint8_t *service, size_t s
  */
 size_t fevstunik_acceptor_count(fevstunik_acceptor *handle);
 
+/* Reads how much the service remembers, and its limits. It allocates no memory.
+ *
+ * Returns FEVSTUNIK_OK; or writes nothing and returns FEVSTUNIK_EMPTY_HANDLE.
+ *
+ *     fevstunik_usage usage;
+ *     if (fevstunik_acceptor_usage(&service, &usage).code == FEVSTUNIK_OK)
+ *         printf("%zu of %zu remembered\n", usage.remembered, usage.limit);
+ */
+fevstunik_answer fevstunik_acceptor_usage(fevstunik_acceptor *handle, fevstunik_usage *usage);
+
 /* Reads the latest moment that fevstunik_acceptor_accept was given so far. The service decides by
- * it. Calls that returned OUT_OF_MEMORY, BAD_MOMENT or EMPTY_HANDLE don't count.
+ * it. Calls that returned FULL, OUT_OF_MEMORY, BAD_MOMENT or EMPTY_HANDLE don't count.
  *
  * Returns FEVSTUNIK_OK; or writes nothing and returns FEVSTUNIK_EMPTY_HANDLE or
  * FEVSTUNIK_NOTHING_THERE.
@@ -929,12 +1086,118 @@ size_t fevstunik_acceptor_count(fevstunik_acceptor *handle);
  */
 fevstunik_answer fevstunik_acceptor_latest(fevstunik_acceptor *handle, fevstunik_time *latest);
 
+/* Adds a realm to those of which fevstunik_service_answer lets clients in. `realm` has the realm's
+ * bytes, such as EX, without escapes. Make the service with `only_realms`: then it lets in no
+ * client until a realm is added. Otherwise it lets in clients of any realm until one is added. A
+ * KDC has to have checked the realms between a client's and the service's: the library doesn't.
+ *
+ * Returns FEVSTUNIK_OK; or leaves the service unchanged and returns FEVSTUNIK_EMPTY_HANDLE or
+ * FEVSTUNIK_OUT_OF_MEMORY.
+ *
+ *     answer = fevstunik_acceptor_add_realm(&service, (const uint8_t *)"EX", 2);
+ */
+fevstunik_answer fevstunik_acceptor_add_realm(fevstunik_acceptor *handle, const uint8_t *realm, size_t realm_size);
+
 /* Frees what the handle holds. The handle is empty then, and may be used again. Calling it with an
  * empty handle has no effect. It can't fail.
  *
  *     fevstunik_acceptor_free(&service);
  */
 void fevstunik_acceptor_free(fevstunik_acceptor *handle);
+
+/* ---- a login in one call ---- */
+
+/* Lets a client in, or says why not. `input` is what the client sent: a request (the bytes of an
+ * AP-REQ), a Kerberos token or a token of a negotiation (GSS-API and SPNEGO); the first bytes say
+ * which. The call opens it, decides about the request as fevstunik_acceptor_accept does, looks at
+ * the service's terms (`options` of fevstunik_acceptor_new), and writes what goes back to the
+ * client to `out`, wrapped as the client wrapped its request. Unless the code is
+ * FEVSTUNIK_SHORT_BUFFER, send these `size` bytes, whatever the code is; if there are none, nothing
+ * goes back. With a store that several services share, send them only after its answer
+ * (docs/OPERATING.md).
+ *  - FEVSTUNIK_OK: the client is let in. `&login->accepted` holds what is known of it:
+ *    fevstunik_accepted_known reads it. The bytes are the reply, if the client asks for one; else
+ *    what a negotiation says without one.
+ *  - FEVSTUNIK_GO_ON: a negotiation goes on. Send the bytes, and make the call with the same login
+ *    for the client's next token.
+ *  - Any other code but FEVSTUNIK_SHORT_BUFFER: the client isn't let in, and nothing of it can be
+ *    read. The bytes are an error (KRB-ERROR) for a client that asks for a reply, else a
+ *    negotiation's reject, if it is one. If memory runs out, or the error would be too long, there
+ *    may be none.
+ * `login` is a new handle for each client. A login that is decided takes no other token: it returns
+ * FEVSTUNIK_NEGOTIATION_OVER. `random` has fresh random bytes, new for each call: 16, then those of
+ * the subkey if `subkey_type` of the options isn't 0 (16 for type 19, 32 for type 20).
+ *
+ * If the buffer is too short for the bytes, the code is FEVSTUNIK_SHORT_BUFFER, `size` is the
+ * number of bytes that are needed, and `out` is unchanged; but all is decided, so don't make the
+ * call again. fevstunik_login_answer returns the code and the bytes with a longer buffer. `out` may
+ * be NULL if its size is 0. 1,024 bytes are enough but for very long names, which an error repeats.
+ *
+ * If threads share the service, put a lock around this call; reading what was accepted needs none.
+ *
+ * Returns FEVSTUNIK_OK or FEVSTUNIK_GO_ON; a cause from FEVSTUNIK_MESSAGE_TYPE to
+ * FEVSTUNIK_CHANNEL_BINDINGS; FEVSTUNIK_FULL or FEVSTUNIK_OUT_OF_MEMORY if the request can't be
+ * remembered or answered; FEVSTUNIK_NEGOTIATION_OVER or one of the codes from FEVSTUNIK_NOT_A_TOKEN
+ * to FEVSTUNIK_NESTED_NEGOTIATION if the bytes hold no request; or FEVSTUNIK_SHORT_BUFFER. Or
+ * decides nothing, leaves the service and the negotiation unchanged, and returns the first that
+ * applies: FEVSTUNIK_BAD_MOMENT; FEVSTUNIK_EMPTY_HANDLE for the service; FEVSTUNIK_BAD_RANDOM;
+ * FEVSTUNIK_OUT_OF_MEMORY.
+ *
+ *     fevstunik_login login = FEVSTUNIK_LOGIN_INIT;
+ *     answer = fevstunik_service_answer(&service, &login, input, input_size, &now, random, 16, out, sizeof out);
+ */
+fevstunik_answer fevstunik_service_answer(fevstunik_acceptor *service, fevstunik_login *login, const uint8_t *input, size_t input_size,
+                                          const fevstunik_time *now, const uint8_t *random, size_t random_size, uint8_t *out,
+                                          size_t out_size);
+
+/* Returns what the last fevstunik_service_answer with this login decided, and writes the bytes that
+ * go back to the client: with a long enough buffer, the code and the bytes are those of that call.
+ * It decides nothing, and may be repeated. The login is unchanged.
+ *
+ * Returns FEVSTUNIK_SHORT_BUFFER; FEVSTUNIK_EMPTY_HANDLE; FEVSTUNIK_NOTHING_THERE if nothing was
+ * decided by that call; or the code that was decided: FEVSTUNIK_OK, FEVSTUNIK_GO_ON, a cause from
+ * FEVSTUNIK_MESSAGE_TYPE to FEVSTUNIK_CHANNEL_BINDINGS, FEVSTUNIK_FULL, FEVSTUNIK_OUT_OF_MEMORY,
+ * FEVSTUNIK_NEGOTIATION_OVER or one of the codes from FEVSTUNIK_NOT_A_TOKEN to
+ * FEVSTUNIK_NESTED_NEGOTIATION.
+ *
+ *     if (answer.code == FEVSTUNIK_SHORT_BUFFER)
+ *         answer = fevstunik_login_answer(&login, longer, answer.size);
+ */
+fevstunik_answer fevstunik_login_answer(fevstunik_login *login, uint8_t *out, size_t out_size);
+
+/* Reads what the request asked for that the last fevstunik_service_answer with this login refused,
+ * as far as it could be read, for a log. Writes the service's text to the buffer, and its place and
+ * the numbers to `asked`. `asked` is written even if the buffer is too short. The login is
+ * unchanged.
+ *
+ * Returns FEVSTUNIK_OK or FEVSTUNIK_SHORT_BUFFER; or writes nothing and returns
+ * FEVSTUNIK_EMPTY_HANDLE; FEVSTUNIK_NOTHING_THERE if no request was refused, or what it asked for
+ * isn't known; or FEVSTUNIK_OUT_OF_MEMORY.
+ *
+ *     fevstunik_asked asked;
+ *     answer = fevstunik_login_asked(&login, &asked, buffer, sizeof buffer);
+ */
+fevstunik_answer fevstunik_login_asked(fevstunik_login *login, fevstunik_asked *asked, uint8_t *buffer, size_t buffer_size);
+
+/* Frees what the handle holds, also what was accepted. The handle is empty then, and may be used
+ * for another client. Calling it with an empty handle has no effect. It can't fail.
+ *
+ *     fevstunik_login_free(&login);
+ */
+void fevstunik_login_free(fevstunik_login *login);
+
+/* Reads what a request (the bytes of an AP-REQ) asks for, without any key, for a log. Writes the
+ * service's text to the buffer, and its place and the numbers to `asked`. `asked` is written even
+ * if the buffer is too short.
+ *
+ * Returns FEVSTUNIK_OK or FEVSTUNIK_SHORT_BUFFER; or writes nothing and returns
+ * FEVSTUNIK_NOTHING_THERE if the bytes aren't a request, or FEVSTUNIK_OUT_OF_MEMORY.
+ *
+ *     fevstunik_asked asked;
+ *     answer = fevstunik_request_asks(request, request_size, &asked, buffer, sizeof buffer);
+ */
+fevstunik_answer fevstunik_request_asks(const uint8_t *request, size_t request_size, fevstunik_asked *asked, uint8_t *buffer,
+                                        size_t buffer_size);
 
 /* ---- the client's side ---- */
 
@@ -1070,7 +1333,9 @@ fevstunik_answer fevstunik_checksum_check(int32_t key_type, const uint8_t *key, 
 /* Opens the first token of a client, and returns the request. The token is a Kerberos token alone
  * (RFC 4121, section 4.1), or a negotiation (SPNEGO; RFC 4178, section 4.2.1) whose first mechanism
  * is Kerberos. `wrapped` is filled on FEVSTUNIK_OK and FEVSTUNIK_SHORT_BUFFER: pass it to the call
- * that wraps the answer. The buffer must not overlap the token. The call allocates no memory.
+ * that wraps the answer. A client may also begin a negotiation without a token: the call returns
+ * FEVSTUNIK_TOKEN_EMPTY then, and fevstunik_negotiation_take asks the client for it. The buffer
+ * must not overlap the token. The call allocates no memory.
  *
  * Returns FEVSTUNIK_OK or FEVSTUNIK_SHORT_BUFFER; or writes nothing and returns one of the codes
  * from FEVSTUNIK_NOT_A_TOKEN to FEVSTUNIK_NESTED_NEGOTIATION.
@@ -1120,17 +1385,76 @@ fevstunik_answer fevstunik_token_error(const fevstunik_wrapped *wrapped, const u
 /* Opens a service's answer to a client's first token, and returns the reply or the KRB-ERROR.
  * `is_error` says which; it is set on FEVSTUNIK_OK and FEVSTUNIK_SHORT_BUFFER. An answer in a
  * negotiation may have neither, for example if the request asked for no reply. Then the call
- * returns FEVSTUNIK_TOKEN_EMPTY, though the service may have let the client in. The call allocates
- * no memory.
+ * returns FEVSTUNIK_TOKEN_EMPTY or FEVSTUNIK_TOKEN_MALFORMED, though the service may have let the
+ * client in: fevstunik_verdict_read says what it means. The call allocates no memory.
  *
  * Returns FEVSTUNIK_OK or FEVSTUNIK_SHORT_BUFFER; or writes nothing and returns
- * FEVSTUNIK_NOT_A_TOKEN, _TOKEN_MALFORMED, _TOKEN_EMPTY or _TOKEN_ID, or one of the codes of other
- * mechanisms from FEVSTUNIK_OTHER_MECHANISM to FEVSTUNIK_NESTED_NEGOTIATION.
+ * FEVSTUNIK_NOT_A_TOKEN, _TOKEN_MALFORMED, _TOKEN_EMPTY, _TOKEN_ID or _TOKEN_UNFRAMED, or one of
+ * the codes of other mechanisms from FEVSTUNIK_OTHER_MECHANISM to FEVSTUNIK_NESTED_NEGOTIATION.
  *
  *     bool is_error;
  *     answer = fevstunik_token_answer(token, token_size, &is_error, reply, sizeof reply);
  */
 fevstunik_answer fevstunik_token_answer(const uint8_t *token, size_t token_size, bool *is_error, uint8_t *buffer, size_t buffer_size);
+
+/* Takes the next token of a client, from the first on. If it holds a request, the request is
+ * written to the buffer, and `wrapped` says how its answer is wrapped. If it begins a negotiation
+ * whose first mechanism is Kerberos and holds no request, `wrapped->mechanism` is
+ * FEVSTUNIK_MECHANISM_NONE, and the buffer has the answer that asks for it (22 bytes at most): send
+ * it, and take the client's next token. A negotiation has at most two such rounds. One whose first
+ * mechanism is another is refused, also if Kerberos is in its list: a change of the list would be
+ * found only by a mechListMIC, and this library makes none. `negotiation` is all zero before the
+ * first token. The call changes it, unless it returns FEVSTUNIK_SHORT_BUFFER,
+ * FEVSTUNIK_BAD_NEGOTIATION or FEVSTUNIK_OUT_OF_MEMORY: then call again with the same token.
+ * `wrapped` is filled on FEVSTUNIK_OK and FEVSTUNIK_SHORT_BUFFER. The buffer must not overlap the
+ * token.
+ *
+ * Returns FEVSTUNIK_OK or FEVSTUNIK_SHORT_BUFFER; or writes nothing to the buffer and returns one
+ * of the codes from FEVSTUNIK_NOT_A_TOKEN to FEVSTUNIK_NESTED_NEGOTIATION,
+ * FEVSTUNIK_NEGOTIATION_OVER, FEVSTUNIK_BAD_NEGOTIATION or FEVSTUNIK_OUT_OF_MEMORY.
+ *
+ *     fevstunik_negotiation negotiation = {0, 0};
+ *     answer = fevstunik_negotiation_take(&negotiation, token, token_size, &wrapped, request, sizeof request);
+ */
+fevstunik_answer fevstunik_negotiation_take(fevstunik_negotiation *negotiation, const uint8_t *token, size_t token_size,
+                                            fevstunik_wrapped *wrapped, uint8_t *buffer, size_t buffer_size);
+
+/* Reads a KRB-ERROR, as fevstunik_token_answer returns it. The texts and the data are written to
+ * the buffer. `found` is filled on FEVSTUNIK_OK and FEVSTUNIK_SHORT_BUFFER: on the latter the
+ * places lie in the longer buffer that you need. Nobody has signed a KRB-ERROR: what it says may be
+ * forged. If the code is 37 (KRB_AP_ERR_SKEW), `stime` less the client's clock is by how much the
+ * clocks differ.
+ *
+ * Returns FEVSTUNIK_OK or FEVSTUNIK_SHORT_BUFFER; or writes nothing and returns
+ * FEVSTUNIK_ERROR_MALFORMED or FEVSTUNIK_OUT_OF_MEMORY.
+ *
+ *     fevstunik_krb_error found;
+ *     answer = fevstunik_krb_error_read(error, error_size, &found, buffer, sizeof buffer);
+ */
+fevstunik_answer fevstunik_krb_error_read(const uint8_t *error, size_t error_size, fevstunik_krb_error *found, uint8_t *buffer,
+                                          size_t buffer_size);
+
+/* Returns the answer of a negotiation that holds no reply and no error: accept-completed for a
+ * client that asked for no reply, and reject for one that is refused without a KRB-ERROR. MIT's
+ * client needs the first to complete, and no client the second.
+ *
+ * Returns FEVSTUNIK_OK or FEVSTUNIK_SHORT_BUFFER; or writes nothing and returns
+ * FEVSTUNIK_BAD_VERDICT or FEVSTUNIK_OUT_OF_MEMORY.
+ *
+ *     const fevstunik_verdict verdict = {FEVSTUNIK_SAYS_COMPLETED, FEVSTUNIK_MECHANISM_KERBEROS};
+ *     answer = fevstunik_verdict_token(&verdict, buffer, sizeof buffer);
+ */
+fevstunik_answer fevstunik_verdict_token(const fevstunik_verdict *verdict, uint8_t *buffer, size_t buffer_size);
+
+/* Reads a service's answer in a negotiation that holds no reply and no error. The call allocates no
+ * memory.
+ *
+ * Returns FEVSTUNIK_OK; or writes nothing and returns FEVSTUNIK_NOTHING_THERE if the bytes aren't
+ * such an answer. fevstunik_token_answer says what they are then.
+ *
+ *     answer = fevstunik_verdict_read(token, token_size, &verdict);
+ */
+fevstunik_answer fevstunik_verdict_read(const uint8_t *token, size_t token_size, fevstunik_verdict *verdict);
 
 /* Reads what a GSS-API client asks for, in the authenticator's checksum of type 0x8003 (32771; RFC
  * 4121, section 4.1.1), as `fevstunik_accepted_item` returns it. Check the item's type first: the

@@ -25,17 +25,21 @@ def run(*words, at=CRATE):
     return subprocess.run([str(word) for word in words], stdout=subprocess.PIPE, stderr=subprocess.STDOUT, text=True, cwd=at)
 
 
-def over_ci(folder, cpu, out, *more):
-    """Builds a crate over the libraries that `rt ci` left, which rt would prove and build again; None if it left none."""
-    crate = edits.crates_of(str(ROOT))[folder.name]
-    for name in crate.below:
-        left = ROOT / "crates" / name / "out/rlib"
-        if not (left / f"{name}.rlib").exists() or (left / "stamp").exists():
-            return None
-    words = crate.words("out/incremental")
+def over_proved(folder, cpu, out, *more):
+    """Builds a crate over the libraries below it, which are proved and built."""
+    words = edits.crates_of(str(ROOT))[folder.name].words("out/incremental")
     words[words.index("check")] = "build"
     words[words.index("--jobs") + 1] = str(len(os.sched_getaffinity(0)))
     return run(*words, *more, "--toolchain", f"{edits.KIT}/toolchain", "--backend", "llvm", f"--cpu={cpu}", "-o", out, at=folder)
+
+
+def over_ci(folder, cpu, out, *more):
+    """Builds a crate over the libraries that `rt ci` left, which rt would prove and build again; None if it left none."""
+    for name in edits.crates_of(str(ROOT))[folder.name].below:
+        left = ROOT / "crates" / name / "out/rlib"
+        if not (left / f"{name}.rlib").exists() or (left / "stamp").exists():
+            return None
+    return over_proved(folder, cpu, out, *more)
 
 
 def build(cpu, out):

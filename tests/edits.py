@@ -42,11 +42,8 @@ import time
 from collections import defaultdict
 from concurrent.futures import ThreadPoolExecutor
 
-sys.path.insert(0, os.path.dirname(os.path.abspath(__file__)))
-sys.dont_write_bytecode = True
-
-import edits_lock  # noqa: E402
-from source_text import blanked, functions_of, names_of  # noqa: E402
+import edits_lock
+from source_text import blanked, functions_of, names_of
 
 PARTS = ("src", "specs", "proofs")
 # A check that has gone on for so long won't end.
@@ -204,7 +201,7 @@ class Crate:
         self.seconds, self.checks, self.memory = 0.0, 0, 0
         self.edits, self.strays, self.due = [], [], []
 
-    def load(self, word):
+    def load(self):
         folder = f"{self.folder}/edits"
         names = sorted(os.listdir(folder)) if os.path.isdir(folder) else []
         for part in PARTS if names else ():
@@ -214,8 +211,7 @@ class Crate:
                         self.texts[os.path.relpath(f"{at}/{name}", self.folder)] = it.read()
         for it in names:
             if re.fullmatch(r"[A-Za-z0-9_-][A-Za-z0-9_.-]*\.edit", it):
-                if word in it:
-                    self.edits.append(Edit(self, f"{folder}/{it}"))
+                self.edits.append(Edit(self, f"{folder}/{it}"))
             elif not it.endswith(".md"):
                 self.strays.append(f"{self.name}/{it}")
 
@@ -745,12 +741,13 @@ def main():
         print(f"edits: crates.txt names no crate {' '.join(unknown)}", file=sys.stderr)
         return 2
     for it in known.values():
-        it.load(given.edit if not given.names or it.name in given.names else "")
+        it.load()
     crates = [it for it in known.values() if it.edits or it.strays]
     lock = edits_lock.Lock(top, known, crates)
     is_chosen = bool(given.names or given.all or given.edit)
     for it in crates:
-        it.due = [edit for edit in it.edits if (it.name in given.names or not given.names if is_chosen else lock.is_due(edit))]
+        is_named = it.name in given.names or not given.names
+        it.due = [edit for edit in it.edits if (is_named and given.edit in os.path.basename(edit.file) if is_chosen else lock.is_due(edit))]
     chosen = [it for it in crates if it.due or (it.strays and (not given.names or it.name in given.names))]
     if not is_chosen:
         for line in said_of_lock(lock, crates):

@@ -7,11 +7,8 @@ import subprocess
 import sys
 import tempfile
 
-sys.path.insert(0, os.path.dirname(os.path.abspath(__file__)))
-sys.dont_write_bytecode = True
-
-import edits_lock  # noqa: E402
-from edits import crates_of  # noqa: E402
+import edits_lock
+from edits import crates_of
 
 SOURCE = """// Functions whose edits show what the runner of edits tells apart.
 // Where an edit may stand.
@@ -230,6 +227,8 @@ def check_lock(hold):
             else:
                 os.remove(path)
         hold("all is as it was", tried() == 0)
+        status, said = run_of(room, [], "--edit", EDITS[1][0])
+        hold("one edit by its name, and the lines of others stay", status == 0 and said.endswith("\n1 passed, 0 failed\n") and tried() == 0)
         os.remove(f"{room}/crates/sample/edits/{NAMES_A_COMMENT[0]}.edit")
         check_toolchains(hold, room)
         check_turns(hold, room, plan)
@@ -243,7 +242,7 @@ def check_toolchains(hold, room):
     ran = subprocess.run(words, capture_output=True, text=True, env={**os.environ, "PATH": f"{room}/tools:{os.environ['PATH']}"})
     hold("another toolchain", "edits: sample: 1 edits are tried: changed since" in ran.stdout)
     known = crates_of(room)
-    known["sample"].load("")
+    known["sample"].load()
     edit = known["sample"].edits[0]
     versions = ("another version", edits_lock.toolchain())
     both = "".join(f"toolchain {it}\n{edit.name} {edits_lock.hash_of(edit, edits_lock.Known(known), it)}\n" for it in versions)
@@ -259,7 +258,7 @@ def check_turns(hold, room, plan):
     made(room, [edit])
     write(f"{room}/crates.txt", "low:\nsample: low\n")
     known = crates_of(room)
-    known["sample"].load("")
+    known["sample"].load()
     lie = known["sample"].edits[0]
     lies = f"toolchain {edits_lock.toolchain()}\n{lie.name} {edits_lock.hash_of(lie, edits_lock.Known(known), edits_lock.toolchain())}\n"
     write(f"{room}/{edits_lock.FILE}", lies)

@@ -14,26 +14,21 @@ import stat
 import subprocess
 import sys
 import tempfile
+import tomllib
 
-CRATE = os.path.join(os.path.dirname(os.path.dirname(os.path.abspath(__file__))), "crates", "krbtool")
+CRATES = os.path.join(os.path.dirname(os.path.dirname(os.path.abspath(__file__))), "crates")
+CRATE = os.path.join(CRATES, "krbtool")
+with open(os.path.join(CRATES, "krb_command_line", "commands.toml"), "rb") as file:
+    TABLE = tomllib.load(file)
 # The operands of each command. Those named in READ are files that it reads, and OUT is one that it writes.
 OPERANDS = {
-    "list-keytab": "FILE",
-    "list-ccache": "FILE",
-    "check-keytab": "FILE",
-    "check-ccache": "FILE",
-    "convert-keytab": "FILE OUT",
-    "convert-ccache": "FILE OUT",
-    "request": "FILE SERVICE",
-    "accept": "KEYTAB",
-    "finish": "FILE SERVICE",
-    "pick-key": "KEYTAB NAME ETYPE",
-    "remove-key": "KEYTAB OUT INDEX",
-    "add-keys": "KEYTAB FROM OUT",
+    it["name"]: [TABLE["operand"][key]["name"] for key in it["arguments"] if key in TABLE["operand"]] for it in TABLE["command"]
 }
-READ = ("FILE", "KEYTAB", "FROM")
-# The options that are followed by a value.
-VALUED = "--time --usec --confounder --token --now --skew --started --service --only --reply --kvno".split()
+READ = {it["name"] for it in TABLE["operand"].values() if it.get("file")} - {"OUT"}
+# The options that are followed by a value, and those whose value is a file that the command writes.
+OPTIONS = {f"--{it.get('name', key)}": it for key, it in TABLE["option"].items()}
+VALUED = {*OPTIONS}
+WRITTEN = {name for name, it in OPTIONS.items() if it.get("file")}
 # A file or standard input that is longer can't be handed to the program.
 LIMIT = 1 << 26
 # What `rt try` says at its end if the program ended, and what it says if not.
@@ -48,7 +43,7 @@ class NotSo(Exception):
 
 def operands_of(words):
     """The place of each operand of the command, with its name."""
-    names, places, at = OPERANDS.get(words[0], "").split() if words else [], [], 1
+    names, places, at = OPERANDS.get(words[0], []) if words else [], [], 1
     while at < len(words):
         word = words[at]
         if word == "--":
@@ -60,6 +55,15 @@ def operands_of(words):
             places.append(at)
         at += 1
     return list(zip(places, names))
+
+
+def written_by(words):
+    """The place of each option's file that the command writes, and what stands before it in that word."""
+    options = words[: words.index("--")] if "--" in words else words
+    for at, word in enumerate(options):
+        name, equals, _ = word.partition("=")
+        if name in WRITTEN and (equals or at + 1 < len(words)):
+            yield (at, word[: len(name) + 1]) if equals else (at + 1, "")
 
 
 def is_passing(path):
@@ -91,6 +95,10 @@ def located(words, room):
             with open(path, "rb") as source:
                 path = kept(source, f"{room}/{at}")
         found[at], given[path] = path, words[at]
+    for at, before in written_by(words):
+        name = words[at][len(before) :]
+        path = os.path.join(os.getcwd(), name) if name else name
+        found[at], given[path] = before + path, name
     return found, given
 
 

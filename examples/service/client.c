@@ -4,27 +4,7 @@
  *     client CACHE NAME PORT TEXT [twice]      NAME as host/web@EX; with `twice` it sends the same request again
  *
  * It prints `agreed as CLIENT` for each request, or `no receipt`, or `refused` if the service answers with anything but a reply. */
-#include "sources.h"
-
-/* Its subkey's encryption type, and how many bytes such a key has. */
-#define SUBKEY_TYPE 20
-#define SUBKEY_SIZE 32
-
-/* Sends a text under the key that the service chose; answers whether the receipt is the text's under ours. */
-static int say(int peer, const char *text, const fevstunik_agreement *agreement, const uint8_t *bytes, const uint8_t *subkey)
-{
-    static struct bytes receipt;
-    uint8_t confounder[16], sealed[4096];
-    fevstunik_answer answer;
-
-    draw(confounder, sizeof confounder);
-    answer = fevstunik_seal(agreement->service_subkey_type, bytes + agreement->service_subkey.at, agreement->service_subkey.size, TEXT_USAGE,
-                            confounder, sizeof confounder, (const uint8_t *)text, strlen(text), sealed, sizeof sealed);
-    if (answer.code != FEVSTUNIK_OK || !transmit(peer, sealed, answer.size) || !receive(peer, &receipt))
-        return 0;
-    return fevstunik_checksum_check(SUBKEY_TYPE, subkey, SUBKEY_SIZE, RECEIPT_USAGE, (const uint8_t *)text, strlen(text), receipt.at,
-                                    receipt.size).code == FEVSTUNIK_OK;
-}
+#include "text.h"
 
 int main(int count, char **words)
 {

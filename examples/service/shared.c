@@ -134,7 +134,7 @@ static void answer_to(const char *line, fevstunik_acceptor *service, fevstunik_a
 /* A service over a store that remembers all since the first start, or one that has to refuse requests at first. */
 static fevstunik_answer make_service(fevstunik_acceptor *service, const struct bytes *keytab, const char *name, int is_again)
 {
-    fevstunik_acceptor_options options = {sizeof options, clock_now(), SKEW, FEVSTUNIK_RESTART_FIRST_LIFE, false, false};
+    fevstunik_acceptor_options options = {.size = sizeof options, .started = clock_now(), .skew = SKEW, .restarts = FEVSTUNIK_RESTART_FIRST_LIFE};
 
     if (is_again)
         options.restarts = FEVSTUNIK_RESTART_STARTED;

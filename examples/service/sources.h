@@ -18,6 +18,23 @@ static inline void read_file(const char *name, struct bytes *bytes)
     fclose(file);
 }
 
+/* The bytes of a file of any size, which the caller frees. */
+static inline uint8_t *whole_file(const char *name, size_t *size)
+{
+    FILE *file = fopen(name, "rb");
+    uint8_t *bytes = NULL, *longer;
+
+    *size = 0;
+    do {
+        if (file == NULL || (longer = realloc(bytes, *size + MOST)) == NULL)
+            give_up(name);
+        bytes = longer;
+        *size += fread(bytes + *size, 1, MOST, file);
+    } while (!feof(file) && !ferror(file));
+    fclose(file);
+    return bytes;
+}
+
 static inline fevstunik_time clock_now(void)
 {
     struct timespec time;

@@ -11,6 +11,7 @@
 #include <stdlib.h>
 #include <string.h>
 #include <sys/socket.h>
+#include <sys/time.h>
 #include <unistd.h>
 
 /* The usages of the text and of its receipt; an application chooses from 1024 on (RFC 4120, section 7.5.1). */
@@ -72,6 +73,15 @@ static inline int accept_from(int listener)
     if (peer < 0)
         give_up("accept");
     return peer;
+}
+
+/* Gives a peer so many seconds for each part of what it sends or receives. */
+static inline void limit_time(int peer, int seconds)
+{
+    struct timeval time = {seconds, 0};
+
+    if (setsockopt(peer, SOL_SOCKET, SO_RCVTIMEO, &time, sizeof time) != 0 || setsockopt(peer, SOL_SOCKET, SO_SNDTIMEO, &time, sizeof time) != 0)
+        give_up("time limit");
 }
 
 static inline int receive_all(int from, uint8_t *at, size_t size)

@@ -1,4 +1,4 @@
-# Completion of krbtool for bash. Made by packaging/completion.py; don't edit it.
+# Completion of krbtool for bash. Made from commands.toml by `make generate`; don't edit it.
 _krbtool() {
     local word=${COMP_WORDS[COMP_CWORD]} before=${COMP_WORDS[COMP_CWORD-1]} options
     COMPREPLY=()
@@ -7,21 +7,21 @@ _krbtool() {
         return
     fi
     case $before in
-        --confounder | --kvno | --now | --only | --reply | --service | --skew | --started | --time | --token | --usec) return ;;
+        --confounder | --kvno | --now | --only | --out | --reply | --service | --skew | --started | --time | --token | --usec) return ;;
     esac
     case ${COMP_WORDS[1]} in
         list-keytab) options='--readable --help' ;;
         list-ccache) options='--readable --now --help' ;;
         check-keytab) options='--help' ;;
         check-ccache) options='--help' ;;
-        convert-keytab) options='--help' ;;
-        convert-ccache) options='--help' ;;
+        convert-keytab) options='--replace --help' ;;
+        convert-ccache) options='--replace --help' ;;
         request) options='--time --usec --confounder --mutual --token --help' ;;
         accept) options='--skew --started --service --only --tokens --help' ;;
         finish) options='--time --usec --reply --help' ;;
         pick-key) options='--kvno --help' ;;
-        remove-key) options='--help' ;;
-        add-keys) options='--help' ;;
+        remove-key) options='--out --help' ;;
+        add-keys) options='--out --help' ;;
         help) options='list-keytab list-ccache check-keytab check-ccache convert-keytab convert-ccache request accept finish pick-key remove-key add-keys' ;;
         *) return ;;
     esac

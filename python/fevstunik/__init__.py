@@ -1,43 +1,50 @@
 """The application exchange of Kerberos 5 (RFC 4120, section 3.2), with the encryption types of RFC 8009.
 
-A service makes one Acceptor from its Keytab, and passes each request to it:
+A service makes one Service from its Keytab, and passes what clients send to it:
 
->>> from fevstunik import Acceptor, CredentialCache, Keytab, Refused, make_request
->>> service = Acceptor(Keytab.read("examples/service.keytab"), "host/web@EX", first_life=True)
+>>> from fevstunik import Client, CredentialCache, Keytab, Login, Service
+>>> service = Service(Keytab.read("examples/service.keytab"), "host/web@EX", first_life=True)
 
-(If a service has used one of these keys before, pass started=time.time() instead.) A client makes a request from a ticket of its
+(If a service has used one of these keys before, pass started=time.time() instead.) A client makes its first token from a ticket of its
 CredentialCache:
 
->>> cache = CredentialCache.read("examples/client.ccache")
->>> request, pending = make_request(cache, "host/web@EX", now=1_700_000_100)
+>>> client = Client(CredentialCache.read("examples/client.ccache"), "host/web@EX")
+>>> token = client.first(now=1_700_000_100)
 
-The service accepts it, or says why not, and the client reads the reply:
+The service lets it in, or says why not, and the client reads what goes back:
 
->>> try:
-...     accepted = service.accept(request, now=1_700_000_100)
-... except Refused as refused:
-...     print("go away:", refused.cause.name)
->>> accepted.client
+>>> decision = service.answer(token, now=1_700_000_100)
+>>> isinstance(decision, Login), decision.client
+(True, 'alice@EX')
+>>> client.finish(decision.reply).client
 'alice@EX'
->>> pending.finish(accepted.reply()).client
-'alice@EX'
+>>> print(service.answer(token, now=1_700_000_100))
+REPEAT: a request of this service, client and time was seen before (ticket for host/web@EX, etype 19, kvno 3)
 
-The shared library libfevstunik does all of this, and its functions are proved. What the package adds is tested, not proved. Keys aren't
-wiped from memory, and nothing is promised about how long a call takes.
+An Acceptor, make_request and Token are the single steps of this.
+
+The shared library libfevstunik does all of this, and its functions are proved. What the package adds is tested, not proved. The library
+overwrites what it frees, but Python's bytes stay in memory: files that were read, the data of keys, and what calls return.
 """
-from ._client import Agreed, Pending, make_request
+from ._accepted import Accepted, Stamp
+from ._bindings import tls_server_end_point
+from ._client import Agreed, Client, Pending, ServiceError, login, make_request
 from ._codes import Code
 from ._errors import Error, Fault, LibraryError
 from ._files import Credential, CredentialCache, Keytab, KeytabEntry, Owner
 from ._library import load, version
-from ._service import Accepted, Acceptor, Refused, Stamp
-from ._tokens import Context, ContextFlags, Mechanism, Token, TokenAnswer, open_answer, wrap_request
+from ._login import Asked, Connection, Login, Service
+from ._service import Acceptor, Refused, Usage
+from ._tokens import (
+    Context, ContextFlags, GoOn, KrbError, Mechanism, Negotiation, Says, Token, TokenAnswer, Verdict, open_answer, read_verdict,
+    wrap_request)
 from ._values import Key, Moment, TicketFlags, TypedData, When, check_name
 
 __all__ = [
-    "Accepted", "Acceptor", "Agreed", "Code", "Context", "ContextFlags", "Credential", "CredentialCache", "Error", "Fault", "Key", "Keytab",
-    "KeytabEntry", "LibraryError", "Mechanism", "Moment", "Owner", "Pending", "Refused", "Stamp", "TicketFlags", "Token", "TokenAnswer",
-    "TypedData", "When", "check_name", "load", "make_request", "open_answer", "version", "wrap_request",
+    "Accepted", "Acceptor", "Agreed", "Asked", "Client", "Code", "Connection", "Context", "ContextFlags", "Credential", "CredentialCache", "Error", "Fault", "GoOn",
+    "Key", "Keytab", "KeytabEntry", "KrbError", "LibraryError", "Login", "Mechanism", "Moment", "Negotiation", "Owner", "Pending", "Refused",
+    "Says", "Service", "ServiceError", "Stamp", "TicketFlags", "Token", "TokenAnswer", "TypedData", "Usage", "Verdict", "When", "check_name", "load",
+    "login", "make_request", "open_answer", "read_verdict", "tls_server_end_point", "version", "wrap_request",
 ]
 for _name in __all__:
     if isinstance(globals()[_name], type):

@@ -5,16 +5,18 @@ import os
 from ctypes import byref, c_uint8
 from dataclasses import dataclass
 from types import TracebackType
+from typing import Callable
 
 from . import _interface
 from ._files import CredentialCache
-from ._library import Bytes, Handle, filled, octets, read
-from ._tokens import ContextFlags, bindings_of
-from ._values import CONFOUNDER, Key, When, chosen, clock_of_request
+from ._library import Bytes, Handle, Secret, filled, octets, read, text_of
+from ._shown import fit_for_a_line
+from ._tokens import ContextFlags, KrbError, Says, bindings_of, open_answer, read_verdict, wrap_request
+from ._values import CONFOUNDER, Key, Moment, When, chosen, clock_of_request
 
 
 @dataclass(frozen=True)
-class Agreed:
+class Agreed(Secret):
     """What a client and a service agreed on.
 
     client          the client, as ``alice@EX``
@@ -34,7 +36,7 @@ class Agreed:
     client_type: int
 
 
-class Pending:
+class Pending(Secret):
     """A request whose reply is awaited, as make_request returns it.
 
     It is a context manager. At the end of the block, or by close(), the library frees what it holds. Then finish raises the Fault
@@ -61,8 +63,7 @@ class Pending:
         Agreed(client='alice@EX', session_key=Key(kind=19), service_subkey=Key(kind=20), service_seq=None, client_type=1)
         """
         reply = octets(reply)
-        with self._handle.used() as pointer:
-            found, data = read(_interface.Agreement, lambda *into: self._handle.library.call("finish", pointer, reply, len(reply), *into))
+        found, data = read(_interface.Agreement, lambda *into: self._handle.call("finish", reply, len(reply), *into))
         return Agreed(
             found.client.text(data), Key(found.session_type, found.session_key.of(data)),
             Key(found.service_subkey_type, found.service_subkey.of(data)) if found.has_service_subkey else None,
@@ -111,13 +112,183 @@ def make_request(cache: CredentialCache, service: str, *, now: When | None = Non
         raise ValueError("bindings are those of a client of GSS-API: give its context, too")
     if context is not None and seq is None:
         seq = int.from_bytes(os.urandom(4), "big") >> 2
-    name, at, confounder, choice = service.encode(), clock_of_request(now), os.urandom(CONFOUNDER), chosen(subkey, seq, wants_reply)
+    name, at, confounder, choice = text_of(service), clock_of_request(now), os.urandom(CONFOUNDER), chosen(subkey, seq, wants_reply)
     call, more = ("request", ()) if context is None else ("context_request", (byref(_context(context, bindings)),))
     pending = Handle("pending")
-    with cache._handle.used() as held, pending.used() as pointer:
-        request = filled(lambda *into: pending.library.call(
-            call, held, pointer, name, len(name), byref(at), confounder, CONFOUNDER, *choice, *more, *into))
+    request = filled(lambda *into: cache._handle.call(
+        call, pending.pointer, name, len(name), byref(at), confounder, CONFOUNDER, *choice, *more, *into))
     return request, Pending(pending)
+
+
+# KRB_AP_ERR_SKEW (RFC 4120, section 7.5.9)
+_SKEW = 37
+# The first bytes of a reply and of a KRB-ERROR without a token around them.
+_REPLY, _ERROR = b"\x6f", b"\x7e"
+
+
+class ServiceError(Exception):
+    """A service refused a client, or answered without a proof that it is the right one.
+
+    error         the KRB-ERROR of its answer, or None. Nobody has signed it: it may be forged
+    clock_offset  by how many seconds the service's clock is ahead of the client's, as the error says; or None without an error
+    says          what a negotiation says in place of a reply, or None
+
+    >>> from fevstunik import KrbError, Moment, ServiceError
+    >>> str(ServiceError(KrbError(37, Moment(1_700_000_100), "host/web@EX"), -400.0))
+    'host/web@EX refused the request: KRB_AP_ERR_SKEW; its clock is 400 seconds behind'
+    """
+
+    def __init__(self, error: KrbError | None, clock_offset: float | None = None, says: Says | None = None) -> None:
+        super().__init__(error, clock_offset, says)
+        self.error = error
+        self.clock_offset = clock_offset
+        self.says = says
+
+    def __str__(self) -> str:
+        if self.error is None:
+            return _UNPROVED[self.says]
+        text = f"{fit_for_a_line(self.error.service)} refused the request: {self.error.name}"
+        if self.error.code != _SKEW or self.clock_offset is None:
+            return text
+        return f"{text}; its clock is {abs(self.clock_offset):.0f} seconds {'ahead' if self.clock_offset > 0 else 'behind'}"
+
+
+_UNPROVED = {
+    None: "the service answered nothing",
+    Says.REJECTED: "the service refused the request, and didn't say why",
+    Says.COMPLETED: "the service says that it let the client in, and sent no reply that proves who it is",
+    Says.INCOMPLETE: "the service asks for another token",
+}
+
+
+class Client(Secret):
+    """The client's side of a login: makes the first message, and reads the service's answer. The service is asked for a reply.
+
+    cache       has a ticket of its owner for the service
+    service     the service's name, as ``host/web@EX``
+    negotiated  whether the token is in a negotiation (SPNEGO), as web services want it
+    context     what a GSS-API client asks for, as of make_request; or None for a request without a token around it
+    bindings    the bindings of the channel, as tls_server_end_point returns them, or None
+    subkey      a key that the client chooses, as Key.random(20), or None
+
+    It is a context manager. At the end of the block, or by close(), the library frees what it holds.
+
+    >>> from fevstunik import Acceptor, Client, CredentialCache, Keytab
+    >>> service = Acceptor(Keytab.read("examples/service.keytab"), "host/web@EX", first_life=True)
+    >>> with Client(CredentialCache.read("examples/client.ccache"), "host/web@EX", context=None) as client:
+    ...     request = client.first(now=1_700_000_100)
+    ...     client.finish(service.accept(request, now=1_700_000_100).reply()).client
+    'alice@EX'
+    """
+
+    def __init__(self, cache: CredentialCache, service: str, *, negotiated: bool = True, context: ContextFlags | None = ContextFlags(0),
+                 bindings: Bytes | None = None, subkey: Key | None = None) -> None:
+        self._cache, self._service, self._negotiated = cache, service, negotiated
+        self._context, self._bindings, self._subkey = context, bindings, subkey
+        self._sent: tuple[Pending, Moment] | None = None
+
+    def first(self, *, now: When | None = None) -> bytes:
+        """Return the bytes to send to the service. Another call makes another request, whose answer is then awaited.
+
+        now  the client's clock, as of make_request
+
+        Raises Fault if no request can be made.
+
+        >>> from fevstunik import Client, CredentialCache
+        >>> Client(CredentialCache.read("examples/client.ccache"), "host/web@EX").first(now=1_700_000_100)[0] == 0x60
+        True
+        """
+        at = clock_of_request(now)
+        moment = Moment(at.seconds, at.micros)
+        request, pending = make_request(
+            self._cache, self._service, now=moment, subkey=self._subkey, context=self._context, bindings=self._bindings)
+        self.close()
+        self._sent = pending, moment
+        return request if self._context is None else wrap_request(request, negotiated=self._negotiated)
+
+    def finish(self, answer: Bytes) -> Agreed:
+        """Read the service's answer: a token or a message without one. Only after this, the client knows that it talks to the service.
+
+        Raises ServiceError if the service refused the client, or didn't reply; and Fault if these bytes aren't the reply. The right one may
+        still be read afterwards.
+
+        >>> from fevstunik import Client, CredentialCache
+        >>> client = Client(CredentialCache.read("examples/client.ccache"), "host/web@EX")
+        >>> token = client.first(now=1_700_000_100)
+        >>> client.finish(bytes.fromhex("a1073005a0030a0102"))
+        Traceback (most recent call last):
+            ...
+        fevstunik.ServiceError: the service refused the request, and didn't say why
+        """
+        if self._sent is None:
+            raise RuntimeError("no answer is awaited: call first(), and send what it returns")
+        pending, moment = self._sent
+        answer = octets(answer)
+        if answer[:1] == _REPLY:
+            return pending.finish(answer)
+        says = read_verdict(answer)
+        if not answer or says is not None:
+            raise ServiceError(None, None, None if says is None else says.says)
+        error = answer if answer[:1] == _ERROR else None
+        if error is None:
+            opened = open_answer(answer)
+            if not opened.is_error:
+                return pending.finish(opened.message)
+            error = opened.message
+        read = KrbError.read(error)
+        raise ServiceError(read, read.clock_offset(moment))
+
+    def close(self) -> None:
+        """Free what the library holds. A second call does nothing.
+
+        >>> from fevstunik import Client, CredentialCache
+        >>> Client(CredentialCache.read("examples/client.ccache"), "host/web@EX").close()
+        """
+        sent, self._sent = self._sent, None
+        if sent is not None:
+            sent[0].close()
+
+    def __enter__(self) -> Client:
+        return self
+
+    def __exit__(self, kind: type[BaseException] | None, fault: BaseException | None, trace: TracebackType | None) -> None:
+        self.close()
+
+
+def login(cache: CredentialCache, service: str, exchange: Callable[[bytes], bytes], *, now: When | None = None,
+          adjust_clock: bool = False, negotiated: bool = True, context: ContextFlags | None = ContextFlags(0), bindings: Bytes | None = None,
+          subkey: Key | None = None) -> Agreed:
+    """Log in to a service as a Client, and return what both agreed on.
+
+    exchange      sends the service some bytes, and returns what it answers
+    now           the client's clock: the machine's clock by default
+    adjust_clock  whether to try once more by the service's clock, if it answers that the clocks differ too much (RFC 4120, section 5.9.1).
+                  Nobody has signed that answer, and a request made by a forged time is of use then. So ask for it only if your machine's
+                  clock is known to be wrong
+
+    The others are those of Client. Raises ServiceError or Fault as Client.first and Client.finish do.
+
+    >>> from fevstunik import Acceptor, CredentialCache, Keytab, Refused, Token, login
+    >>> service = Acceptor(Keytab.read("examples/service.keytab"), "host/web@EX", first_life=True)
+    >>> def exchange(token: bytes) -> bytes:
+    ...     opened = Token.open(token)
+    ...     try:
+    ...         return opened.reply(service.accept(opened.request, now=1_700_000_100).reply())
+    ...     except Refused as refused:
+    ...         return opened.error(refused.error("host/web@EX", now=1_700_000_100))
+    >>> login(CredentialCache.read("examples/client.ccache"), "host/web@EX", exchange, now=1_700_000_500, adjust_clock=True).client
+    'alice@EX'
+    """
+    with Client(cache, service, negotiated=negotiated, context=context, bindings=bindings, subkey=subkey) as client:
+        try:
+            return client.finish(exchange(client.first(now=now)))
+        except ServiceError as refused:
+            ahead = refused.clock_offset
+            if not adjust_clock or ahead is None or refused.error is None or refused.error.code != _SKEW:
+                raise
+        here = clock_of_request(now)
+        there = Moment(*divmod(1_000_000 * here.seconds + here.micros + round(1_000_000 * ahead), 1_000_000))
+        return client.finish(exchange(client.first(now=there)))
 
 
 def _context(flags: ContextFlags, bindings: Bytes | None) -> _interface.ContextChoice:

@@ -17,6 +17,7 @@ class Code(enum.IntEnum):
     """
 
     OK = 0
+    GO_ON = 1
     MESSAGE_TYPE = 100
     MALFORMED = 110
     USER_TO_USER = 120
@@ -35,11 +36,15 @@ class Code(enum.IntEnum):
     EXPIRED = 240
     TRANSITED = 250
     AUTHORIZATION = 260
+    ANONYMOUS_CLIENT = 280
+    FOREIGN_REALM = 290
+    CHANNEL_BINDINGS = 300
     OUT_OF_MEMORY = 400
     SHORT_BUFFER = 401
     EMPTY_HANDLE = 402
     NOTHING_THERE = 403
     TOO_LONG = 404
+    FULL = 405
     BAD_SKEW = 410
     BAD_MOMENT = 411
     BAD_CONFOUNDER = 412
@@ -50,6 +55,8 @@ class Code(enum.IntEnum):
     NO_NAME = 417
     NO_START = 418
     EARLY_START = 419
+    BAD_BINDINGS = 420
+    BAD_RANDOM = 421
     FILE_VERSION = 500
     FILE_HEADER = 501
     FILE_TRUNCATED = 502
@@ -63,6 +70,7 @@ class Code(enum.IntEnum):
     REPLY_MALFORMED = 701
     REPLY_INTEGRITY = 702
     REPLY_MISMATCH = 703
+    ERROR_MALFORMED = 704
     TEXT_SHORT = 800
     TEXT_INTEGRITY = 801
     BAD_TEXT = 810
@@ -73,11 +81,15 @@ class Code(enum.IntEnum):
     TOKEN_CONTINUES = 902
     TOKEN_EMPTY = 903
     TOKEN_ID = 904
+    TOKEN_UNFRAMED = 905
     OTHER_MECHANISM = 910
     NTLM = 911
     IAKERB = 912
     NESTED_NEGOTIATION = 913
     BAD_MECHANISM = 920
+    BAD_VERDICT = 921
+    BAD_NEGOTIATION = 922
+    NEGOTIATION_OVER = 923
     CONTEXT_TRUNCATED = 930
     CONTEXT_BINDINGS = 931
     CONTEXT_DELEGATION = 932
@@ -102,6 +114,7 @@ class Code(enum.IntEnum):
 
 _TEXTS = {
     Code.OK: "success",
+    Code.GO_ON: "the login goes on with the client's next token",
     Code.MESSAGE_TYPE: "the first byte isn't that of a request",
     Code.MALFORMED: "the bytes aren't a request",
     Code.USER_TO_USER: "the option use-session-key is set",
@@ -120,11 +133,15 @@ _TEXTS = {
     Code.EXPIRED: "the ticket has expired",
     Code.TRANSITED: "the client is of another realm, and no KDC checked the realms between",
     Code.AUTHORIZATION: "the request has authorization data that may not be ignored",
+    Code.ANONYMOUS_CLIENT: "the client is anonymous",
+    Code.FOREIGN_REALM: "the client is of a realm that isn't let in",
+    Code.CHANNEL_BINDINGS: "the channel bindings aren't those of the connection",
     Code.OUT_OF_MEMORY: "out of memory",
     Code.SHORT_BUFFER: "the buffer is too short",
     Code.EMPTY_HANDLE: "the handle is empty",
     Code.NOTHING_THERE: "the handle has no accepted request, no refusal, or no such moment",
     Code.TOO_LONG: "a file, a request, an error, a token, a name or a key is longer than its limit",
+    Code.FULL: "the service remembers as many requests as it may, of all clients or of this one",
     Code.BAD_SKEW: "the skew is more than 86,400 seconds",
     Code.BAD_MOMENT: "the moment is outside the years 0000 to 9999, or has 1,000,000 microseconds or more",
     Code.BAD_CONFOUNDER: "the confounder isn't 16 bytes long",
@@ -135,6 +152,8 @@ _TEXTS = {
     Code.NO_NAME: "no name to serve is given",
     Code.NO_START: "it isn't said how repeats are refused after a start",
     Code.EARLY_START: "the start is before the year 2020",
+    Code.BAD_BINDINGS: "the number isn't that of a rule for channel bindings",
+    Code.BAD_RANDOM: "there are fewer or more random bytes than the service needs",
     Code.FILE_VERSION: "the file doesn't begin with 05 02 (a keytab), or with 05 03 or 05 04 (a cache)",
     Code.FILE_HEADER: "the header of the cache is malformed",
     Code.FILE_TRUNCATED: "the keytab ends within a record",
@@ -148,6 +167,7 @@ _TEXTS = {
     Code.REPLY_MALFORMED: "the bytes aren't a reply",
     Code.REPLY_INTEGRITY: "the session key doesn't open the reply",
     Code.REPLY_MISMATCH: "the reply's time isn't the request's",
+    Code.ERROR_MALFORMED: "the bytes aren't a KRB-ERROR",
     Code.TEXT_SHORT: "the text has fewer bytes than a sealed empty text: 32 (type 19) or 40 (type 20)",
     Code.TEXT_INTEGRITY: "the tag is wrong",
     Code.BAD_TEXT: "the text isn't a valid name",
@@ -158,11 +178,15 @@ _TEXTS = {
     Code.TOKEN_CONTINUES: "the token continues a negotiation, and doesn't begin one",
     Code.TOKEN_EMPTY: "the negotiation has no token of Kerberos",
     Code.TOKEN_ID: "the token of Kerberos holds a message of another kind",
+    Code.TOKEN_UNFRAMED: "a request without a token around it, as clients of DCE style send it",
     Code.OTHER_MECHANISM: "the mechanism isn't Kerberos",
     Code.NTLM: "the mechanism is NTLM, not Kerberos",
     Code.IAKERB: "the mechanism is IAKERB, not Kerberos",
     Code.NESTED_NEGOTIATION: "the mechanism is a nested negotiation, not Kerberos",
     Code.BAD_MECHANISM: "the number isn't that of a mechanism",
+    Code.BAD_VERDICT: "the numbers aren't those of a verdict",
+    Code.BAD_NEGOTIATION: "the numbers aren't those of a negotiation",
+    Code.NEGOTIATION_OVER: "the negotiation is over: it has taken a request, or refused a token",
     Code.CONTEXT_TRUNCATED: "the checksum of type 0x8003 is cut off",
     Code.CONTEXT_BINDINGS: "the length of the bindings in the checksum of type 0x8003 isn't 16",
     Code.CONTEXT_DELEGATION: "the delegation option in the checksum of type 0x8003 isn't 1",

@@ -4,12 +4,11 @@ from __future__ import annotations
 import os
 from ctypes import byref
 from dataclasses import dataclass, field
-from functools import cached_property
 from types import TracebackType
 from typing import Callable, TypeVar
 
 from . import _interface
-from ._library import Bytes, Handle, done, filled, fitting, library, octets, read
+from ._library import Bytes, Handle, Secret, done, filled, fitting, library, octets, read, text_of
 from ._values import Key, TicketFlags
 
 # How long a file may be. One byte more is read, so that the library sees that a longer file is too long.
@@ -22,18 +21,17 @@ def content(path: str | os.PathLike[str]) -> bytes:
         return file.read(LIMIT + 1)
 
 
-def _listed(kind: str, data: bytes, item: Callable[[object, int], Item]) -> tuple[Item, ...]:
+def _listed(kind: str, data: bytes, item: Callable[[Handle, int], Item]) -> tuple[Item, ...]:
     """The items of a file, which is read once for all of them."""
     handle = Handle(kind)
-    with handle.used() as pointer:
-        count = done(handle.library.call(f"{kind}_new", pointer, data, len(data))).size
-        items = tuple(item(pointer, index) for index in range(count))
+    count = done(handle.call(f"{kind}_new", data, len(data))).size
+    items = tuple(item(handle, index) for index in range(count))
     handle.close()
     return items
 
 
 @dataclass(frozen=True)
-class KeytabEntry:
+class KeytabEntry(Secret):
     """An entry of a keytab.
 
     name       whose key it is, as ``host/web@EX``
@@ -53,7 +51,7 @@ class KeytabEntry:
     name_type: int = 3
 
 
-class Keytab:
+class Keytab(Secret):
     """A keytab, from the bytes of a file of version 0x0502. Invalid bytes raise Fault, with an offset.
 
     >>> keytab = Keytab.read("examples/service.keytab")
@@ -65,6 +63,7 @@ class Keytab:
 
     def __init__(self, data: Bytes) -> None:
         self._data = octets(data)
+        self._entries: tuple[KeytabEntry, ...] | None = None
         self._count = done(library().call("keytab_check", self._data, len(self._data))).size
 
     @classmethod
@@ -92,15 +91,13 @@ class Keytab:
         >>> [entry.kvno for entry in Keytab.read("examples/mit-holes.keytab").entries]
         [2, 2, 4, 4]
         """
+        if self._entries is None:
+            self._entries = _listed("keytab", self._data, self._entry)
         return self._entries
 
-    @cached_property
-    def _entries(self) -> tuple[KeytabEntry, ...]:
-        return _listed("keytab", self._data, self._entry)
-
     @staticmethod
-    def _entry(pointer: object, index: int) -> KeytabEntry:
-        entry, data = read(_interface.KeyEntry, lambda struct, *into: library().call("keytab_entry", pointer, index, struct, *into))
+    def _entry(handle: Handle, index: int) -> KeytabEntry:
+        entry, data = read(_interface.KeyEntry, lambda struct, *into: handle.call("keytab_entry", index, struct, *into))
         return KeytabEntry(entry.name.text(data), Key(entry.key_type, entry.key.of(data)), entry.kvno, entry.timestamp, entry.name_type)
 
     def added(self, entry: KeytabEntry) -> Keytab:
@@ -110,7 +107,7 @@ class Keytab:
         >>> Keytab(bytes.fromhex("0502")).added(entry).entries == (entry,)
         True
         """
-        name, key = entry.name.encode(), octets(entry.key.data)
+        name, key = text_of(entry.name), octets(entry.key.data)
         parts = _interface.KeyParts(fitting(entry.timestamp, 32), fitting(entry.kvno, 32), fitting(entry.name_type, 32, signed=True),
                                   fitting(entry.key.kind, 16, signed=True))
         # A record takes at most twice its name's bytes, the key's, and 64 more.
@@ -142,6 +139,17 @@ class Keytab:
         return f"<Keytab of {self._count} entries>"
 
 
+def kvnos_of(keytab: Keytab) -> dict[tuple[str, int], list[int]]:
+    """The version numbers of a keytab's entries, by name and type. No key is kept."""
+    found: dict[tuple[str, int], list[int]] = {}
+
+    def add(handle: Handle, index: int) -> None:
+        entry, data = read(_interface.KeyEntry, lambda struct, *into: handle.call("keytab_entry", index, struct, *into))
+        found.setdefault((entry.name.text(data), entry.key_type), []).append(entry.kvno)
+    _listed("keytab", keytab.data, add)
+    return found
+
+
 @dataclass(frozen=True)
 class Owner:
     """The owner of a cache: the default principal, and the offset of its KDC's clock as (seconds, microseconds), if the cache has one.
@@ -156,8 +164,8 @@ class Owner:
 
 
 @dataclass(frozen=True)
-class Credential:
-    """A credential of a cache. `repr` leaves out its key and its ticket.
+class Credential(Secret):
+    """A credential of a cache. Its `repr` has neither the key nor the ticket.
 
     client      whose ticket it is
     server      the ticket's service; that of a configuration entry ends with ``@X-CACHECONF:``
@@ -188,12 +196,12 @@ class Credential:
     is_skey: bool
 
 
-def _owner(pointer: object) -> Owner:
-    owner, data = read(_interface.Owner, lambda struct, *into: library().call("cache_owner", pointer, struct, *into))
+def _owner(handle: Handle) -> Owner:
+    owner, data = read(_interface.Owner, lambda struct, *into: handle.call("cache_owner", struct, *into))
     return Owner(owner.name.text(data), owner.name_type, (owner.offset_seconds, owner.offset_micros) if owner.has_offset else None)
 
 
-class CredentialCache:
+class CredentialCache(Secret):
     """A credential cache, from the bytes of a file of version 0x0503 or 0x0504. Invalid bytes raise Fault, with an offset.
 
     It is a context manager. At the end of the block, or by close(), the library frees what it holds. Then make_request raises the
@@ -206,10 +214,10 @@ class CredentialCache:
 
     def __init__(self, data: Bytes) -> None:
         self._data = octets(data)
+        self._credentials: tuple[Credential, ...] | None = None
         self._handle = Handle("cache")
-        with self._handle.used() as pointer:
-            done(self._handle.library.call("cache_new", pointer, self._data, len(self._data)))
-            self._owner = _owner(pointer)
+        done(self._handle.call("cache_new", self._data, len(self._data)))
+        self._owner = _owner(self._handle)
 
     @classmethod
     def read(cls, path: str | os.PathLike[str]) -> CredentialCache:
@@ -236,15 +244,13 @@ class CredentialCache:
         >>> [credential.server for credential in CredentialCache.read("examples/client.ccache").credentials]
         ['host/web@EX']
         """
+        if self._credentials is None:
+            self._credentials = _listed("cache", self._data, self._credential)
         return self._credentials
 
-    @cached_property
-    def _credentials(self) -> tuple[Credential, ...]:
-        return _listed("cache", self._data, self._credential)
-
     @staticmethod
-    def _credential(pointer: object, index: int) -> Credential:
-        entry, data = read(_interface.CacheEntry, lambda struct, *into: library().call("cache_credential", pointer, index, struct, *into))
+    def _credential(handle: Handle, index: int) -> Credential:
+        entry, data = read(_interface.CacheEntry, lambda struct, *into: handle.call("cache_credential", index, struct, *into))
         return Credential(
             entry.client.text(data), entry.server.text(data), Key(entry.key_type, entry.key.of(data)), entry.ticket.of(data),
             entry.authtime, entry.starttime, entry.endtime, entry.renew_till, TicketFlags(entry.flags), entry.client_type,

@@ -6,10 +6,19 @@ import ctypes
 from ctypes import POINTER, c_bool, c_char_p, c_int16, c_int32, c_int64, c_size_t, c_uint8, c_uint32, c_void_p
 from typing import Any
 
+# The version of the library that this is for.
+VERSION = (0, 1, 0)
+
 
 class Opaque(ctypes.Structure):
     """A handle: made all zero, as the library asks, and never copied."""
     _fields_ = [("opaque", c_void_p)]
+
+
+class LoginHandle(ctypes.Structure):
+    """A handle that has another one as its first member."""
+    _fields_ = [("accepted", Opaque), ("opaque", c_void_p)]
+    accepted: Opaque
 
 
 class Answer(ctypes.Structure):
@@ -209,6 +218,53 @@ class Wrapped(ctypes.Structure):
     negotiated: int
 
 
+class Negotiation(ctypes.Structure):
+    _fields_ = [
+        ("stage", c_uint32),
+        ("asked", c_uint32),
+    ]
+    stage: int
+    asked: int
+
+
+class Verdict(ctypes.Structure):
+    _fields_ = [
+        ("says", c_uint32),
+        ("mechanism", c_uint32),
+    ]
+    says: int
+    mechanism: int
+
+
+class KrbError(ctypes.Structure):
+    _fields_ = [
+        ("service", Span),
+        ("client", Span),
+        ("text", Span),
+        ("data", Span),
+        ("stime", Time),
+        ("ctime", Time),
+        ("code", c_int32),
+        ("service_type", c_int32),
+        ("has_client", c_bool),
+        ("has_text", c_bool),
+        ("has_data", c_bool),
+        ("has_ctime", c_bool),
+    ]
+    service: Span
+    client: Span
+    text: Span
+    data: Span
+    stime: Time
+    ctime: Time
+    code: int
+    service_type: int
+    has_client: bool
+    has_text: bool
+    has_data: bool
+    has_ctime: bool
+
+
 class Context(ctypes.Structure):
     _fields_ = [
         ("bindings", Span),
@@ -240,6 +296,13 @@ class AcceptorOptions(ctypes.Structure):
         ("restarts", c_uint32),
         ("any_name", c_bool),
         ("any_start", c_bool),
+        ("limit", c_size_t),
+        ("limit_for_client", c_size_t),
+        ("bindings", c_uint32),
+        ("subkey_type", c_uint32),
+        ("bindings_hash", c_uint8 * 16),
+        ("anonymous", c_bool),
+        ("only_realms", c_bool),
     ]
     size: int
     started: Time
@@ -247,6 +310,46 @@ class AcceptorOptions(ctypes.Structure):
     restarts: int
     any_name: bool
     any_start: bool
+    limit: int
+    limit_for_client: int
+    bindings: int
+    subkey_type: int
+    anonymous: bool
+    only_realms: bool
+
+
+class Asked(ctypes.Structure):
+    _fields_ = [
+        ("service", Span),
+        ("etype", c_int32),
+        ("kvno", c_uint32),
+        ("service_type", c_int32),
+        ("has_kvno", c_bool),
+        ("wants_reply", c_bool),
+    ]
+    service: Span
+    etype: int
+    kvno: int
+    service_type: int
+    has_kvno: bool
+    wants_reply: bool
+
+
+class Usage(ctypes.Structure):
+    _fields_ = [
+        ("remembered", c_size_t),
+        ("held", c_size_t),
+        ("bytes", c_size_t),
+        ("limit", c_size_t),
+        ("limit_for_client", c_size_t),
+        ("full", c_size_t),
+    ]
+    remembered: int
+    held: int
+    bytes: int
+    limit: int
+    limit_for_client: int
+    full: int
 
 
 HANDLE, DATA, INTO = POINTER(Opaque), (c_char_p, c_size_t), (c_void_p, c_size_t)
@@ -279,8 +382,15 @@ FUNCTIONS: dict[str, tuple[Any, tuple[Any, ...]]] = {
     "accepted_free": (None, (HANDLE,)),  # Accepted.close
     "error": (Answer, (c_uint32, *DATA, c_int32, POINTER(Time), *INTO)),  # Refused.error
     "acceptor_count": (c_size_t, (HANDLE,)),  # Acceptor.remembered
+    "acceptor_usage": (Answer, (HANDLE, POINTER(Usage))),  # Acceptor.usage
     "acceptor_latest": (Answer, (HANDLE, POINTER(Time))),  # Acceptor.latest
+    "acceptor_add_realm": (Answer, (HANDLE, *DATA)),  # Service
     "acceptor_free": (None, (HANDLE,)),  # Acceptor.close
+    "service_answer": (Answer, (HANDLE, POINTER(LoginHandle), *DATA, POINTER(Time), *DATA, *INTO)),  # Service.answer
+    "login_answer": (Answer, (POINTER(LoginHandle), *INTO)),  # Service.answer
+    "login_asked": (Answer, (POINTER(LoginHandle), POINTER(Asked), *INTO)),  # Refused.asked
+    "login_free": (None, (POINTER(LoginHandle),)),  # Service.answer
+    "request_asks": (Answer, (*DATA, POINTER(Asked), *INTO)),  # asked_by
     "request": (Answer, (HANDLE, HANDLE, *DATA, POINTER(Time), *DATA, POINTER(Choice), *DATA, *INTO)),  # make_request
     "context_request": (Answer, (HANDLE, HANDLE, *DATA, POINTER(Time), *DATA, POINTER(Choice), *DATA, POINTER(ContextChoice), *INTO)),  # make_request
     "finish": (Answer, (HANDLE, *DATA, POINTER(Agreement), *INTO)),  # Pending.finish
@@ -294,5 +404,9 @@ FUNCTIONS: dict[str, tuple[Any, tuple[Any, ...]]] = {
     "token_reply": (Answer, (POINTER(Wrapped), *DATA, *INTO)),  # Token.reply
     "token_error": (Answer, (POINTER(Wrapped), *DATA, *INTO)),  # Token.error
     "token_answer": (Answer, (*DATA, POINTER(c_bool), *INTO)),  # open_answer
+    "negotiation_take": (Answer, (POINTER(Negotiation), *DATA, POINTER(Wrapped), *INTO)),  # Negotiation.take
+    "krb_error_read": (Answer, (*DATA, POINTER(KrbError), *INTO)),  # KrbError.read
+    "verdict_token": (Answer, (POINTER(Verdict), *INTO)),  # Verdict.token
+    "verdict_read": (Answer, (*DATA, POINTER(Verdict))),  # read_verdict
     "context_read": (Answer, (*DATA, POINTER(Context), *INTO)),  # Context.read
 }

@@ -2,17 +2,18 @@
 from __future__ import annotations
 
 import ctypes
+import operator
 import os
 import threading
 import weakref
-from collections.abc import Callable, Iterator
-from contextlib import contextmanager
+from collections.abc import Callable
 from ctypes import byref
-from typing import Any, TypeVar, Union
+from dataclasses import fields
+from typing import Any, NoReturn, SupportsIndex, TypeVar, Union
 
 from ._codes import Code
 from ._errors import Error, Fault, LibraryError
-from ._interface import FUNCTIONS, Answer, Opaque
+from ._interface import FUNCTIONS, VERSION, Answer, Opaque
 
 SONAME = "libfevstunik.so.0"
 VARIABLE = "FEVSTUNIK_LIBRARY"
@@ -39,9 +40,23 @@ class Library:
                 raise LibraryError(f"the shared library {path} has no function fevstunik_{name}, which this package calls")
             function.restype, function.argtypes = result, words
             self._functions[name] = function
+        # A later library of the same major number serves the package too: sizes of options and codes only grow.
+        found = self.version
+        if found[0] != VERSION[0] or found < VERSION:
+            raise LibraryError(f"the shared library {path} is of version {numbered(found)}, and this package needs {numbered(VERSION)} or a later "
+                               f"one with the same first number")
+
+    @property
+    def version(self) -> tuple[int, int, int]:
+        number = int(self.call("version"))
+        return number // 10_000, number // 100 % 100, number % 100
 
     def call(self, name: str, *words: Any) -> Any:
         return self._functions[name](*words)
+
+
+def numbered(version: tuple[int, int, int]) -> str:
+    return ".".join(map(str, version))
 
 
 _loaded: Library | None = None
@@ -52,7 +67,7 @@ def load(path: str | os.PathLike[str] | None = None) -> None:
 
     You needn't call this: the library is loaded when it is first needed. Without a path, loads the file that the environment variable
     FEVSTUNIK_LIBRARY names, or else the one that came with the wheel, or else the libfevstunik.so.0 that the system's loader finds. Raises
-    LibraryError if it can't be loaded.
+    LibraryError if it can't be loaded, or is older than the package, or of another major number.
 
     >>> import fevstunik
     >>> fevstunik.load()
@@ -77,8 +92,7 @@ def version() -> tuple[int, int, int]:
     >>> fevstunik.version() >= (0, 1, 0)
     True
     """
-    number = int(library().call("version"))
-    return number // 10_000, number // 100 % 100, number % 100
+    return library().version
 
 
 def fault_of(answer: Answer) -> Error | MemoryError:
@@ -105,12 +119,28 @@ def filled(call: Callable[[Any, int], Answer], room: int = 1024) -> bytes:
 
 
 def octets(data: Bytes) -> bytes:
-    """The bytes of something like bytes; a text and a number are refused."""
-    return data if isinstance(data, bytes) else memoryview(data).tobytes()
+    """A copy of something like bytes; a text, a number, and an array of other items than bytes are refused."""
+    # (a subclass of bytes may say another length than it has)
+    if type(data) is bytes:
+        return data
+    view = memoryview(data)
+    if view.format not in ("B", "b", "c"):
+        raise TypeError(f"these aren't bytes, but items of the format {view.format!r}")
+    return view.tobytes()
+
+
+def text_of(name: str) -> bytes:
+    """The bytes of a name; anything but a text is refused."""
+    if not isinstance(name, str):
+        raise TypeError(f"a name is a str, not {type(name).__name__}")
+    return str.encode(name)
 
 
 def fitting(number: int, bits: int, signed: bool = False) -> int:
-    """The number, which ctypes would cut to these bits silently."""
+    """The number, which ctypes would cut to these bits silently; not True or False, which are numbers to Python."""
+    if isinstance(number, bool):
+        raise TypeError(f"{number} is not a number")
+    number = operator.index(number)
     low, high = (-1 << bits - 1, 1 << bits - 1) if signed else (0, 1 << bits)
     if not low <= number < high:
         raise OverflowError(f"{number} doesn't fit into {bits} bits")
@@ -127,31 +157,84 @@ def read(kind: type[_Struct], call: Callable[[Any, Any, int], Answer]) -> tuple[
     return struct, data
 
 
-class Handle:
+class Secret:
+    """What holds a key, or stands for something of this process: it can't be pickled or copied."""
+
+    __slots__ = ()
+
+    def __reduce_ex__(self, protocol: SupportsIndex) -> NoReturn:
+        raise TypeError(f"{type(self).__name__} objects hold a key or belong to a process, and can't be pickled or copied")
+
+
+class Shown:
+    """A dataclass whose repr shows the sizes of bytes."""
+
+    __slots__ = ()
+
+    def __repr__(self) -> str:
+        named = ((it.name, getattr(self, it.name)) for it in fields(self) if it.repr)
+        words = ", ".join(f"{name}={size_of(value) if isinstance(value, bytes) else repr(value)}" for name, value in named)
+        return f"{type(self).__name__}({words})"
+
+
+def size_of(data: bytes) -> str:
+    return f"<{len(data)} bytes>"
+
+
+class _Life:
+    """A process, from its start or from the fork that made it. (A child may have the number of a process that is gone.)"""
+
+
+_life = _Life()
+
+
+def _begin_life() -> None:
+    global _life
+    _life = _Life()
+
+
+os.register_at_fork(after_in_child=_begin_life)
+
+
+class Handle(Secret):
     """A handle of the library, of the kind whose function ``KIND_free`` frees it. One call at a time uses it."""
 
-    def __init__(self, kind: str) -> None:
+    def __init__(self, kind: str, opaque: type[ctypes.Structure] = Opaque) -> None:
         self.library = library()
-        self._process = os.getpid()
-        self._lock = threading.Lock()
-        self._opaque = Opaque()
+        self._made_in = _life, os.getpid()
+        # (a signal handler may make a call while its thread has the lock)
+        self._lock = threading.RLock()
+        self._opaque: Any = opaque()
         self._kind = kind
         # (at the end of the process, when other threads may be in a call still, nothing is freed)
-        weakref.finalize(self, _free, self.library, kind, self._opaque, self._process).atexit = False
+        weakref.finalize(self, _free, self.library, kind, self._opaque, self._made_in).atexit = False
 
-    @contextmanager
-    def used(self) -> Iterator[Any]:
-        """The pointer to it, for one call, with the lock."""
-        if os.getpid() != self._process:
+    @property
+    def pointer(self) -> Any:
+        """The pointer to it, for a call that has the lock, or for the thread that made it."""
+        return byref(self._opaque)
+
+    def locked(self) -> threading._RLock:
+        """The lock, to be entered for a call."""
+        # (in a child, the lock may be held by a thread that isn't there)
+        if not _is_here(self._made_in):
             raise RuntimeError("this was made before a fork, and belongs to the process that made it")
-        with self._lock:
-            yield byref(self._opaque)
+        return self._lock
+
+    def call(self, name: str, *words: Any) -> Any:
+        """Call a function whose first argument is this handle."""
+        with self.locked():
+            return self.library.call(name, self.pointer, *words)
 
     def close(self) -> None:
-        with self.used() as pointer:
-            self.library.call(f"{self._kind}_free", pointer)
+        self.call(f"{self._kind}_free")
 
 
-def _free(library: Library, kind: str, opaque: Opaque, process: int) -> None:
-    if os.getpid() == process:
+def _is_here(made_in: tuple[_Life, int]) -> bool:
+    """Whether this is the process, also if something has forked it without Python's knowledge."""
+    return made_in[0] is _life and made_in[1] == os.getpid()
+
+
+def _free(library: Library, kind: str, opaque: ctypes.Structure, made_in: tuple[_Life, int]) -> None:
+    if _is_here(made_in):
         library.call(f"{kind}_free", byref(opaque))

@@ -3,30 +3,43 @@ from __future__ import annotations
 
 import ctypes
 import enum
-import os
-from ctypes import byref, c_int32
-from dataclasses import dataclass, field
+from ctypes import byref
+from dataclasses import dataclass
 from types import TracebackType
+from typing import TYPE_CHECKING, Self
 
 from . import _interface
+from ._accepted import Accepted, known_by
 from ._codes import Code
 from ._errors import Error
 from ._files import Keytab
 from ._interface import Answer
-from ._library import Bytes, Handle, done, filled, fitting, library, octets, read
-from ._tokens import CHECKSUM, Context
-from ._values import CONFOUNDER, Key, Moment, TicketFlags, TypedData, When, chosen, clock
+from ._library import Bytes, Handle, Secret, done, filled, fitting, library, octets, text_of
+from ._values import Moment, When, clock
+
+if TYPE_CHECKING:
+    from ._login import Asked
 
 FIRST_CAUSE, AFTER_CAUSES = 100, 400
+# How many version numbers a text names.
+_LISTED = 8
 
 
 class Refused(Error):
     """A refusal of a request.
 
-    cause     the first cause that applies, such as ``Code.REPEAT``
+    cause     the first cause that applies, such as ``Code.REPEAT``; from Service.answer also a fault of a token, FULL or OUT_OF_MEMORY
     code      the same
     kerberos  the error code of RFC 4120, section 7.5.9, that belongs to it
-    offset    the place of the fault, if the cause is MALFORMED
+    offset    the place of the fault, if the cause is MALFORMED or TOKEN_MALFORMED
+
+    From Service.answer it also has:
+
+    reply     the bytes to send to the client; none if they are empty
+    asked     what the request asked for, or None if that isn't known
+    held      if the cause is BAD_KEY_VERSION: the version numbers of the keys that the keytab has for it
+
+    Its text is fit for a line of a log.
 
     >>> from fevstunik import Acceptor, Keytab, Refused
     >>> with Acceptor(Keytab.read("examples/service.keytab"), "host/web@EX", first_life=True) as service:
@@ -37,9 +50,33 @@ class Refused(Error):
     MESSAGE_TYPE 100 40
     """
 
-    def __init__(self, code: int, kerberos: int = 0, offset: int = 0) -> None:
+    def __init__(self, code: int, kerberos: int = 0, offset: int = 0, *, reply: bytes = b"", asked: Asked | None = None,
+                 held: tuple[int, ...] = ()) -> None:
         super().__init__(code, kerberos, offset)
         self.cause = self.code
+        self.reply, self.asked, self.held = reply, asked, held
+
+    def __bool__(self) -> bool:
+        """Return False: of what Service.answer returns, a Login alone is true."""
+        return False
+
+    @property
+    def may_pass(self) -> bool:
+        """Whether a new request of the client may be accepted a while later: HTTP's status is 503 then.
+
+        >>> from fevstunik import Code, Refused
+        >>> Refused(Code.JUST_STARTED).may_pass, Refused(Code.REPEAT).may_pass
+        (True, False)
+        """
+        return self.code in (Code.JUST_STARTED, Code.FULL, Code.OUT_OF_MEMORY)
+
+    def __str__(self) -> str:
+        if self.asked is None:
+            return super().__str__()
+        if self.code != Code.BAD_KEY_VERSION:
+            return f"{super().__str__()} ({self.asked})"
+        listed = ", ".join(map(str, self.held[:_LISTED])) + (", .." if len(self.held) > _LISTED else "")
+        return f"{self.name}: {self.asked}; the keytab has " + (f"kvno {listed}" if listed else "no such key")
 
     def error(self, service: str, *, now: When | None = None, name_type: int = 3) -> bytes:
         """Return the bytes of the KRB-ERROR for the client, which says why.
@@ -53,16 +90,9 @@ class Refused(Error):
         >>> len(Refused(Code.REPEAT).error("host/web@EX", now=1_700_000_100))
         73
         """
-        name, at = service.encode(), clock(now)
+        name, at = text_of(service), clock(now)
         return filled(lambda *into: library().call(
             "error", fitting(self.code, 32), name, len(name), fitting(name_type, 32, signed=True), byref(at), *into))
-
-
-class _List(enum.IntEnum):
-    ADDRESSES = 1
-    TICKET_AUTHORIZATION = 2
-    AUTHENTICATOR_AUTHORIZATION = 3
-    CHECKSUM = 4
 
 
 class _Restart(enum.IntEnum):
@@ -71,237 +101,35 @@ class _Restart(enum.IntEnum):
 
 
 @dataclass(frozen=True)
-class Stamp:
-    """What stands for an accepted request in a store that several instances of a service share.
+class Usage:
+    """What a service remembers, and how much it may.
 
-    data        service, client and client's time as bytes: the same if and only if the requests are of the same service, client and time
-    keep_until  until when the store must keep it, by its own clock, rounded up to what the store can keep: the client's time plus twice the
-                skew
+    remembered        how many requests are remembered
+    held              the same, with those that are forgotten and aren't freed yet
+    bytes             about how many bytes they take
+    limit             the most requests that it remembers
+    limit_for_client  the most of one client
+    full              how many requests were answered with FULL
 
-    >>> Stamp(b"service, client and time", Moment(1_700_000_700)).keep_until.seconds
-    1700000700
+    >>> Usage(remembered=3, held=3, bytes=320, limit=5000, limit_for_client=500, full=0).remembered
+    3
     """
 
-    data: bytes
-    keep_until: Moment
+    remembered: int
+    held: int
+    bytes: int
+    limit: int
+    limit_for_client: int
+    full: int
 
 
-@dataclass(frozen=True)
-class Accepted:
-    """A request that was accepted.
+class Serving(Secret):
+    """What remembers the requests that a service has accepted."""
 
-    client                       the client, as ``alice@EX``
-    service                      the service that was asked for, as ``host/web@EX``
-    time                         the client's time
-    authtime                     when the client was authenticated, in seconds
-    starttime                    when the ticket becomes valid, in seconds, or None if the ticket doesn't say: then from authtime on
-    endtime                      when the ticket expires, in seconds
-    flags                        the ticket's flags
-    session_key                  the key that client and service share
-    subkey                       the key that the client chose, or None; of any type and length
-    seq                          the client's first sequence number, or None
-    wants_reply                  whether the client asks for a reply
-    client_type                  the type of the client's name
-    service_type                 the type of the service's name, as the ticket has it
-    addresses                    the ticket's addresses, which weren't compared with anything
-    authorization                the ticket's authorization data; each item is of type 1 (AD-IF-RELEVANT)
-    authenticator_authorization  the authenticator's, likewise
-    checksum                     the authenticator's checksum, which wasn't verified, or None
-
-    It is a context manager. At the end of the block, or by close(), the library frees what it holds. Then reply and stamp raise the
-    Fault EMPTY_HANDLE.
-
-    >>> from fevstunik import Acceptor, Keytab
-    >>> request = bytes.fromhex(open("examples/calls.txt").readline().split()[2])
-    >>> with Acceptor(Keytab.read("examples/service.keytab"), "host/web@EX", first_life=True) as service:
-    ...     accepted = service.accept(request, now=1_700_000_100)
-    >>> accepted.client, accepted.time, accepted.session_key, accepted.wants_reply
-    ('alice@EX', Moment(seconds=1700000100, micros=5), Key(kind=19), False)
-    """
-
-    client: str
-    service: str
-    time: Moment
-    authtime: int
-    starttime: int | None
-    endtime: int
-    flags: TicketFlags
-    session_key: Key
-    subkey: Key | None
-    seq: int | None
-    wants_reply: bool
-    client_type: int
-    service_type: int
-    addresses: tuple[TypedData, ...]
-    authorization: tuple[TypedData, ...]
-    authenticator_authorization: tuple[TypedData, ...]
-    checksum: TypedData | None
-    _handle: Handle = field(repr=False, compare=False)
-    _skew: int = field(repr=False, compare=False)
-
-    @property
-    def context(self) -> Context | None:
-        """What a GSS-API client asks for, or None if the authenticator has no checksum of that type (0x8003).
-
-        >>> from fevstunik import Acceptor, Keytab
-        >>> request = bytes.fromhex(open("examples/calls.txt").readline().split()[2])
-        >>> service = Acceptor(Keytab.read("examples/service.keytab"), "host/web@EX", first_life=True)
-        >>> print(service.accept(request, now=1_700_000_100).context)
-        None
-        """
-        found = self.checksum
-        return Context.read(found.data) if found is not None and found.kind == CHECKSUM else None
-
-    def reply(self, *, subkey: Key | None = None, seq: int | None = None) -> bytes:
-        """Return the bytes of the reply. The client waits for it if `wants_reply` is true.
-
-        subkey  a key that the service chooses, as Key.random(20), or None
-        seq     the service's first sequence number, or None
-
-        >>> from fevstunik import Acceptor, CredentialCache, Keytab, make_request
-        >>> cache = CredentialCache.read("examples/client.ccache")
-        >>> request, pending = make_request(cache, "host/web@EX", now=1_700_000_100)
-        >>> service = Acceptor(Keytab.read("examples/service.keytab"), "host/web@EX", first_life=True)
-        >>> reply = service.accept(request, now=1_700_000_100).reply(seq=7)
-        >>> pending.finish(reply).service_seq
-        7
-        """
-        confounder, choice = os.urandom(CONFOUNDER), chosen(subkey, seq, False)
-        with self._handle.used() as pointer:
-            return filled(lambda *into: self._handle.library.call("accepted_reply", pointer, confounder, CONFOUNDER, *choice, *into))
-
-    def stamp(self, skew: int | None = None) -> Stamp:
-        """Return the stamp of the request, for a store that several instances of the service share (docs/OPERATING.md has the conditions).
-
-        Let the client in only if the store adds the stamp in one step and says that it is new, and if the clock, read again after that,
-        isn't later than `time` by more than the skew.
-
-        skew  the largest skew of all instances, in seconds; the acceptor's own by default
-
-        >>> from fevstunik import Acceptor, Keytab
-        >>> request = bytes.fromhex(open("examples/calls.txt").readline().split()[2])
-        >>> service = Acceptor(Keytab.read("examples/service.keytab"), "host/web@EX", first_life=True)
-        >>> stamp = service.accept(request, now=1_700_000_100).stamp()
-        >>> len(stamp.data), stamp.keep_until
-        (80, Moment(seconds=1700000700, micros=5))
-        """
-        until = _interface.Time()
-        with self._handle.used() as pointer:
-            largest = self._skew if skew is None else fitting(skew, 32)
-            data = filled(lambda *into: self._handle.library.call("accepted_stamp", pointer, largest, byref(until), *into))
-        return Stamp(data, Moment(until.seconds, until.micros))
-
-    def close(self) -> None:
-        """Free what the library holds. Values that were read stay valid. A second call does nothing.
-
-        >>> from fevstunik import Acceptor, Keytab
-        >>> request = bytes.fromhex(open("examples/calls.txt").readline().split()[2])
-        >>> service = Acceptor(Keytab.read("examples/service.keytab"), "host/web@EX", first_life=True)
-        >>> service.accept(request, now=1_700_000_100).close()
-        """
-        self._handle.close()
-
-    def __enter__(self) -> Accepted:
-        return self
-
-    def __exit__(self, kind: type[BaseException] | None, fault: BaseException | None, trace: TracebackType | None) -> None:
-        self.close()
-
-
-def _accepted(handle: Handle, skew: int) -> Accepted:
-    """What the handle holds, read as values."""
-    with handle.used() as pointer:
-        known, data = read(_interface.Known, lambda *words: handle.library.call("accepted_known", pointer, *words))
-        lists = {which: _items(handle, pointer, which) for which in _List}
-        starttime = _start(handle, pointer)
-    checksums = lists[_List.CHECKSUM]
-    return Accepted(
-        client=known.client.text(data), service=known.service.text(data), time=Moment(known.ctime, known.cusec),
-        authtime=known.authtime, starttime=starttime, endtime=known.endtime, flags=TicketFlags(known.flags),
-        session_key=Key(known.session_type, known.session_key.of(data)),
-        subkey=Key(known.subkey_type, known.subkey.of(data)) if known.has_subkey else None,
-        seq=known.seq if known.has_seq else None, wants_reply=known.wants_reply,
-        client_type=known.name_type, service_type=known.service_type, addresses=lists[_List.ADDRESSES],
-        authorization=lists[_List.TICKET_AUTHORIZATION], authenticator_authorization=lists[_List.AUTHENTICATOR_AUTHORIZATION],
-        checksum=checksums[0] if checksums else None, _handle=handle, _skew=skew)
-
-
-def _start(handle: Handle, pointer: object) -> int | None:
-    start = _interface.Time()
-    answer = handle.library.call("accepted_start", pointer, byref(start))
-    return None if answer.code == Code.NOTHING_THERE else (done(answer), start.seconds)[1]
-
-
-def _items(handle: Handle, pointer: object, which: _List) -> tuple[TypedData, ...]:
-    answer = handle.library.call("accepted_count", pointer, which)
-    if answer.code == Code.NO_SUCH_ENTRY:
-        return ()
-    return tuple(_item(handle, pointer, which, index) for index in range(done(answer).size))
-
-
-def _item(handle: Handle, pointer: object, which: _List, index: int) -> TypedData:
-    kind = c_int32()
-    data = filled(lambda *into: handle.library.call("accepted_item", pointer, which, index, byref(kind), *into))
-    return TypedData(kind.value, data)
-
-
-class Acceptor:
-    """A service. It accepts requests, and remembers them to recognize a repeat.
-
-    keytab      its keys
-    service     the name that is served, as ``host/web@EX``, or None for each name of the keytab. Name it if the keytab has keys of several
-                names: docs/OPERATING.md says why. If the keytab has no entry of this name, that is no fault: then every ticket is refused
-    skew        by how many seconds clocks may differ
-    started     the service's clock at this start, as time.time(). A restarted service has forgotten what it accepted. So it refuses requests
-                with the cause JUST_STARTED until its clock and the client's are both later than this start by more than the skew
-    first_life  True if every key of the keytab is new, so that no service has used one of them before, or if a store of stamps has lost
-                nothing (docs/OPERATING.md, "Restarts"). Then the service accepts at once
-
-    Pass just one of the last two: neither is the default. A start before the year 2020, so any of time.monotonic(), raises the Fault
-    EARLY_START.
-
-    Make one and keep it. Any thread may call it. A lock lets one decision run at a time; what was accepted is read without that lock. An
-    Acceptor belongs to the process that made it: after a fork, the child's calls raise RuntimeError.
-
-    It is a context manager. At the end of the block, or by close(), the library frees what it holds. Then calls raise the Fault
-    EMPTY_HANDLE, and `remembered` is 0.
-
-    >>> import time
-    >>> from fevstunik import Acceptor, Keytab
-    >>> with Acceptor(Keytab.read("examples/service.keytab"), "host/web@EX", started=time.time()) as service:
-    ...     service.remembered
-    0
-    """
-
-    def __init__(self, keytab: Keytab, service: str | None, skew: int = 300, *, started: When | None = None, first_life: bool = False) -> None:
-        name, options = _wanted(service), _options(service, skew, started, first_life)
+    def __init__(self, keytab: Keytab, service: str | None, skew: int, options: _interface.AcceptorOptions) -> None:
+        name = _wanted(service)
         self._handle, self._skew = Handle("acceptor"), skew
-        with self._handle.used() as pointer:
-            done(self._handle.library.call("acceptor_new", pointer, keytab.data, len(keytab.data), name, len(name), byref(options)))
-
-    def accept(self, request: Bytes, now: When | None = None) -> Accepted:
-        """Accept the bytes of a request, or raise Refused. `now` is the moment, by default of the machine's clock.
-
-        Time doesn't go back: the latest moment given so far is the one that counts.
-
-        >>> from fevstunik import Acceptor, Keytab
-        >>> request = bytes.fromhex(open("examples/calls.txt").readline().split()[2])
-        >>> service = Acceptor(Keytab.read("examples/service.keytab"), "host/web@EX", first_life=True)
-        >>> service.accept(request, now=1_700_000_100).client
-        'alice@EX'
-        >>> service.accept(request, now=1_700_000_100)
-        Traceback (most recent call last):
-            ...
-        fevstunik.Refused: REPEAT: a request of this service, client and time was seen before
-        """
-        request, accepted = octets(request), Handle("accepted")
-        with accepted.used() as into:
-            done(self._handle.library.call("accepted_new", into))
-            with self._handle.used() as pointer:
-                at = clock(now)
-                answer = self._handle.library.call("acceptor_accept", pointer, into, request, len(request), byref(at))
-        _decided(answer)
-        return _accepted(accepted, self._skew)
+        done(self._handle.call("acceptor_new", keytab.data, len(keytab.data), name, len(name), byref(options)))
 
     def replace_keytab(self, keytab: Keytab, service: str | None) -> None:
         """Take another keytab, for example with a changed key. What the service has seen is kept, so nothing is accepted twice.
@@ -319,9 +147,7 @@ class Acceptor:
         1
         """
         name = _wanted(service)
-        with self._handle.used() as pointer:
-            done(self._handle.library.call(
-                "acceptor_replace_keytab", pointer, keytab.data, len(keytab.data), name, len(name), service is None))
+        done(self._handle.call("acceptor_replace_keytab", keytab.data, len(keytab.data), name, len(name), service is None))
 
     @property
     def remembered(self) -> int:
@@ -331,8 +157,20 @@ class Acceptor:
         >>> Acceptor(Keytab.read("examples/service.keytab"), "host/web@EX", first_life=True).remembered
         0
         """
-        with self._handle.used() as pointer:
-            return int(self._handle.library.call("acceptor_count", pointer))
+        return int(self._handle.call("acceptor_count"))
+
+    @property
+    def usage(self) -> Usage:
+        """How much is remembered, and the limits.
+
+        >>> from fevstunik import Acceptor, Keytab
+        >>> service = Acceptor(Keytab.read("examples/service.keytab"), "host/web@EX", first_life=True, limit=5000)
+        >>> service.usage
+        Usage(remembered=0, held=0, bytes=0, limit=5000, limit_for_client=500, full=0)
+        """
+        usage = _interface.Usage()
+        done(self._handle.call("acceptor_usage", byref(usage)))
+        return Usage(usage.remembered, usage.held, usage.bytes, usage.limit, usage.limit_for_client, usage.full)
 
     @property
     def latest(self) -> Moment | None:
@@ -343,8 +181,7 @@ class Acceptor:
         None
         """
         latest = _interface.Time()
-        with self._handle.used() as pointer:
-            answer = self._handle.library.call("acceptor_latest", pointer, byref(latest))
+        answer = self._handle.call("acceptor_latest", byref(latest))
         if answer.code == Code.NOTHING_THERE:
             return None
         done(answer)
@@ -358,28 +195,93 @@ class Acceptor:
         """
         self._handle.close()
 
-    def __enter__(self) -> Acceptor:
+    def __enter__(self) -> Self:
         return self
 
     def __exit__(self, kind: type[BaseException] | None, fault: BaseException | None, trace: TracebackType | None) -> None:
         self.close()
 
 
+class Acceptor(Serving):
+    """A service. It accepts requests, and remembers them to recognize a repeat.
+
+    keytab      its keys
+    service     the name that is served, as ``host/web@EX``, or None for each name of the keytab. Name it if the keytab has keys of several
+                names: docs/OPERATING.md says why. If the keytab has no entry of this name, that is no fault: then every ticket is refused
+    skew        by how many seconds clocks may differ
+    started     the service's clock at this start, as time.time(). A restarted service has forgotten what it accepted. So it refuses requests
+                with the cause JUST_STARTED until its clock and the client's are both later than this start by more than the skew
+    first_life  True if every key of the keytab is new, so that no service has used one of them before, or if a store of stamps has lost
+                nothing (docs/OPERATING.md, "Restarts"). Then the service accepts at once
+    limit       the most requests that it remembers: a million by default
+    limit_for_client
+                the most of one client: a tenth of the limit by default
+
+    Pass just one of started and first_life: neither is the default. A start before the year 2020, so any of time.monotonic(), raises the Fault
+    EARLY_START.
+
+    Make one and keep it. Any thread may call it. A lock lets one decision run at a time; what was accepted is read without that lock. An
+    Acceptor belongs to the process that made it: after a fork, the child's calls raise RuntimeError.
+
+    It is a context manager. At the end of the block, or by close(), the library frees what it holds. Then calls raise the Fault
+    EMPTY_HANDLE, and `remembered` is 0.
+
+    >>> import time
+    >>> from fevstunik import Acceptor, Keytab
+    >>> with Acceptor(Keytab.read("examples/service.keytab"), "host/web@EX", started=time.time()) as service:
+    ...     service.remembered
+    0
+    """
+
+    def __init__(self, keytab: Keytab, service: str | None, skew: int = 300, *, started: When | None = None, first_life: bool = False,
+                 limit: int | None = None, limit_for_client: int | None = None) -> None:
+        super().__init__(keytab, service, skew, options_of(service, skew, started, first_life, (limit, limit_for_client)))
+
+    def accept(self, request: Bytes, now: When | None = None) -> Accepted:
+        """Accept the bytes of a request, or raise Refused. `now` is the moment, by default of the machine's clock.
+
+        Time doesn't go back: the latest moment given so far is the one that counts. If a limit is reached, so that the request can't be
+        remembered, this raises the Fault FULL. Then the request isn't decided, and nothing has changed.
+
+        >>> from fevstunik import Acceptor, Keytab
+        >>> request = bytes.fromhex(open("examples/calls.txt").readline().split()[2])
+        >>> service = Acceptor(Keytab.read("examples/service.keytab"), "host/web@EX", first_life=True)
+        >>> service.accept(request, now=1_700_000_100).client
+        'alice@EX'
+        >>> service.accept(request, now=1_700_000_100)
+        Traceback (most recent call last):
+            ...
+        fevstunik.Refused: REPEAT: a request of this service, client and time was seen before
+        """
+        request, accepted = octets(request), Handle("accepted")
+        done(accepted.call("accepted_new"))
+        with self._handle.locked():
+            # (the clock is read with the lock: otherwise an earlier moment could come after a later one)
+            at = clock(now)
+            answer = self._handle.call("acceptor_accept", accepted.pointer, request, len(request), byref(at))
+        _decided(answer)
+        return Accepted(**known_by(accepted, self._skew))
+
+
 def _wanted(service: str | None) -> bytes:
     if service == "":
         raise ValueError("the service's name is empty: None stands for each name of the keytab")
-    return b"" if service is None else service.encode()
+    return b"" if service is None else text_of(service)
 
 
-def _options(service: str | None, skew: int, started: When | None, first_life: bool) -> _interface.AcceptorOptions:
+def options_of(service: str | None, skew: int, started: When | None, first_life: bool,
+               limits: tuple[int | None, int | None]) -> _interface.AcceptorOptions:
     """What a service is made with, as the library takes it."""
+    if any(limit is not None and limit < 1 for limit in limits):
+        raise ValueError("a limit is at least 1")
     if not isinstance(first_life, bool):
         raise TypeError(f"first_life is a bool, not {first_life!r}")
     if first_life == (started is not None):
         raise TypeError("pass either started, the clock of this start, or first_life=True, if every key of the keytab is new")
     restarts = _Restart.FIRST_LIFE if started is None else _Restart.STARTED
     size, at = ctypes.sizeof(_interface.AcceptorOptions), _interface.Time() if started is None else clock(started)
-    return _interface.AcceptorOptions(size, at, fitting(skew, 32), restarts, service is None, False)
+    all_clients, one_client = (fitting(limit or 0, 64) for limit in limits)
+    return _interface.AcceptorOptions(size, at, fitting(skew, 32), restarts, service is None, False, all_clients, one_client)
 
 
 def _decided(answer: Answer) -> None:

@@ -12,7 +12,7 @@ from typing import Union
 
 from . import _interface
 from ._codes import Code
-from ._library import Bytes, done, filled, fitting, library, octets
+from ._library import Bytes, Secret, Shown, done, filled, fitting, library, octets, text_of
 
 CONFOUNDER = 16
 FIRST_SECOND, LAST_SECOND = -62_167_219_200, 253_402_300_799
@@ -34,6 +34,9 @@ class Moment:
     micros: int = 0
 
     def __post_init__(self) -> None:
+        for number in (self.seconds, self.micros):
+            if isinstance(number, bool) or not isinstance(number, int):
+                raise TypeError(f"seconds and microseconds of a moment are int, not {number!r}")
         if not FIRST_SECOND <= self.seconds <= LAST_SECOND:
             raise ValueError(f"{self.seconds} seconds are outside the years 0000 to 9999")
         if not 0 <= self.micros < 1_000_000:
@@ -57,8 +60,8 @@ class Moment:
         """
         if isinstance(when, Moment):
             return when
-        if isinstance(when, bool):
-            raise TypeError(f"a moment can't be {when}")
+        if isinstance(when, bool) or not isinstance(when, (int, float)):
+            raise TypeError(f"a moment can't be {when!r}")
         if isinstance(when, int):
             return cls(when)
         if not math.isfinite(when):
@@ -84,19 +87,21 @@ class _OwnMoments:
     clock that stands still, or is set back by less, is counted on by microseconds."""
 
     def __init__(self) -> None:
-        self._lock = threading.Lock()
+        # (a signal handler may ask for a moment while its thread has the lock)
+        self._lock = threading.RLock()
         self._last = 0
         # (another thread may hold the lock when the process forks)
         os.register_at_fork(after_in_child=self._forked)
 
     def _forked(self) -> None:
-        self._lock = threading.Lock()
+        self._lock = threading.RLock()
 
     def next(self) -> Moment:
         with self._lock:
             now = time.time_ns() // 1000
-            self._last = self._last + 1 if 0 <= self._last - now < 1_000_000 else now
-            return Moment(*divmod(self._last, 1_000_000))
+            # A signal handler runs after a call of a function, so never within this line.
+            self._last = last = self._last + 1 if 0 <= self._last - now < 1_000_000 else now
+        return Moment(*divmod(last, 1_000_000))
 
 
 _own_moments = _OwnMoments()
@@ -108,7 +113,7 @@ def clock_of_request(when: When | None) -> _interface.Time:
 
 
 class TicketFlags(enum.IntFlag):
-    """The flags of a ticket (RFC 4120, section 5.3).
+    """The flags of a ticket (RFC 4120, section 5.3; ENC_PA_REP: RFC 6806, section 11; ANONYMOUS: RFC 8062, section 3).
 
     >>> TicketFlags.INITIAL in TicketFlags(0x40600000)
     True
@@ -127,14 +132,16 @@ class TicketFlags(enum.IntFlag):
     HW_AUTHENT = 1 << 20
     TRANSITED_POLICY_CHECKED = 1 << 19
     OK_AS_DELEGATE = 1 << 18
+    ENC_PA_REP = 1 << 16
+    ANONYMOUS = 1 << 15
 
 
-@dataclass(frozen=True)
-class TypedData:
-    """An address, an item of authorization data or a checksum: the number of its type, and its bytes.
+@dataclass(frozen=True, repr=False)
+class TypedData(Shown):
+    """An address, an item of authorization data or a checksum: the number of its type, and its bytes. Its `repr` has their number.
 
     >>> TypedData(2, bytes([192, 0, 2, 1]))
-    TypedData(kind=2, data=b'\\xc0\\x00\\x02\\x01')
+    TypedData(kind=2, data=<4 bytes>)
     """
 
     kind: int
@@ -142,8 +149,8 @@ class TypedData:
 
 
 @dataclass(frozen=True)
-class Key:
-    """A key: the number of its encryption type, and its bytes, which `repr` leaves out.
+class Key(Secret):
+    """A key: the number of its encryption type, and its bytes, which its `repr` doesn't have. It can't be pickled or copied.
 
     Keys of types 19 (16 bytes) and 20 (32 bytes) seal and open texts, and make checksums (RFC 8009), for a usage (RFC 4120, section 7.5.1).
     With a key of another type or length, these methods raise Fault.
@@ -237,5 +244,5 @@ def check_name(text: str) -> int:
         ...
     fevstunik.Fault: NO_REALM: the text has no unescaped `@`
     """
-    data = text.encode()
+    data = text_of(text)
     return int(done(library().call("name_check", data, len(data))).size)

@@ -4,4 +4,4 @@ import pytest
 
 @pytest.fixture(scope="session")
 def archive(library):
-    return library.parent / "libkrb_c.a"
+    return library.parent / "libfevstunik.a"

@@ -30,6 +30,7 @@ static int is_bent;
 
 static const uint8_t kerberos[] = {0x2a, 0x86, 0x48, 0x86, 0xf7, 0x12, 0x01, 0x02, 0x02};
 static const uint8_t windows[] = {0x2a, 0x86, 0x48, 0x82, 0xf7, 0x12, 0x01, 0x02, 0x02};
+static const uint8_t draft[] = {0x2b, 0x05, 0x01, 0x05, 0x02};
 static const uint8_t negotiation[] = {0x2b, 0x06, 0x01, 0x05, 0x05, 0x02};
 static const uint8_t ntlm[] = {0x2b, 0x06, 0x01, 0x04, 0x01, 0x82, 0x37, 0x02, 0x02, 0x0a};
 static const uint8_t iakerb[] = {0x2b, 0x06, 0x01, 0x05, 0x02, 0x05};
@@ -108,7 +109,7 @@ static void put_mechanism(void)
     static const struct {
         const uint8_t *at;
         size_t size;
-    } names[] = {{kerberos, sizeof kerberos}, {windows, sizeof windows}, {ntlm, sizeof ntlm}, {iakerb, sizeof iakerb}, {negotiation, sizeof negotiation}};
+    } names[] = {{kerberos, sizeof kerberos}, {windows, sizeof windows}, {draft, sizeof draft}, {ntlm, sizeof ntlm}, {iakerb, sizeof iakerb}, {negotiation, sizeof negotiation}};
     size_t end = front;
     uint32_t which = below(12), most = sizeof names / sizeof *names;
 
@@ -204,6 +205,16 @@ static void put_numbered(int field, int is_first, int depth)
     }
 }
 
+/* A field after the known ones: mostly a whole element. */
+static void put_unknown(void)
+{
+    static const uint8_t tags[] = {0xa4, 0xa5, 0xbe, 0x04, 0x30, 0xa1, 0x1f};
+    size_t end = front;
+
+    put_random(below(200));
+    put_head(tags[below(is_bent ? sizeof tags : 5)], end);
+}
+
 /* A negotiation; in a bent one fields may be left out, put in twice or swapped. */
 static void put_negotiation(int is_first, int depth)
 {
@@ -214,6 +225,8 @@ static void put_negotiation(int is_first, int depth)
         at = (int)below(4);
         fields[at] = fields[below(4)];
     }
+    if (below(6) == 0)
+        put_unknown();
     for (at = 0; at < count; at++) {
         int is_optional = fields[at] == 3 || (fields[at] == 1 && is_first) || (is_bent && below(8) == 0);
 
@@ -368,7 +381,7 @@ static void as_service(fevstunik_acceptor *service, fevstunik_accepted *accepted
             wrong("a wrapping that was written");
         return;
     }
-    if (wrapped.mechanism < 1 || wrapped.mechanism > 2 || wrapped.negotiated > 2)
+    if (wrapped.mechanism < 1 || wrapped.mechanism > 3 || wrapped.negotiated > 3)
         wrong("a mechanism");
     if (answer.code == FEVSTUNIK_SHORT_BUFFER)
         return;
@@ -377,6 +390,34 @@ static void as_service(fevstunik_acceptor *service, fevstunik_accepted *accepted
         wrong("a request that isn't in the token");
     decide(service, accepted, &wrapped);
     wrap_again(&wrapped);
+}
+
+/* A negotiation goes on through the tokens, until it is over; what it answers is an answer without a token. */
+static void as_negotiation(void)
+{
+    static fevstunik_negotiation side;
+    fevstunik_negotiation before = side;
+    fevstunik_wrapped wrapped = {7, 7};
+    fevstunik_verdict verdict = {7, 7};
+    size_t room = token.size < 64 ? 64 : token.size;
+    fevstunik_answer answer;
+
+    clear(&opened, room);
+    TIMED(answer, fevstunik_negotiation_take(&side, token.at, token.size, &wrapped, opened.at, room));
+    look(answer, FEVSTUNIK_NOT_A_TOKEN, FEVSTUNIK_NEGOTIATION_OVER, token.size, &opened, room);
+    if (side.stage > 2 || (side.stage == 1) != (answer.code == FEVSTUNIK_OK && wrapped.mechanism == FEVSTUNIK_MECHANISM_NONE))
+        wrong("a stage");
+    if (before.stage != 0 && (side.stage != 2 || wrapped.negotiated == FEVSTUNIK_MECHANISM_NONE))
+        wrong("a round too many");
+    if (side.stage == 1 && (fevstunik_verdict_read(opened.at, answer.size, &verdict).code != FEVSTUNIK_OK || verdict.says != FEVSTUNIK_SAYS_INCOMPLETE))
+        wrong("what asks for a token");
+    if (answer.code == FEVSTUNIK_OK && side.stage == 2 && before.stage == 1 && wrapped.negotiated != FEVSTUNIK_MECHANISM_NAMED)
+        wrong("a later token");
+    if (side.stage == 2 && below(2))
+        side = (fevstunik_negotiation){0, 0};
+    if (fevstunik_verdict_read(token.at, token.size, &verdict).code == FEVSTUNIK_OK
+        && fevstunik_verdict_token(&verdict, opened.at, room).code != FEVSTUNIK_OK && verdict.says != FEVSTUNIK_SAYS_REJECTED)
+        wrong("a verdict that isn't written again");
 }
 
 static void as_client(void)
@@ -436,7 +477,7 @@ static void reached(void)
 {
     static const uint32_t codes[] = {
         FEVSTUNIK_OK, FEVSTUNIK_SHORT_BUFFER, FEVSTUNIK_MESSAGE_TYPE, FEVSTUNIK_MALFORMED, FEVSTUNIK_REPEAT, FEVSTUNIK_NOT_A_TOKEN,
-        FEVSTUNIK_TOKEN_MALFORMED, FEVSTUNIK_TOKEN_CONTINUES, FEVSTUNIK_TOKEN_EMPTY, FEVSTUNIK_TOKEN_ID, FEVSTUNIK_OTHER_MECHANISM,
+        FEVSTUNIK_TOKEN_UNFRAMED, FEVSTUNIK_NEGOTIATION_OVER, FEVSTUNIK_TOKEN_MALFORMED, FEVSTUNIK_TOKEN_CONTINUES, FEVSTUNIK_TOKEN_EMPTY, FEVSTUNIK_TOKEN_ID, FEVSTUNIK_OTHER_MECHANISM,
         FEVSTUNIK_NTLM, FEVSTUNIK_IAKERB, FEVSTUNIK_NESTED_NEGOTIATION, FEVSTUNIK_CONTEXT_TRUNCATED, FEVSTUNIK_CONTEXT_BINDINGS,
         FEVSTUNIK_CONTEXT_DELEGATION};
 
@@ -464,6 +505,7 @@ int main(int count, char **words)
     for (number = 0; number < tokens; number++) {
         draw();
         as_client();
+        as_negotiation();
         as_service(&service, &accepted);
         if (number % 4 == 0)
             as_context();

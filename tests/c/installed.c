@@ -28,7 +28,7 @@ int main(int count, char **words)
         return 2;
     size_t size = fread(keytab, 1, sizeof keytab, file);
     fclose(file);
-    fevstunik_acceptor_options options = {sizeof options, {0, 0}, 300, FEVSTUNIK_RESTART_FIRST_LIFE, false, false};
+    fevstunik_acceptor_options options = {.size = sizeof options, .skew = 300, .restarts = FEVSTUNIK_RESTART_FIRST_LIFE};
     fevstunik_answer answer =
         fevstunik_acceptor_new(&service, keytab, size, (const uint8_t *)words[2], strlen(words[2]), &options);
     if (answer.code == FEVSTUNIK_OK)

@@ -1,6 +1,7 @@
 /* Runs the library on the exchange that tests share (tests/vectors/fixture.py), with exact answers. The arguments are the files of the
  * keytab and of the cache, and in hex the request, the request with a subkey, the reply, the reply with a subkey, the error, a cache of
- * two credentials with an offset, a request for another service, and a request with lists (tests/c_cases.py). */
+ * two credentials with an offset, a request for another service, a request with lists and others (tests/support/c_cases.py), the last an
+ * error with all fields. */
 #include "listed.h"
 #include "made.h"
 #include "structs.h"
@@ -14,7 +15,8 @@
 #define FAR ((size_t)1 << 32)
 #define FILLED ((size_t)0x5a5a5a5a5a5a5a5a)
 
-static struct bytes keytab, cache, request, keyed, reply, keyed_reply, error, two, other, listed, negative, negative_reply, with_start, at_the_end;
+static struct bytes keytab, cache, request, keyed, reply, keyed_reply, error, two, other, listed, negative, negative_reply, with_start, at_the_end,
+    whole_error;
 static uint8_t buffer[4096];
 /* What is accepted is kept here, if not said otherwise; the fixture's cache; and what is awaited of its requests. */
 static fevstunik_accepted accepted = FEVSTUNIK_ACCEPTED_INIT;
@@ -118,10 +120,10 @@ static void options(void)
 {
     static const fevstunik_acceptor_options zero;
     fevstunik_acceptor service = FEVSTUNIK_ACCEPTOR_INIT;
-    fevstunik_acceptor_options it = {sizeof it, {1700000000, 0}, 86401, 0, false, false};
+    fevstunik_acceptor_options it = {.size = sizeof it, .started = {1700000000, 0}, .skew = 86401};
     void *held;
 
-    is("the size of the options", sizeof it, 40);
+    is("the size of the options", sizeof it, 88);
     is_answer("all zero", made(&service, 1, EACH_NAME, zero), FEVSTUNIK_BAD_OPTIONS, 0, 0, 0);
     is("none is made", service.opaque == NULL, 1);
     is_answer("new", first_life(&service, keytab.at, keytab.size, 300, WEB), FEVSTUNIK_OK, 0, 0, 0);
@@ -398,6 +400,34 @@ static void errors(void)
     fevstunik_acceptor_free(&service);
 }
 
+/* What an error says that has only what it must, and one that has all; and what is no error. */
+static void errors_read(void)
+{
+    static const char parts[] = "host/web@EXalice@EXtoo latedata";
+    fevstunik_krb_error found;
+
+    memset(&found, 0x5a, sizeof found);
+    memset(buffer, 0xaa, sizeof buffer);
+    is_answer("no error", fevstunik_krb_error_read(error.at, error.size - 1, &found, buffer, sizeof buffer), FEVSTUNIK_ERROR_MALFORMED, 0,
+              error.size - 1, 0);
+    is_answer("a reply", fevstunik_krb_error_read(reply.at, reply.size, &found, buffer, sizeof buffer), FEVSTUNIK_ERROR_MALFORMED, 0, 0, 0);
+    is("nothing is filled", found.code == 0x5a5a5a5a && buffer[0] == 0xaa, 1);
+    is_answer("short", fevstunik_krb_error_read(error.at, error.size, &found, buffer, 10), FEVSTUNIK_SHORT_BUFFER, 0, 0, 11);
+    is("filled, not written", found.code == 37 && buffer[0] == 0xaa, 1);
+    is_answer("read", fevstunik_krb_error_read(error.at, error.size, &found, buffer, 11), FEVSTUNIK_OK, 0, 0, 11);
+    is_bytes("its service", buffer + found.service.at, parts, found.service.size);
+    is("its type", found.service_type, 3);
+    is("its time", found.stime.seconds == 1700000100 && found.stime.micros == 7, 1);
+    is("no more", found.has_client || found.has_text || found.has_data || found.has_ctime, 0);
+    is("no parts", (long long)(found.client.size + found.text.size + found.data.size), 0);
+    is_answer("read all", fevstunik_krb_error_read(whole_error.at, whole_error.size, &found, buffer, sizeof buffer), FEVSTUNIK_OK, 0, 0, 31);
+    is_bytes("all parts", buffer, parts, 31);
+    is("where they are", found.service.size == 11 && found.client.at == 11 && found.client.size == 8 && found.text.at == 19
+       && found.text.size == 8 && found.data.at == 27 && found.data.size == 4, 1);
+    is("all there", found.has_client && found.has_text && found.has_data && found.has_ctime, 1);
+    is("the client's time", found.ctime.seconds == 1700000091 && found.ctime.micros == 8, 1);
+}
+
 /* The fixture's request is for host/web@EX alone: a service that is wanted by another name refuses it, whatever the keytab has; one that is
  * made in a used handle has forgotten it. The types of names don't count. */
 static void wanted_services(void)
@@ -424,7 +454,7 @@ static void wanted_services(void)
 /* Numbers that aren't codes have a name and a text that say so, and the header's version is the library's. */
 static void constants(void)
 {
-    is("no name", strcmp(fevstunik_code_name(1), "FEVSTUNIK_UNKNOWN"), 0);
+    is("no name", strcmp(fevstunik_code_name(2), "FEVSTUNIK_UNKNOWN"), 0);
     is("no text", strcmp(fevstunik_code_text(505), "an unknown code"), 0);
     is("a name", strcmp(fevstunik_code_name(FEVSTUNIK_REPEAT), "FEVSTUNIK_REPEAT"), 0);
     is("version", fevstunik_version(), FEVSTUNIK_VERSION_MAJOR * 10000 + FEVSTUNIK_VERSION_MINOR * 100 + FEVSTUNIK_VERSION_PATCH);
@@ -1313,16 +1343,16 @@ int main(int count, char **words)
 {
     static void (*const parts[])(void) = {
         empty_handles, started_again, options, negative_number, unready, kept_apart, ready_again, wanted_services, constants, whole_life, keyed_client,
-        another_service, lists, stamps, starts, new_keytabs, errors, names, files, listings, kept_keytab, kept_cache, second_credential, edits,
+        another_service, lists, stamps, starts, new_keytabs, errors, errors_read, names, files, listings, kept_keytab, kept_cache, second_credential, edits,
         additions, second_entry, kept_credentials, requests, negative_answer, contexts, empty_askings, agreements, texts, two_faults_of_requests,
         two_faults, bad_moments, no_bytes};
     struct bytes *const inputs[] = {&keytab, &cache, &request, &keyed, &reply, &keyed_reply, &error, &two, &other, &listed, &negative,
-                                    &negative_reply, &with_start, &at_the_end};
+                                    &negative_reply, &with_start, &at_the_end, &whole_error};
     size_t part;
 
-    if (count != 15)
+    if (count != 16)
         return 2;
-    from_words(inputs, 14, words);
+    from_words(inputs, 15, words);
     for (part = 0; part < sizeof parts / sizeof *parts; part++)
         parts[part]();
     fevstunik_accepted_free(&accepted);

@@ -7,7 +7,7 @@
 static inline fevstunik_answer first_life(fevstunik_acceptor *service, const uint8_t *keytab, size_t size, uint32_t skew, const uint8_t *name,
                                           size_t name_size)
 {
-    fevstunik_acceptor_options options = {sizeof options, {0, 0}, skew, FEVSTUNIK_RESTART_FIRST_LIFE, name_size == 0, false};
+    fevstunik_acceptor_options options = {.size = sizeof options, .skew = skew, .restarts = FEVSTUNIK_RESTART_FIRST_LIFE, .any_name = name_size == 0};
 
     return fevstunik_acceptor_new(service, keytab, size, name, name_size, &options);
 }
@@ -15,7 +15,8 @@ static inline fevstunik_answer first_life(fevstunik_acceptor *service, const uin
 static inline fevstunik_answer started(fevstunik_acceptor *service, const uint8_t *keytab, size_t size, uint32_t skew, const uint8_t *name,
                                        size_t name_size, const fevstunik_time *start)
 {
-    fevstunik_acceptor_options options = {sizeof options, *start, skew, FEVSTUNIK_RESTART_STARTED, name_size == 0, false};
+    fevstunik_acceptor_options options = {.size = sizeof options, .started = *start, .skew = skew, .restarts = FEVSTUNIK_RESTART_STARTED,
+                                          .any_name = name_size == 0};
 
     return fevstunik_acceptor_new(service, keytab, size, name, name_size, &options);
 }

@@ -1,6 +1,6 @@
 /* Lets each allocation of each call fail in turn, and looks whether the call answers FEVSTUNIK_OUT_OF_MEMORY and nothing else, and leaves all
  * as it was: then the same call is made with memory, and does what it does. The arguments are the files of the keytab and of the cache, and
- * in hex the request with a subkey and the reply to it. It is linked with --wrap=malloc, --wrap=realloc and --wrap=free. Each line of output
+ * in hex the request with a subkey, the reply to it and an error. It is linked with --wrap=malloc, --wrap=realloc and --wrap=free. Each line of output
  * that begins with `wrong` is one. */
 #include "checks.h"
 #include "listed.h"
@@ -47,7 +47,7 @@ void __wrap_free(void *at)
     __real_free(at);
 }
 
-static struct bytes keytab, cache, request, reply;
+static struct bytes keytab, cache, request, reply, error;
 static uint8_t buffer[4096];
 static const fevstunik_choice plain = {0, 0, false, true}, keyed = {19, 128, true, true};
 static const fevstunik_time now = {1700000100, 5};
@@ -235,6 +235,37 @@ static fevstunik_answer reading_context(void)
     return fevstunik_context_read(checksum, sizeof checksum, &context, buffer, sizeof buffer);
 }
 
+/* The first token of a negotiation, with the request. */
+static fevstunik_answer taking(void)
+{
+    static uint8_t token[sizeof buffer];
+    fevstunik_negotiation negotiation = {0, 0};
+    fevstunik_wrapped wrapped;
+    long after = left;
+    fevstunik_answer answer;
+
+    left = -1;
+    answer = fevstunik_token_request(&negotiated, request.at, request.size, token, sizeof token);
+    left = after;
+    answer = fevstunik_negotiation_take(&negotiation, token, answer.size, &wrapped, buffer, sizeof buffer);
+    is("it stays where it was", negotiation.stage, answer.code == FEVSTUNIK_OUT_OF_MEMORY ? 0 : 2);
+    return answer;
+}
+
+static fevstunik_answer saying(void)
+{
+    static const fevstunik_verdict verdict = {FEVSTUNIK_SAYS_COMPLETED, FEVSTUNIK_MECHANISM_KERBEROS};
+
+    return fevstunik_verdict_token(&verdict, buffer, sizeof buffer);
+}
+
+static fevstunik_answer reading_error(void)
+{
+    fevstunik_krb_error found;
+
+    return fevstunik_krb_error_read(error.at, error.size, &found, buffer, sizeof buffer);
+}
+
 /* The latest moment, or a second that no service here is told. */
 static fevstunik_time latest(void)
 {
@@ -252,8 +283,8 @@ static void is_at(const char *what, long at, long long found, long long wanted)
     is(name, found, wanted);
 }
 
-/* The Nth allocation fails, for each N until there is none; then the call ends well. */
-static void is_told(const char *what, fevstunik_answer (*call)(void))
+/* The Nth allocation fails, for each N until there is none; then the call ends well. A call that fails keeps so many pieces at most. */
+static void is_told_keeping(const char *what, fevstunik_answer (*call)(void), long most)
 {
     long at, before = held;
     size_t count = fevstunik_acceptor_count(&service), i;
@@ -269,7 +300,7 @@ static void is_told(const char *what, fevstunik_answer (*call)(void))
             break;
         is_at(what, at, answer.code, FEVSTUNIK_OUT_OF_MEMORY);
         is_at("size", at, (long long)answer.size, 0);
-        is_at("pieces held", at, held, before);
+        is_at("pieces held", at, held >= before && held <= before + most, 1);
         is_at("the handle", at, service.opaque == opaque && accepted.opaque == kept, 1);
         is_at("the client's handles", at, credentials.opaque == read && pending.opaque == awaited && keys.opaque == listed, 1);
         is_at("what is remembered", at, (long long)fevstunik_acceptor_count(&service), (long long)count);
@@ -282,6 +313,11 @@ static void is_told(const char *what, fevstunik_answer (*call)(void))
     left = -1;
     is_at("allocations", at, at > 0 && at < 1000, 1);
     is_at(what, at, answer.code, FEVSTUNIK_OK);
+}
+
+static void is_told(const char *what, fevstunik_answer (*call)(void))
+{
+    is_told_keeping(what, call, 0);
 }
 
 /* The first request with a ticket keeps the keys that it derives. If only they can't be kept, the request is the same. */
@@ -318,7 +354,8 @@ static void first_request(void)
     is_at("first request", at, answer.code, FEVSTUNIK_OK);
 }
 
-/* The first request with a ticket: the service may keep the ticket, sealed and opened, even if memory runs out later in the call. */
+/* The first request with a ticket: the service may keep the ticket, sealed and opened, even if memory runs out later in the call, and then room
+ * to put aside what it drops. */
 static void first_accept(void)
 {
     long at, before;
@@ -334,13 +371,70 @@ static void first_accept(void)
             break;
         is_at("first accept", at, answer.code, FEVSTUNIK_OUT_OF_MEMORY);
         is_at("remembered", at, (long long)fevstunik_acceptor_count(&service), 0);
-        is_at("pieces held", at, held == before || held == before + 2, 1);
+        is_at("pieces held", at, held == before || held == before + 2 || held == before + 3, 1);
         left = -1;
         is_at("then", at, accepting().code, FEVSTUNIK_OK);
     }
     left = -1;
     is_at("allocations", at, at > 0 && at < 1000, 1);
     is_at("first accept", at, answer.code, FEVSTUNIK_OK);
+}
+
+static fevstunik_login login;
+
+static fevstunik_answer logging_in(void)
+{
+    return fevstunik_service_answer(&service, &login, request.at, request.size, &now, cache.at, 16, buffer, sizeof buffer);
+}
+
+/* A client isn't let in where memory runs out, before the decision or after it; and nothing of it is known. */
+static void logins(void)
+{
+    long at;
+    fevstunik_answer answer;
+    fevstunik_known known;
+
+    for (at = 0; at < 1000; at++) {
+        is_at("service of logins", at, making().code, FEVSTUNIK_OK);
+        left = at;
+        answer = logging_in();
+        if (left >= 0)
+            break;
+        is_at("login", at, answer.code, FEVSTUNIK_OUT_OF_MEMORY);
+        is_at("nothing is sent", at, (long long)answer.size, 0);
+        answer = fevstunik_login_answer(&login, buffer, sizeof buffer);
+        is_at("its answer", at, answer.code == FEVSTUNIK_OUT_OF_MEMORY || answer.code == FEVSTUNIK_EMPTY_HANDLE, 1);
+        is_at("its client", at, fevstunik_accepted_known(&login.accepted, &known, buffer, sizeof buffer).code != FEVSTUNIK_OK, 1);
+        fevstunik_login_free(&login);
+        answer = logging_in();
+        is_at("login then", at, answer.code == FEVSTUNIK_OK || answer.code == FEVSTUNIK_REPEAT, 1);
+        fevstunik_login_free(&login);
+    }
+    left = -1;
+    is_at("allocations of a login", at, at > 10 && at < 1000, 1);
+    is_at("login at last", at, answer.code, FEVSTUNIK_OK);
+    fevstunik_login_free(&login);
+}
+
+static fevstunik_answer reading_asked(void)
+{
+    fevstunik_asked asked;
+
+    return fevstunik_login_asked(&login, &asked, buffer, sizeof buffer);
+}
+
+static fevstunik_answer reading_request(void)
+{
+    fevstunik_asked asked;
+
+    return fevstunik_request_asks(request.at, request.size, &asked, buffer, sizeof buffer);
+}
+
+static fevstunik_answer adding_realm(void)
+{
+    static const char realm[] = "A.REALM.OF.MORE.THAN.24.BYTES";
+
+    return fevstunik_acceptor_add_realm(&service, (const uint8_t *)realm, sizeof realm - 1);
 }
 
 /* The request comes too early, so it isn't remembered, but its ticket is kept. */
@@ -491,25 +585,26 @@ static void keytab_faults_without_memory(void)
 
 int main(int count, char **words)
 {
-    struct bytes *const inputs[] = {&keytab, &cache, &request, &reply};
+    struct bytes *const inputs[] = {&keytab, &cache, &request, &reply, &error};
     long before, again;
 
-    if (count != 5)
+    if (count != 6)
         return 2;
-    from_words(inputs, 4, words);
+    from_words(inputs, 5, words);
     is_told("new", making);
     is_told("ready", getting_ready);
     first_accept();
     ticket_until_another_keytab();
     is_at("new then", 0, making().code, FEVSTUNIK_OK);
     keep_ticket();
-    is_told("accept", accepting);
+    /* (the service may have made room to put aside what it drops) */
+    is_told_keeping("accept", accepting, 1);
     is_told("known", telling);
     is_told("ready again", getting_ready);
     is_at("a ready place", 0, telling().code, FEVSTUNIK_NOTHING_THERE);
     is_at("new again", 0, making().code, FEVSTUNIK_OK);
     keep_ticket();
-    is_told("accept again", accepting);
+    is_told_keeping("accept again", accepting, 1);
     is_told("stamp", stamping);
     is_told("new keytab", renewing);
     is_told("reply", replying);
@@ -518,7 +613,7 @@ int main(int count, char **words)
     is_told("error by code", refusing_by_code);
     is_told("started", starting);
     keep_ticket();
-    is_told("accept then", accepting);
+    is_told_keeping("accept then", accepting, 1);
     fevstunik_acceptor_free(&service);
     fevstunik_accepted_free(&accepted);
     is_at("freed", 0, held, 0);
@@ -541,6 +636,15 @@ int main(int count, char **words)
     is_told("token of a reply", wrapping_reply);
     is_told("token of an error", wrapping_error);
     is_told("context", reading_context);
+    is_told("negotiation", taking);
+    is_told("verdict", saying);
+    logins();
+    is_at("a login again", 0, logging_in().code, FEVSTUNIK_REPEAT);
+    is_told("what a login asked", reading_asked);
+    is_told("what a request asks", reading_request);
+    is_told("a realm", adding_realm);
+    fevstunik_login_free(&login);
+    is_told("an error that is read", reading_error);
     is_told("keytab check", checking);
     is_told("cache check", checking_cache);
     is_told("keytab entry", listing);

@@ -86,4 +86,14 @@ static inline void is_owner(const char *what, const fevstunik_owner *found, cons
     SAME(has_offset);
 }
 
+static inline void is_asked(const char *what, const fevstunik_asked *found, const fevstunik_asked *wanted)
+{
+    SAME_SPAN(service);
+    SAME(etype);
+    SAME(kvno);
+    SAME(service_type);
+    SAME(has_kvno);
+    SAME(wants_reply);
+}
+
 #endif

@@ -4,7 +4,7 @@ import functools
 
 import pytest
 
-from support import c_cases, c_header, c_programs, c_tokens, fixture
+from support import c_cases, c_header, c_programs, c_tokens, fixture, gss_rules
 from support.c_programs import CACHE, KEYED, KEYTAB, VALGRIND, linked, message, of_tests, run
 
 # Of a large keytab and a large cache.
@@ -39,19 +39,36 @@ class Programs:
     def memory(self):
         """Each allocation of each call fails in turn."""
         program = self.built("memory", "-Wl,--wrap=malloc", "-Wl,--wrap=realloc", "-Wl,--wrap=free")
-        return run(program, KEYTAB, CACHE, message(KEYED), message("reply"))
+        return run(program, KEYTAB, CACHE, message(KEYED), message("reply"), message("error"))
+
+    def limits(self):
+        """What a service remembers at most."""
+        return run(*VALGRIND, self.built("limits"), KEYTAB, CACHE, self.cache_of("carol"))
+
+    def logins(self):
+        """A login in one call, by the service's terms."""
+        text = c_cases.login_lines(c_header.header_codes(), c_header.kerberos_codes())
+        name, request = gss_rules.KERBEROS, fixture.request()
+        tokens = gss_rules.negotiation([name], None), gss_rules.going_on(gss_rules.kerberos(name, request))
+        return run(*VALGRIND, self.built("logins"), KEYTAB, CACHE, *(it.hex() for it in tokens), input=text)
+
+    def cache_of(self, client):
+        """The file of another client's cache."""
+        path = self.room / f"{client}.ccache"
+        path.write_bytes(c_cases.cache_of(client))
+        return path
 
     def ran(self, name):
         return getattr(self, name)()
 
 
-NAMES = ("exchange", "faults", "tokens", "memory")
+NAMES = ("exchange", "faults", "tokens", "memory", "limits", "logins")
 
 
 def messages():
     stored = [message(it) for it in ("request", KEYED, "reply", "reply with a subkey and a number", "error")]
     made = [c_cases.two_credentials(), c_cases.for_another_service(), c_cases.with_lists(), fixture.request(number=-1),
-            fixture.reply(number=-2**31), c_cases.with_start(), c_cases.at_the_end()]
+            fixture.reply(number=-2**31), c_cases.with_start(), c_cases.at_the_end(), c_cases.whole_error()]
     return [*stored, *(it.hex() for it in made)]
 
 
@@ -74,6 +91,15 @@ def test_codes(programs, checks):
         programs.answered.read(programs.ran(name).stdout)
     for function, codes in sorted(c_header.documented().items()):
         checks.equal(function, programs.answered.codes.get(function, set()), codes)
+
+
+def test_what_requests_take(archive, tmp_path, checks):
+    """One client sends 300,000 requests; and a million are remembered at once, each in at most 40 bytes."""
+    other = tmp_path / "carol.ccache"
+    other.write_bytes(c_cases.cache_of("carol"))
+    wrapped = [f"-Wl,--wrap={it}" for it in ("malloc", "realloc", "free")]
+    program = linked(archive, tmp_path / "attack", of_tests("attack"), *wrapped)
+    c_programs.counted(checks, run(program, KEYTAB, CACHE, other, 300_000, 1_000_000))
 
 
 def test_leaks(archive, tmp_path):
@@ -106,3 +132,9 @@ def test_threads(archive, tmp_path, checks):
     caches.write_text("".join(c_cases.cache_of(client).hex() + "\n" for client in c_cases.CLIENTS))
     program = linked(archive, tmp_path / "threads", "-D_POSIX_C_SOURCE=200809L", "-pthread", of_tests("threads"))
     c_programs.counted(checks, run(program, KEYTAB, caches))
+
+
+def test_readers(archive, tmp_path, checks):
+    """Threads that share what calls only read, under helgrind, which ends with 9 if one of them writes to it."""
+    program = linked(archive, tmp_path / "readers", "-pthread", of_tests("readers"))
+    c_programs.counted(checks, run("valgrind", "-q", "--tool=helgrind", "--error-exitcode=9", program, KEYTAB, CACHE))

@@ -1,6 +1,8 @@
 """The service and the client of examples/service talk to each other over TCP."""
 import contextlib
 import re
+import signal
+import socket
 import subprocess
 import time
 
@@ -17,14 +19,15 @@ def room(archive, tmp_path_factory):
     """A folder with both programs, and a cache with a ticket that is valid now."""
     folder = tmp_path_factory.mktemp("service")
     for name in ("service", "client"):
-        linked(archive, folder / name, "-D_DEFAULT_SOURCE", TOP / f"examples/service/{name}.c")
+        linked(archive, folder / name, "-D_DEFAULT_SOURCE", "-pthread", TOP / f"examples/service/{name}.c")
     (folder / "cache").write_bytes(c_programs.current_cache(int(time.time()) - 60))
     return folder
 
 
 @contextlib.contextmanager
 def serving(room, *words):
-    service = subprocess.Popen([room / "service", KEYTAB, SERVICE, *words], stdout=subprocess.PIPE, text=True)
+    pipe = subprocess.PIPE
+    service = subprocess.Popen([room / "service", KEYTAB, SERVICE, *words], stdout=pipe, stderr=pipe, text=True)
     try:
         yield service, service.stdout.readline().strip()
     finally:
@@ -49,3 +52,15 @@ def test_exchange(room):
         lines = service.communicate(timeout=60)[0].splitlines()
         assert lines == ["alice@EX: hello", "refused FEVSTUNIK_REPEAT", "alice@EX: hello again"]
         assert service.returncode == 0
+
+
+def test_several_clients(room):
+    """A client that sends nothing keeps no other waiting, and the keytab is read again at SIGHUP."""
+    with serving(room, "2", "first") as (service, port):
+        with socket.create_connection(("127.0.0.1", int(port))):
+            service.send_signal(signal.SIGHUP)
+            ran = run(room / "client", room / "cache", SERVICE, port, "hello", timeout=60)
+            assert ran.stdout == "agreed as alice@EX\n"
+        said, noted = service.communicate(timeout=60)
+        assert sorted(said.splitlines()) == ["alice@EX: hello", "refused FEVSTUNIK_GO_ON"]
+        assert noted.splitlines() == ["keytab: success"] * 2

@@ -4,6 +4,8 @@
  *     open CODE AT MECHANISM NEGOTIATED TOKEN REQUEST
  *     request CODE MECHANISM NEGOTIATED MESSAGE TOKEN     likewise reply and error
  *     answer CODE AT IS_ERROR TOKEN MESSAGE
+ *     said CODE SAYS MECHANISM TOKEN                      verdict likewise
+ *     take CODE AT STAGE ASKED STAGE ASKED MECHANISM NEGOTIATED TOKEN BYTES     the numbers of the negotiation before and after it
  *     context CODE FLAGS HAS_DELEGATION CHECKSUM BINDINGS DELEGATION EXTENSIONS */
 #include "checks.h"
 
@@ -11,7 +13,7 @@
 #define LINE (8 * ROOM)
 
 static uint8_t given[ROOM], wanted[ROOM], buffer[ROOM];
-static char text[LINE], word[8][LINE];
+static char text[LINE], word[11][LINE];
 
 /* The bytes of a word. */
 static size_t bytes_of(uint8_t *at, const char *digits)
@@ -136,6 +138,92 @@ static void contexts(void)
     is_written(wanted, 0);
 }
 
+static void said(void)
+{
+    unsigned code = (unsigned)atoi(word[1]);
+    const fevstunik_verdict verdict = {(uint32_t)strtoul(word[2], NULL, 10), (uint32_t)strtoul(word[3], NULL, 10)};
+    size_t count = bytes_of(wanted, word[4]);
+
+    clear();
+    is_answer(text, fevstunik_verdict_token(&verdict, buffer, ROOM), code, 0, 0, count);
+    is_written(wanted, count);
+    if (code != FEVSTUNIK_OK)
+        return;
+    clear();
+    is_answer("short", fevstunik_verdict_token(&verdict, buffer, count - 1), FEVSTUNIK_SHORT_BUFFER, 0, 0, count);
+    is_written(wanted, 0);
+}
+
+static void read_said(void)
+{
+    unsigned code = (unsigned)atoi(word[1]);
+    int is_ok = code == FEVSTUNIK_OK;
+    fevstunik_verdict verdict = {77, 78};
+    size_t size = bytes_of(given, word[4]);
+
+    is_answer(text, fevstunik_verdict_read(given, size, &verdict), code, 0, 0, 0);
+    is("says", verdict.says, is_ok ? atoi(word[2]) : 77);
+    is("names", verdict.mechanism, is_ok ? atoi(word[3]) : 78);
+}
+
+static fevstunik_acceptor service = FEVSTUNIK_ACCEPTOR_INIT;
+static fevstunik_login login = FEVSTUNIK_LOGIN_INIT;
+
+/* A service without a key answers to the same tokens as a negotiation takes them, but for a request by itself, which it takes. */
+static void logs_in(unsigned code, size_t at, size_t size, unsigned stage, size_t count)
+{
+    static int is_alone;
+    static const fevstunik_acceptor_options options = {.size = sizeof options, .restarts = FEVSTUNIK_RESTART_FIRST_LIFE, .any_name = true};
+    const fevstunik_time now = {0, 0};
+    fevstunik_answer answer, again;
+
+    if (code == FEVSTUNIK_BAD_NEGOTIATION)
+        return;
+    if (stage == 0) {
+        fevstunik_login_free(&login);
+        is_alone = size > 0 && given[0] == 0x6e;
+    }
+    if (is_alone)
+        return;
+    if (service.opaque == NULL)
+        is("service", fevstunik_acceptor_new(&service, (const uint8_t *)"\5\2", 2, EACH_NAME, &options).code, FEVSTUNIK_OK);
+    answer = fevstunik_service_answer(&service, &login, given, size, &now, wanted, 16, buffer, ROOM);
+    again = fevstunik_login_answer(&login, buffer, ROOM);
+    is_answer("the answer again", again, answer.code, answer.kerberos, answer.at, answer.size);
+    if (code != FEVSTUNIK_OK)
+        is_answer(text, answer, code, 0, at, answer.size);
+    else if (atoi(word[7]) == FEVSTUNIK_MECHANISM_NONE)
+        is_answer(text, answer, FEVSTUNIK_GO_ON, 0, 0, count);
+    else
+        is(text, answer.code >= FEVSTUNIK_MESSAGE_TYPE && answer.code < FEVSTUNIK_OUT_OF_MEMORY, 1);
+}
+
+static void takes(void)
+{
+    unsigned code = (unsigned)atoi(word[1]);
+    size_t at = (size_t)atoi(word[2]), size = bytes_of(given, word[9]), count = bytes_of(wanted, word[10]);
+    int is_ok = code == FEVSTUNIK_OK;
+    const fevstunik_negotiation before = {(uint32_t)atoi(word[3]), (uint32_t)atoi(word[4])};
+    fevstunik_negotiation negotiation = before;
+    fevstunik_wrapped wrapped = {7, 7};
+
+    clear();
+    if (is_ok && count > 0) {
+        is_answer("short", fevstunik_negotiation_take(&negotiation, given, size, &wrapped, buffer, count - 1), FEVSTUNIK_SHORT_BUFFER, 0, 0, count);
+        is_written(wanted, 0);
+        is("stays", negotiation.stage, before.stage);
+        is("stays", negotiation.asked, before.asked);
+    }
+    wrapped.mechanism = wrapped.negotiated = 7;
+    is_answer(text, fevstunik_negotiation_take(&negotiation, given, size, &wrapped, buffer, ROOM), code, 0, at, is_ok ? count : 0);
+    is_written(wanted, is_ok ? count : 0);
+    is("stage", negotiation.stage, atoi(word[5]));
+    is("asked", negotiation.asked, atoi(word[6]));
+    is("mechanism", wrapped.mechanism, is_ok ? atoi(word[7]) : 7);
+    is("negotiated", wrapped.negotiated, is_ok ? atoi(word[8]) : 7);
+    logs_in(code, at, size, before.stage, count);
+}
+
 /* What is longer than a token may be. */
 static void too_long(void)
 {
@@ -161,16 +249,25 @@ int main(void)
     too_long();
     while (fgets(text, sizeof text, stdin) != NULL) {
         text[strcspn(text, "\n")] = 0;
-        sscanf(text, "%s %s %s %s %s %s %s %s", word[0], word[1], word[2], word[3], word[4], word[5], word[6], word[7]);
+        sscanf(text, "%s %s %s %s %s %s %s %s %s %s %s", word[0], word[1], word[2], word[3], word[4], word[5], word[6], word[7], word[8], word[9],
+               word[10]);
         if (strcmp(word[0], "open") == 0)
             opened();
         else if (strcmp(word[0], "answer") == 0)
             answered();
         else if (strcmp(word[0], "context") == 0)
             contexts();
+        else if (strcmp(word[0], "said") == 0)
+            said();
+        else if (strcmp(word[0], "verdict") == 0)
+            read_said();
+        else if (strcmp(word[0], "take") == 0)
+            takes();
         else
             wraps();
     }
+    fevstunik_login_free(&login);
+    fevstunik_acceptor_free(&service);
     printf("%d passed, %d failed\n", passed, failed);
     return failed != 0;
 }

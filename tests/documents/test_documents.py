@@ -1,10 +1,9 @@
 """The documents beside what is there: their code is a program's, their commands are run, what they name as proved has
-these names, and their files exist. The manual page of the library and the shells' completions are what their scripts
-make, and mandoc finds nothing wrong with either page.
+these names, and their files exist. mandoc finds nothing wrong with the manual pages. (test_tables.py compares what
+is made of tables.)
 """
 import re
 import subprocess
-import sys
 import textwrap
 
 import pytest
@@ -15,12 +14,12 @@ EXAMPLE = TOP / "crates/krb_example"
 # How long the README may be.
 LINES = 200
 # Those whose lines are laid out, and whose commands are run.
-LAID_OUT = ("README.md", "CONTRIBUTING.md", "CHANGELOG.md", "docs/KRBTOOL.md", "docs/LIBRARY.md", "docs/OPERATING.md",
-            "docs/PROOFS.md")
+LAID_OUT = ("README.md", "CONTRIBUTING.md", "CHANGELOG.md", "SECURITY.md", "docs/KRBTOOL.md", "docs/LIBRARY.md",
+            "docs/OPERATING.md", "docs/PROOFS.md")
 OF_THE_EXAMPLE = ("README.md", "docs/LIBRARY.md")
 OF_THE_PROGRAM = ("README.md", "docs/KRBTOOL.md")
 # All that link to files.
-LINKING = ("README.md", "CONTRIBUTING.md", "tests/README.md", "bench/README.md",
+LINKING = ("README.md", "CONTRIBUTING.md", "SECURITY.md", "tests/README.md", "bench/README.md",
            *(f"docs/{it.name}" for it in sorted((TOP / "docs").glob("*.md"))))
 
 
@@ -65,11 +64,12 @@ def test_example_output():
 
 # What stands around a block of C, so that it compiles.
 AROUND = """#include <stdio.h>
+#include <unistd.h>
 #include "fevstunik.h"
-void example(const uint8_t *keytab, size_t keytab_size, const uint8_t *request, size_t request_size,
-             fevstunik_time start, fevstunik_time now);
-void example(const uint8_t *keytab, size_t keytab_size, const uint8_t *request, size_t request_size,
-             fevstunik_time start, fevstunik_time now)
+void example(const uint8_t *keytab, size_t keytab_size, const uint8_t *input, size_t input_size, const uint8_t *random,
+             fevstunik_time start, fevstunik_time now, int client);
+void example(const uint8_t *keytab, size_t keytab_size, const uint8_t *input, size_t input_size, const uint8_t *random,
+             fevstunik_time start, fevstunik_time now, int client)
 {
 %s}
 """
@@ -96,8 +96,10 @@ def test_python_code():
 
 
 def test_options(program):
-    """Each command and option that the program's help has is in the manual and in its document."""
-    manual, document = text_of("docs/man/krbtool.1").replace("Fl -", "--"), text_of("docs/KRBTOOL.md")
+    """Each command and option that the program's help has is in the manual, in its document and in the completions."""
+    manual = text_of("docs/man/krbtool.1").replace("Fl -", "--")
+    texts = [manual, *map(text_of, ("docs/KRBTOOL.md", *(f"packaging/completion/{it}"
+                                                         for it in ("krbtool.bash", "_krbtool"))))]
     said = subprocess.run([program, "--help"], capture_output=True, text=True).stdout
     commands = re.findall(r"^  ([a-z]+(?:-[a-z]+)?)  ", said, re.M)
     words = set(commands)
@@ -107,19 +109,7 @@ def test_options(program):
                                     subprocess.run([program, command, "--help"], capture_output=True,
                                                    text=True).stdout))
     assert len(words) >= 12
-    assert sorted(it for it in words - {"help", "--help"} if it not in manual or it not in document) == []
-
-
-def test_completions(program, tmp_path):
-    """The completions are what their script makes of the program's help (packaging/completion.py makes them)."""
-    folder = TOP / "packaging/completion"
-    ran = subprocess.run([sys.executable, TOP / "packaging/completion.py", program, tmp_path], capture_output=True,
-                         text=True)
-    assert ran.returncode == 0, ran.stderr
-    made = list(tmp_path.iterdir())
-    assert made
-    assert [it.name for it in made if not (folder / it.name).is_file()
-            or (folder / it.name).read_text() != it.read_text()] == []
+    assert sorted(it for it in words - {"help", "--help"} if any(it not in text for text in texts)) == []
 
 
 # The words of a command line, and what the last one is completed to.

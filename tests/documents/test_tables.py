@@ -36,8 +36,9 @@ def numbers(text):
     return [int(it.replace("_", ""), 0) for it in re.findall(r"\b(?:0x[0-9a-fA-F_]+|[0-9][0-9_]*)\b", text)]
 
 
-def messages():
-    """What tools/generate makes of tables: the sources of messages, and the files of the library for C."""
+def generated():
+    """What tools/generate makes of tables: the sources of messages, the files of the library for C, and krbtool's
+    commands."""
     ran = subprocess.run([sys.executable, "-m", "tools.generate", "--check"], cwd=TOP, capture_output=True, text=True)
     return ran.stderr.strip() or same(ran.returncode, 0)
 
@@ -167,7 +168,7 @@ TABLES = {
     "the fixture's requests in a context": contexts,
     "the example's keytab, cache and request": example,
     "the tables of the S-box on lanes": tower_tables,
-    "the messages' sources and definitions": messages,
+    "what tools/generate makes": generated,
     "stored answers of the ciphers, codes and keys": stored_answers,
 }
 

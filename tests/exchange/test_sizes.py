@@ -1,10 +1,9 @@
 """Calls of many sizes, with ample memory: each is answered as it should be, and not by out of memory."""
-import hashlib
 import subprocess
 
 import pytest
 
-from support import calls, fixture, reference
+from support import calls, fixture
 from support.checks import slug
 from support.exchange_made import name_word, parts_of
 from support.model import CODES
@@ -20,18 +19,6 @@ def begins(text):
 
 def ends(first, last):
     return lambda answer: answer.startswith(first) and answer.endswith(last)
-
-
-def keytabs():
-    """Keytabs of 0 to 300 entries are read and written, and each entry is removed and added again."""
-    file = b"\5\2"
-    for count in range(301):
-        yield f"keytab read slice {file.hex()}", begins(f"ok {count} ")
-        yield f"keytab write {file.hex()}", f"ok {calls.shown(file)}"
-        yield f"keytab turned {file.hex()}", "same"
-        entry = {"realm": b"EX", "components": [b"host", b"web%d" % count], "name_type": 1, "timestamp": 0,
-                 "kvno": count, "etype": 20, "key": b"\7" * 32}
-        file += reference.record_of(entry)
 
 
 def caches():
@@ -67,17 +54,6 @@ def asked_caches():
         yield line, begins("6e82") if count else "refused NoCredential"
 
 
-def names():
-    """Names of 1 to 300 components become texts and names again."""
-    for count in range(1, 301):
-        parts = [*(b"c%d" % it for it in range(1, count)), b"last"]
-        text, word = b"/".join(parts).decode() + "@EX", name_word(1, b"EX", parts)
-        kind, realm, listed = word.split("/")
-        told = listed if len(listed) <= 2048 else f"#{len(listed)}:{hashlib.sha256(listed.encode()).hexdigest()}"
-        yield f"name read 1 ={text}", f"{kind}/{realm}/{told}"
-        yield f"name text {word}", f"={text}" if len(text) <= 1024 else calls.shown(text.encode())
-
-
 def requests(memory):
     """A thousand requests, 1 µs apart, are accepted by one service, replied to and finished."""
     yield f"service {memory} 300 {fixture.keytab().hex()}", "service"
@@ -99,8 +75,7 @@ def errors():
 
 
 SWEEPS = {
-    "keytabs": (FILES, keytabs), "caches": (FILES, read_caches),
-    "the last credential of caches": (EXCHANGE, asked_caches), "names": (FILES, names),
+    "caches": (FILES, read_caches), "the last credential of caches": (EXCHANGE, asked_caches),
     "requests, list": (EXCHANGE, lambda: requests("list")), "requests, timed": (EXCHANGE, lambda: requests("timed")),
     "errors": (EXCHANGE, errors),
 }

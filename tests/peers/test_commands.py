@@ -202,7 +202,7 @@ def test_add_keys(checks, world, peers, keytab, more):
     (realm, one), (_, other), heimdal = keytab, world.keytabs[more], world.heimdal
     made, merged = one.with_suffix(f".with-{other.stem}"), one.with_suffix(f".beside-{other.stem}")
     label = f"add-keys: {other.name} to {one.name} of {realm.name}"
-    checks.equal(label, peers.said("add-keys", one, other, made), f"wrote {made.stat().st_size}\n")
+    checks.equal(label, peers.said("add-keys", one, other, "--out", made), f"wrote {made.stat().st_size}\n")
     realm.run("default", "ktutil", input=f"rkt {one}\nrkt {other}\nwkt {merged}\nquit\n")
     held, found = list(keys_of(realm, one)), list(keys_of(realm, made))
     lacking = {key for key in keys_of(realm, other)} - set(held)

@@ -13,7 +13,8 @@ def folder(library, tmp_path_factory):
     made = tmp_path_factory.mktemp("conversations")
     conversations.built(made)
     for name in ("service", "client"):
-        linked(library.parent / "libkrb_c.a", made / name, "-D_DEFAULT_SOURCE", TOP / f"examples/service/{name}.c")
+        source = TOP / f"examples/service/{name}.c"
+        linked(library.parent / "libfevstunik.a", made / name, "-D_DEFAULT_SOURCE", "-pthread", source)
     return made
 
 

@@ -40,7 +40,7 @@ def realm(world, installed, folder):
     """The realm with tickets for two services, of type 19 and 20, and the programs that talk."""
     for name in ("service", "client"):
         source = packing.ROOT / f"examples/service/{name}.c"
-        assert packing.wrong(installed.compiled(source, folder / name, "-D_DEFAULT_SOURCE")) is None
+        assert packing.wrong(installed.compiled(source, folder / name, "-D_DEFAULT_SOURCE", "-pthread")) is None
     conversations.built(folder)
     realm = world.mit
     assert world.tickets

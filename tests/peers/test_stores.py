@@ -237,7 +237,7 @@ def folder(library, tmp_path_factory):
     c_programs.well(c_programs.run("gcc", "-shared", "-fPIC", *c_programs.STRICT[:3], TESTS / "support/clock.c", "-o",
                                    made / "clock.so"))
     source = TOP / "examples/service/shared.c"
-    c_programs.linked(library.parent / "libkrb_c.a", made / "shared", "-D_DEFAULT_SOURCE", source, "-lhiredis")
+    c_programs.linked(library.parent / "libfevstunik.a", made / "shared", "-D_DEFAULT_SOURCE", source, "-lhiredis")
     (made / "cache").write_bytes(c_programs.current_cache(int(time.time()) - 60))
     return made
 

@@ -69,7 +69,7 @@ def test_added_keys(program, tmp_path, name, other):
     one, two, made, merged = (tmp_path / word for word in ("one", "two", "made", "merged"))
     one.write_bytes(KEYTABS[name])
     two.write_bytes(KEYTABS[other])
-    ran([program, "add-keys", one, two, made])
+    ran([program, "add-keys", one, two, "--out", made])
     ran(["ktutil"], input=f"read_kt {one}\nread_kt {two}\nwrite_kt {merged}\nquit\n")
     held = keys_of(one)
     assert sorted(keys_of(made)) == sorted([*held, *(set(keys_of(merged)) - set(held))])

@@ -23,7 +23,7 @@ import time
 
 import pytest
 
-from support import TESTS, TOP, kdc, tickets
+from support import TESTS, TOP, gss_rules, kdc, tickets
 
 pytestmark = [pytest.mark.packages, pytest.mark.slow, pytest.mark.xdist_group("web")]
 WEB = TESTS / "peers/web"
@@ -92,17 +92,20 @@ class Service:
         self.process.kill()
         self.process.wait()
 
-    def asked(self, header=None):
+    def connected(self):
+        return http.client.HTTPConnection("127.0.0.1", int(self.port), timeout=SECONDS)
+
+    def asked(self, header=None, connection=None):
         """The status, the words of WWW-Authenticate, and the text that a request with this header Authorization is
         answered."""
-        connection = http.client.HTTPConnection("127.0.0.1", int(self.port), timeout=SECONDS)
+        connection = connection or self.connected()
         connection.request("GET", "/", headers={} if header is None else {"Authorization": header})
         response = connection.getresponse()
         return response.status, (response.headers["WWW-Authenticate"] or "").split(), response.read().decode()
 
     def last(self):
-        """The last reason in the log."""
-        found = re.findall("denied: (.*)", self.log.read_text())
+        """The last reason in the log, without what the request asked for."""
+        found = re.findall(r"denied: (.*?)(?: \(ticket for .*\))?$", self.log.read_text(), re.M)
         return found[-1] if found else ""
 
 
@@ -258,11 +261,10 @@ def with_curl(world):
 
 OWN = """
 import base64, sys
-from fevstunik import CredentialCache, make_request, open_answer, wrap_request
-request, pending = make_request(CredentialCache.read(sys.argv[1]), sys.argv[2])
-print(base64.b64encode(wrap_request(request, negotiated=sys.argv[3] == "spnego")).decode(), flush=True)
-answer = open_answer(base64.b64decode(sys.stdin.readline()))
-print("error" if answer.is_error else pending.finish(answer.message).client)
+from fevstunik import Client, CredentialCache
+client = Client(CredentialCache.read(sys.argv[1]), sys.argv[2], negotiated=sys.argv[3] == "spnego")
+print(base64.b64encode(client.first()).decode(), flush=True)
+print(client.finish(base64.b64decode(sys.stdin.readline())).client)
 """
 
 
@@ -281,13 +283,13 @@ def with_ours(realm, service, library, kind):
 
 IN_CONTEXT = """
 import sys
-from fevstunik import ContextFlags, CredentialCache, make_request, open_answer, wrap_request
+from fevstunik import Client, ContextFlags, CredentialCache
 cache, service, kind, flags, *bindings = sys.argv[1:]
 bound = bindings[0].encode() if bindings else None
-request, pending = make_request(CredentialCache.read(cache), service, context=ContextFlags(int(flags)), bindings=bound)
-print(wrap_request(request, negotiated=kind == "spnego").hex(), flush=True)
-answer = open_answer(bytes.fromhex(sys.stdin.readline()))
-print("error" if answer.is_error else pending.finish(answer.message).client)
+client = Client(CredentialCache.read(cache), service, negotiated=kind == "spnego", context=ContextFlags(int(flags)),
+                bindings=bound)
+print(client.first().hex(), flush=True)
+print(client.finish(bytes.fromhex(sys.stdin.readline())).client)
 """
 # Replay, sequence, confidentiality and integrity; and with a reply that is asked for, and a delegation, which is left
 # out.
@@ -318,6 +320,97 @@ def at_mits_service(realm, library, kind, flags, *bindings):
         yield f"{what}, on another channel, is refused", is_it(said[0], "refused")
 
 
+# MIT's client, which asks for no reply: it prints its token, and whether it is complete after the answer.
+WITHOUT_REPLY = """
+import sys
+import gssapi
+gssapi.SecurityContext.__DEFER_STEP_ERRORS__ = False
+context = gssapi.SecurityContext(name=gssapi.Name(sys.argv[1], gssapi.NameType.hostbased_service),
+                                 mech=gssapi.OID.from_int_seq("1.3.6.1.5.5.2"), usage="initiate",
+                                 flags=gssapi.RequirementFlag.integrity)
+print(context.step().hex(), flush=True)
+try:
+    context.step(bytes.fromhex(sys.stdin.readline()))
+except gssapi.exceptions.GSSError:
+    print("refused", end=" ")
+print("complete" if context.complete else "incomplete")
+"""
+# Our service: it prints the client, whether it wants a reply, and its answer; and that to the same token again.
+OURS_WITHOUT_REPLY = """
+import sys
+from fevstunik import Keytab, Service
+with Service(Keytab.read(sys.argv[1]), sys.argv[2], first_life=True) as service:
+    login, again = (service.answer(bytes.fromhex(sys.argv[3])) for _ in range(2))
+print(login.client, login.wants_reply, login.reply.hex(), again.reply.hex())
+"""
+
+
+def without_reply(realm, library):
+    """MIT's client completes by accept-completed, and is refused by reject."""
+    ours = {**os.environ, "FEVSTUNIK_LIBRARY": str(library), "PYTHONPATH": str(TOP / "python")}
+    theirs = realm.environment("default", KRB5CCNAME=f"FILE:{realm.folder / 'alice.ccache'}")
+    for which, said in ((2, "complete"), (3, "refused incomplete")):
+        client = subprocess.Popen([PYTHON, "-B", "-c", WITHOUT_REPLY, SERVICE.replace("/", "@")], env=theirs, text=True,
+                                  stdin=subprocess.PIPE, stdout=subprocess.PIPE)
+        words = [realm.folder / "www.keytab", f"{SERVICE}@{REALM}", client.stdout.readline().strip()]
+        ran = subprocess.run([PYTHON, "-B", "-c", OURS_WITHOUT_REPLY, *words], env=ours, capture_output=True, text=True)
+        answer = (ran.stdout or ran.stderr).split()
+        yield "MIT's client is let in", is_it(answer[:2], [ALICE, "False"])
+        yield f"MIT's client is {said}", is_it(client.communicate(answer[which] + "\n", timeout=SECONDS)[0].strip(), said)
+
+
+# A service of MIT's GSS-API: for each token its answer, and the client once it is known.
+NEGOTIATING = """
+import sys
+import gssapi
+context = gssapi.SecurityContext(usage="accept", creds=gssapi.Credentials(usage="accept"))
+for line in sys.stdin:
+    answer = context.step(bytes.fromhex(line))
+    print(answer.hex(), context.initiator_name if context.complete else "-")
+"""
+# The same of ours.
+OURS_NEGOTIATING = """
+import sys
+from fevstunik import Keytab, Service
+connection = Service(Keytab.read(sys.argv[1]), sys.argv[2], first_life=True).login()
+for line in sys.stdin:
+    decision = connection.answer(bytes.fromhex(line))
+    print(decision.reply.hex(), getattr(decision, "client", "-"))
+"""
+
+
+def rounds(request):
+    """Negotiations of a client: each is its tokens."""
+    inner, more = gss_rules.kerberos(gss_rules.KERBEROS, request), gss_rules.element(0xA4, b"\x30\x00")
+    first = [gss_rules.KERBEROS]
+    yield "in one round", [gss_rules.negotiation(first, inner)]
+    yield "with an unknown field", [gss_rules.negotiation(first, inner, more=more)]
+    yield "in two rounds", [gss_rules.negotiation(first, None), gss_rules.going_on(inner)]
+    yield "by Microsoft's name", [gss_rules.negotiation([gss_rules.MICROSOFT, *first], None), gss_rules.going_on(inner)]
+    yield "with a later unknown field", [gss_rules.negotiation(first, None), gss_rules.going_on(inner, b"\1", more=more)]
+
+
+def request_without_reply(realm):
+    """A request of MIT's client, which asks for no reply."""
+    theirs = realm.environment("default", KRB5CCNAME=f"FILE:{realm.folder / 'alice.ccache'}")
+    token = bytes.fromhex(kdc.ran([PYTHON, "-B", "-c", WITHOUT_REPLY, SERVICE.replace("/", "@")], env=theirs,
+                                  seconds=SECONDS, input="\n").split()[0])
+    return gss_rules.opened(token)[1]
+
+
+def as_mits_service(realm, library):
+    """Ours answers each round as a service of MIT's GSS-API does."""
+    theirs = realm.environment("default", KRB5_KTNAME=str(realm.folder / "www.keytab"), KRB5RCACHENAME="none:")
+    ours = {**os.environ, "FEVSTUNIK_LIBRARY": str(library), "PYTHONPATH": str(TOP / "python")}
+    keyed = [realm.folder / "www.keytab", f"{SERVICE}@{REALM}"]
+    for name, tokens in rounds(request_without_reply(realm)):
+        lines = "".join(f"{it.hex()}\n" for it in tokens)
+        wanted = kdc.ran([PYTHON, "-B", "-c", NEGOTIATING], seconds=SECONDS, env=theirs, input=lines)
+        found = kdc.ran([PYTHON, "-B", "-c", OURS_NEGOTIATING, *keyed], seconds=SECONDS, env=ours, input=lines)
+        yield f"a negotiation {name}", is_it(found, wanted)
+        yield f"{name}, the client is let in", is_it(wanted.split()[-1], ALICE)
+
+
 def reply_in(token):
     """The reply in a token, after the identifier of such tokens. (It has a length of one byte, or of two or three with
     0x81 or 0x82.)"""
@@ -341,8 +434,11 @@ def of_the_program(program, realm, kind):
 
 
 def refusals(service):
-    for header, why in ((None, "no token"), ("Basic YTpi", "no token"), ("Negotiate *", "Only base64 data is allowed"),
-                        ("Negotiate " + base64.b64encode(b"NTLMSSP\0\1").decode(), "NOT_A_TOKEN: the first byte isn't that of a token"),
+    for header in (None, "Basic YTpi"):
+        yield f"{header} is no token", is_it(service.asked(header)[:2], (401, ["Negotiate"]))
+    no_token = "NOT_A_TOKEN: the first byte isn't that of a token"
+    for header, why in (("Negotiate", no_token), ("Negotiate *", no_token), ("Negotiate  \xff", no_token),
+                        ("Negotiate " + base64.b64encode(b"NTLMSSP\0\1").decode(), no_token),
                         ("Negotiate " + base64.b64encode(bytes.fromhex("600a06062b0601050205 0000")).decode(), "IAKERB: the mechanism is IAKERB, not Kerberos, at 4")):
         yield f"{header} is refused", is_it(service.asked(header)[:2], (401, ["Negotiate"]))
         yield f"the log says why of {header}", is_it(service.last(), why)
@@ -461,6 +557,14 @@ def test_our_client_at_mits_service(realm, library, checks, kind):
     checks.all(at_mits_service(realm, library, kind, DELEGATED, BINDINGS))
 
 
+def test_a_client_that_wants_no_reply(realm, library, checks):
+    checks.all(without_reply(realm, library))
+
+
+def test_negotiations_are_answered_as_mit_answers_them(realm, library, checks):
+    checks.all(as_mits_service(realm, library))
+
+
 @pytest.mark.parametrize("kind", ["gss", "spnego"])
 def test_krbtool_at_mits_service(program, realm, checks, kind):
     checks.all(of_the_program(program, realm, kind))
@@ -490,6 +594,18 @@ def test_page(web, clients, name):
     assert said == f"200 hello {ALICE}\n"
 
 
+def test_two_rounds_in_one_connection(web, realm):
+    """Another connection knows nothing of the first round."""
+    request = request_without_reply(realm)
+    first = header_of(gss_rules.negotiation([gss_rules.KERBEROS], None))
+    later = header_of(gss_rules.going_on(gss_rules.kerberos(gss_rules.KERBEROS, request)))
+    one, other = web.service.connected(), web.service.connected()
+    asks = header_of(gss_rules.response(gss_rules.KERBEROS, None, 1)).split()
+    assert web.service.asked(first, one)[:2] == (401, asks)
+    assert web.service.asked(later, other)[0] == 401 and web.service.last().startswith("TOKEN_CONTINUES")
+    assert web.service.asked(later, one)[::2] == (200, f"hello {ALICE}\n")
+
+
 def test_page_at_a_service_with_a_wrong_clock(web, clients):
     kdc.done([*clients("Java").words, web.later.url], seconds=SECONDS, env=web.env())
     assert web.later.last() == SKEW
@@ -502,6 +618,7 @@ def test_nginx(web, checks):
 def test_a_service_that_has_just_started(folder, realm, library):
     began = time.time()
     with Service(folder, realm, library) as service:
-        assert curl(World(folder, realm, service, None), service.port).stdout.endswith("who are you?\n")
+        said = curl(World(folder, realm, service, None), service.port).stdout
+        assert "HTTP/1.1 503 " in said and "\nRetry-After: 60" in said and said.endswith("try again later\n")
         assert service.last() == "JUST_STARTED: the service has just started"
     assert time.time() - began < SECONDS

@@ -34,7 +34,8 @@ def is_unread(command, found, failed):
     files = "ff" if command.other is None else "ffgg"
     if failed <= len(files):
         said = f"krbtool: {files[failed - 1]}: Read\n"
-        return found.said == said and not found.wrote and found.out == (OLD if command.out == OLD else b"")
+        is_kept = command.out == OLD or command.is_replacing
+        return found.said == said and not found.wrote and found.out == (OLD if is_kept else b"")
     wrote = answers_to(command, failed - len(files) - 1)
     return found.said == "krbtool: input: Read\n" and found.wrote == wrote and found.out == OLD
 
@@ -42,20 +43,22 @@ def is_unread(command, found, failed):
 def is_unwritten(command, found):
     """Whether the run is that of a failed write: into OUT, or of standard output."""
     if found.said == "krbtool: out: File\n":
-        return found.status == 3 and not found.wrote and command.out.startswith(found.out) and found.out != command.out
+        return found.status == 3 and not found.wrote and command.is_begun(found.out) and found.out != command.out
     # a buffer whose write failed once tries again when it is dropped, so all may have been written
     begins = command.wrote.startswith(found.wrote)
     return found.status == 3 and found.said == "krbtool: output: Write\n" and begins and found.out == command.out
 
 
 def is_right(command, call, how, lasting, failed, found):
+    if found.left:
+        return False
     if how == "short":
         return found.is_well(command)
     if how == "interrupted" and found.is_well(command):
         return True
     if lasting and call == "write":
         # no fault's line can be written then
-        begins = command.wrote.startswith(found.wrote) and command.out.startswith(found.out)
+        begins = command.wrote.startswith(found.wrote) and command.is_begun(found.out)
         return found.status == 3 and not found.said and begins
     return is_unread(command, found, failed) if call == "read" else is_unwritten(command, found)
 

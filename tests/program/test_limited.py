@@ -16,7 +16,7 @@ from support.preload import Command, Found
 STEP = 128 * 1024
 # How long the one record of a file is.
 LONG = 1024 * 1024
-SAID = ("krbtool: words: OutOfMemory\n", "error: out of memory\n", "krbtool: f: OutOfMemory\n")
+SAID = ("krbtool: words: OutOfMemory\n", "krbtool: f: OutOfMemory\n")
 
 
 def run(program, room, command, limit):
@@ -33,7 +33,7 @@ def is_named(command, found):
     """Whether a run says that there was no memory, and wrote nothing wrong."""
     said = (*SAID, f"krbtool: {command.words[0]}: OutOfMemory\n")
     begins = command.wrote.startswith(found.wrote) and found.out in (b"", preload.OLD)
-    return found.status in (2, 3) and found.said in said and begins
+    return found.status == 3 and found.said in said and begins
 
 
 def least(program, room):

@@ -12,15 +12,19 @@ import pytest
 from support import preload
 from support.preload import ALL, OLD, Command
 
-# What is refused, by the line that says so, in the order of a run; and the status.
-WORDS = ("krbtool: words: OutOfMemory\n", 2)
-CLAP = ("error: out of memory\n", 3)
+# The line of a refusal before the command is known.
+WORDS = "krbtool: words: OutOfMemory\n"
 # What of a command is refused memory, besides its first file and its options: a second file, and words of its own.
 NAMED = {"add-keys": ["g"], "request": ["service"], "finish": ["service", "reply"], "pick-key": ["name"]}
 # The request whose reply is read.
 PENDING = ("finish", "krbtool: request: OutOfMemory\n")
 # The answer of accept to a line whose call was refused memory.
 REFUSED = b"refused none OutOfMemory\n"
+
+
+def named(command):
+    """The line of a refusal while the words of a command are read."""
+    return WORDS if command.words[0].startswith("-") else f"krbtool: {command.words[0]}: OutOfMemory\n"
 
 
 def parts(command):
@@ -59,7 +63,8 @@ def is_answered(program, command, found):
 
 def is_named(program, command, found):
     """Whether the run's lines say that the command, or its file, was refused memory, and nothing wrong was written."""
-    if found.status != 3 or found.out not in (command.out, b"") and command.out != OLD:
+    unmade = OLD if command.out == OLD or command.is_replacing else b""
+    if found.status != 3 or found.left or found.out not in (command.out, unmade):
         return False
     if found.said in parts(command) or (command.words[0], found.said) == PENDING:
         return not found.wrote
@@ -69,12 +74,12 @@ def is_named(program, command, found):
     return begins and found.said == f"krbtool: {command.words[0]}: OutOfMemory\n"
 
 
-def stage_of(program, command, found):
-    """Where in a run memory was refused: at the words (0), in clap (1), in the command (2); or None where the run is
-    none such."""
-    said = (found.said, found.status)
-    if found.out == OLD and not found.wrote and said in (WORDS, CLAP):
-        return (WORDS, CLAP).index(said)
+def stage_of(program, command, found, stage):
+    """Where in a run memory was refused, from a stage on: before the command is known (0), while its words are read
+    (1), in the command (2); or None where the run is none such."""
+    lines = [WORDS, named(command)]
+    if found.status == 3 and found.out == OLD and not found.wrote and found.said in lines[stage:]:
+        return lines.index(found.said, stage)
     return 2 if is_named(program, command, found) else None
 
 
@@ -92,7 +97,7 @@ def unmet(command, ends):
         return set()
     if command.words[2:] != list(preload.TAILS):
         return parts(command) - ends
-    faults = {WORDS[0], CLAP[0], *parts(command), "krbtool: accept: OutOfMemory\n"}
+    faults = {WORDS, named(command), *parts(command)}
     good = command.wrote.splitlines(keepends=True)
     return (faults | {without_tail(it).decode().strip() for it in good[:2]}) - ends
 
@@ -113,8 +118,8 @@ def swept(program, command, last, preloaded, lasting):
         if well and not lasting and stage == 0 and passed_over < preload.PASSED_OVER:
             passed_over += 1
             continue
-        at = stage_of(program, command, found)
-        if at is None or at < stage:
+        at = stage_of(program, command, found, stage)
+        if at is None:
             return f"where call {refused} is refused it gives {found}"
         stage = at
     return "it calls for memory again and again"
@@ -133,8 +138,8 @@ def refusing(tmp_path_factory):
 @preload.parameters(*HELP, *preload.SERVICES, ("accept-for-another", preload.calls_for_another))
 def test_refused_memory(program, refusing, make, lasting):
     command = make(program)
-    # after clap's text nothing comes
-    last = 1 if command.wrote is None else 2
+    # after clap's text nothing comes, and if it names no command, it isn't told from what comes before
+    last = 2 if command.wrote is not None else int(named(command) != WORDS)
     if command.wrote is None:
         command = preload.with_answer(program, command)
     wrong = swept(program, command, last, refusing, lasting)

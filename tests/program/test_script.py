@@ -5,14 +5,11 @@ import pty
 import re
 import shutil
 import subprocess
-import sys
 
 import pytest
 
 from support import TOP
-
-sys.path.insert(0, str(TOP / "tools"))
-import unproved  # noqa: E402
+from tools import unproved
 
 PROGRAM = "#!/bin/sh\necho \"the program got $*\"\n"
 # Notes each call, and answers as `rt try` does: it says what the program's words and standard input were, and that the second word can't be
@@ -41,8 +38,8 @@ def written(path, text, mode=0o644, age=0):
 @pytest.fixture
 def room(tmp_path):
     """A repository of krbtool, a crate below it and another, whose sources are two minutes old, and one link to another link to its script."""
-    for name in ("krbtool", "tools/unproved.py"):
-        (tmp_path / name).parent.mkdir(exist_ok=True)
+    for name in ("krbtool", "tools/unproved.py", "crates/krb_command_line/commands.toml"):
+        (tmp_path / name).parent.mkdir(parents=True, exist_ok=True)
         shutil.copy(TOP / name, tmp_path / name)
     written(tmp_path / "rt/rt", RT, 0o755)
     for path in ("crates.txt", "crates/krbtool/src/main.rt", "crates/krb_name/src/lib.rt", "crates/krb_name/specs/Lib.antt"):
@@ -102,8 +99,11 @@ def test_names_of_files(room):
     ran = Ran(room, ["check-keytab", "a key"], room / "links")
     assert ran.calls == [f"krbtool try -- check-keytab {room}/links/a key"]
     assert (ran.status, ran.out, ran.said) == (3, "run with \n", NOTICE + "krbtool: a key: File\n")
-    ran = Ran(room, ["add-keys", "--", "-k", "/b/../c", "out"])
-    assert ran.calls == [f"krbtool try -- add-keys -- {room}/-k /b/../c {room}/out"]
+    ran = Ran(room, ["add-keys", "--", "-k", "/b/../c"])
+    assert ran.calls == [f"krbtool try -- add-keys -- {room}/-k /b/../c"]
+    ran = Ran(room, ["remove-key", "k", "0", "--out", "o"])
+    assert ran.calls == [f"krbtool try -- remove-key {room}/k 0 --out {room}/o"]
+    assert Ran(room, ["remove-key", "--out=/o", "k", "0"]).calls == [f"krbtool try -- remove-key --out=/o {room}/k 0"]
     words = ["request", "--time", "5", "c", "--confounder=ab", "host/web@EX", "--usec", "6", "--mutual"]
     assert Ran(room, words).calls == [f"krbtool try -- request --time 5 {room}/c --confounder=ab host/web@EX --usec 6 --mutual"]
     assert Ran(room, ["list-keytab", ""]).calls == ["krbtool try -- list-keytab "]
@@ -144,5 +144,5 @@ def test_words(program):
         usage = re.search(r"(?m)^Usage: .*$", said)[0]
         operands[it] = re.findall(r"<([A-Z]+)>", usage)
         valued |= {*re.findall(r"(?m)^ .*(--[a-z]+) <", said)}
-    assert operands == {name: names.split() for name, names in unproved.OPERANDS.items()}
-    assert valued == {*unproved.VALUED}
+    assert operands == unproved.OPERANDS
+    assert valued == unproved.VALUED

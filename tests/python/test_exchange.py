@@ -101,6 +101,38 @@ def test_refused(service, name, request_):
     assert raised.value.error(SERVICE, now=Moment(AT, 7)) == fixture.error(KERBEROS[name])
 
 
+def asked(cache, at, micros=0):
+    return make_request(cache, SERVICE, now=Moment(at, micros))[0]
+
+
+def test_limits(cache):
+    """Past a limit a request isn't decided. Others are served, and the client too when its requests expired."""
+    other = CredentialCache(c_cases.cache_of("carol"))
+    with Acceptor(Keytab(fixture.keytab()), SERVICE, first_life=True, limit=5, limit_for_client=2) as service:
+        assert [service.accept(asked(cache, AT, at), AT).client for at in range(2)] == ["alice@EX"] * 2
+        past = asked(cache, AT, 2)
+        assert fault_of(lambda: service.accept(past, AT + 9)) == ("FULL", 405, 0, 0)
+        assert (service.remembered, service.latest) == (2, Moment(AT))
+        assert service.accept(asked(other, AT), AT).client == "carol@EX"
+        usage = service.usage
+        assert (usage.remembered, usage.limit, usage.limit_for_client, usage.full) == (3, 5, 2, 1)
+        assert fault_of(lambda: service.accept(asked(cache, AT + 300), AT + 300)) == ("FULL", 405, 0, 0)
+        assert service.accept(asked(cache, AT + 300), AT + 301).client == "alice@EX"
+        assert fault_of(lambda: service.accept(past, AT + 301), Refused)[0] == "SKEW"
+        assert (service.remembered, service.usage.full) == (1, 2)
+    other.close()
+
+
+def test_default_limits():
+    with Acceptor(Keytab(fixture.keytab()), SERVICE, first_life=True) as service:
+        assert (service.usage.limit, service.usage.limit_for_client) == (1_000_000, 100_000)
+    for wrong in ({"limit": 0}, {"limit_for_client": -1}):
+        with pytest.raises(ValueError):
+            Acceptor(Keytab(fixture.keytab()), SERVICE, first_life=True, **wrong)
+    with pytest.raises(OverflowError):
+        Acceptor(Keytab(fixture.keytab()), SERVICE, first_life=True, limit=1 << 64)
+
+
 def test_malformed_repeat_and_start(service):
     assert fault_of(lambda: service.accept(b"\x6e", AT), Refused) == ("MALFORMED", 110, 60, 1)
     size = len(fixture.request())
@@ -141,6 +173,12 @@ def test_starts_that_are_too_early(start):
 def test_starts_that_are_no_moment(start):
     with pytest.raises(ValueError):
         Acceptor(Keytab(fixture.keytab()), SERVICE, started=start)
+
+
+@pytest.mark.parametrize("skew", [True, False])
+def test_skews_that_are_no_number(skew):
+    with pytest.raises(TypeError):
+        Acceptor(Keytab(fixture.keytab()), SERVICE, skew, first_life=True)
 
 
 def test_the_earliest_start():

@@ -42,7 +42,7 @@ def test_functions_are_the_headers():
 def test_structs_are_the_headers(tmp_path):
     """Their sizes and places are those that a C compiler gives them."""
     kinds = [it for it in vars(_interface).values() if isinstance(it, type) and issubclass(it, ctypes.Structure) and it is not _interface.Opaque]
-    structs = {re.sub("(?<=.)[A-Z]", lambda it: "_" + it[0], it.__name__).lower(): it for it in kinds} | {"acceptor": _interface.Opaque}
+    structs = {re.sub("(?<=.)[A-Z]", lambda it: "_" + it[0], it.__name__).lower().removesuffix("_handle"): it for it in kinds} | {"acceptor": _interface.Opaque}
     assert len(structs) == len(re.findall(r"^typedef struct fevstunik_\w+ \{\n(?!    void)", HEADER, re.M)) + 1
     asked, wanted = [], []
     for name, struct in structs.items():
@@ -108,7 +108,8 @@ def public():
         thing = getattr(fevstunik, name)
         yield name, thing
         if isinstance(thing, type):
-            yield from ((f"{name}.{word}", it) for word, it in vars(thing).items()
+            named = {word: it for of in reversed(thing.__mro__) if "fevstunik" in of.__module__ for word, it in vars(of).items()}
+            yield from ((f"{name}.{word}", it) for word, it in named.items()
                         if not word.startswith("_") and isinstance(it, (FunctionType, classmethod, property)))
 
 

@@ -3,7 +3,7 @@ import re
 import subprocess
 import sys
 
-from support import der, fixture
+from support import der, fixture, gss_rules
 from support.c_programs import KEYED, message
 
 
@@ -25,9 +25,19 @@ def error_of(code):
 def test_requests():
     plain, keyed = message("request"), message(KEYED)
     lines, last = served("--first", lines=[plain, plain, keyed, "30", ""])
-    assert lines == ["accepted alice@EX", "refused REPEAT", "refused REPEAT", "refused MESSAGE_TYPE",
-                     "refused MALFORMED"]
-    assert last[:2] == ["-", error_of(34)]
+    assert lines == ["accepted alice@EX", "refused REPEAT", "refused REPEAT", "refused NOT_A_TOKEN",
+                     "refused NOT_A_TOKEN"]
+    # (an error goes to a client that asks for a reply)
+    assert last[:3] == ["-", "-", error_of(34)]
+
+
+def test_tokens_and_rounds():
+    first = gss_rules.negotiation([gss_rules.KERBEROS], None)
+    token = gss_rules.kerberos(gss_rules.KERBEROS, bytes.fromhex(message(KEYED)))
+    lines, last = served("--first", lines=[first.hex(), token.hex(), b"NTLMSSP".hex()])
+    assert lines == ["go-on -", "accepted alice@EX", "refused NOT_A_TOKEN"]
+    assert last[0] == gss_rules.response(gss_rules.KERBEROS, None, 1).hex()
+    assert last[1].startswith("60") and last[2] == "-"
 
 
 def test_it_may_have_run_before():

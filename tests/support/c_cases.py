@@ -70,6 +70,13 @@ def at_the_end():
     return request(ticket(part), replaced(fixture.authenticator(), b"20231114221500Z", b"99991231235959Z"))
 
 
+def whole_error():
+    """An error with a client, its time, a text and data."""
+    sent, now = (der.time_of(fixture.CLIENT_TIME + it) for it in (-9, 0))
+    realm, more = der.string(b"EX"), (der.string(b"too late"), der.octets(b"data"))
+    return der.message(0x7E, 5, 30, sent, 8, now, 7, 37, realm, fixture.ALICE, realm, fixture.WEB, *more)
+
+
 def refused():
     """Requests to the fixture's service, each with the name of its answer."""
     other_realm = b"\x1b\x02EX", b"\x1b\x02EY"
@@ -169,6 +176,43 @@ def two_credentials():
     plain = fixture.credential(client, server, 19, fixture.SESSION_KEY, times, fixture.ticket())
     return fixture.configured_cache() + replaced(plain, struct.pack(">4IBI", *times, 0, 0),
                                                  struct.pack(">4IBI", *times, 1, 0x4061_0000))
+
+
+# The MD5 hash of a channel's bindings, and the flags of a ticket: anonymous, and that its path was checked.
+BINDINGS = bytes(range(1, 17))
+ANONYMOUS, CHECKED = 1 << 31 - 16, 1 << 31 - 12
+
+
+def of_client(bits, realm, name):
+    """A request of a client, whose ticket has these flags."""
+    part = der.enc_ticket_part(bits, der.key(19, fixture.SESSION_KEY), realm, name, fixture.AUTHTIME, fixture.ENDTIME)
+    return request(ticket(part), der.authenticator(realm, name, 5, fixture.CLIENT_TIME))
+
+
+def bound(bindings):
+    """A request with channel bindings."""
+    return request(ticket(), fixture.authenticator(checksum=fixture.context(False, bindings=bindings)))
+
+
+def login_cases():
+    """A service's terms, and what it answers to a request (RFC 8062, section 3; RFC 4121, section 4.1.1)."""
+    nobody, foreign = of_client(ANONYMOUS, b"EX", fixture.ALICE), of_client(CHECKED, b"EY", fixture.ALICE)
+    named = of_client(0, b"EX", der.name(11, b"WELLKNOWN", b"ANONYMOUS"))
+    other, none = BINDINGS[:15] + b"\0", bytes(16)
+    yield from (("plain", name, data) for name, data in refused())
+    yield from (("plain", "OK", it) for it in (fixture.request(), foreign, bound(none), bound(other)))
+    yield from (("plain", "ANONYMOUS_CLIENT", it) for it in (nobody, named))
+    yield from (("anonymous", "OK", it) for it in (nobody, named))
+    yield from (("realms", "OK", fixture.request()), ("realms", "FOREIGN_REALM", foreign))
+    yield from (("sent", "OK", it) for it in (fixture.request(), bound(none), bound(BINDINGS)))
+    yield from (("required", "CHANNEL_BINDINGS", it) for it in (fixture.request(), bound(none), bound(other)))
+    yield from (("sent", "CHANNEL_BINDINGS", bound(other)), ("required", "OK", bound(BINDINGS)))
+
+
+def login_lines(code_of, kerberos_of):
+    """What tests/c/logins.c reads."""
+    return "".join(f"{terms} {code_of[name]} {kerberos_of.get(name, 0)} {data.hex()}\n"
+                   for terms, name, data in login_cases())
 
 
 def lines(code_of, kerberos_of):

@@ -15,7 +15,7 @@ CRATE = TOP / "crates/krb_c"
 HEADER = TOP / "include/fevstunik.h"
 INTERFACE = Interface(tomllib.loads((TOP / TABLE).read_text()))
 # What the handles are called in the crate.
-HANDLES = {"ServiceHandle": "acceptor", "AcceptedHandle": "accepted", "KeytabHandle": "keytab", "CacheHandle": "cache", "PendingHandle": "pending"}
+HANDLES = {"ServiceHandle": "acceptor", "AcceptedHandle": "accepted", "Login": "login", "KeytabHandle": "keytab", "CacheHandle": "cache", "PendingHandle": "pending"}
 # Functions that the header has whole.
 INLINE = {"fevstunik_code_name", "fevstunik_code_text"}
 

@@ -5,15 +5,18 @@ import re
 import struct
 
 from support import gss_rules
-from support.gss_rules import KERBEROS, MICROSOFT, element
+from support.gss_rules import KERBEROS, MICROSOFT
 
 # How many tokens are drawn.
 DRAWN = 3_000
-NUMBERS = {"Kerberos": 1, "Microsoft": 2}
-NAMES = {1: KERBEROS, 2: MICROSOFT}
+NUMBERS = {"Kerberos": 1, "Microsoft": 2, "Draft": 3}
+NAMES = {1: KERBEROS, 2: MICROSOFT, 3: gss_rules.DRAFT}
+# In place of a mechanism: it was named by an earlier answer.
+NAMED = 100
 MECHANISMS = {"Unknown": "OTHER_MECHANISM", "Ntlm": "NTLM", "IaKerb": "IAKERB", "Negotiation": "NESTED_NEGOTIATION"}
 FAULTS = {"no token of a mechanism": "NOT_A_TOKEN", "the token continues a negotiation": "TOKEN_CONTINUES",
-          "no token of the mechanism at": "TOKEN_EMPTY", "another token identifier at": "TOKEN_ID"}
+          "no token of the mechanism at": "TOKEN_EMPTY", "another token identifier at": "TOKEN_ID",
+          "a request without a token around it at": "TOKEN_UNFRAMED"}
 
 
 def digits(data):
@@ -48,52 +51,15 @@ def answering(number, negotiated, kind, message):
     inner = bare(number, kind, message)
     if not negotiated:
         return inner
-    state = b"\0" if kind == b"\x02\x00" else b"\2"
-    fields = (0xA0, 0x0A, state), (0xA1, 0x06, NAMES[negotiated]), (0xA2, 0x04, inner)
-    return element(0xA1, element(0x30, b"".join(element(outer, element(tag, content)) for outer, tag,
-                                                content in fields)))
-
-
-def answered(text):
-    """Whether a service's answer is an error, and its message."""
-    if len(text) > gss_rules.LIMIT:
-        raise gss_rules.Fault("TooLong at 0")
-    if text[:1] not in (b"\x60", b"\xa1"):
-        raise gss_rules.Fault("no token of a mechanism")
-    token = gss_rules.Reader(text, 0, len(text))
-    if text[:1] == b"\xa1":
-        oid, token = gss_rules.response_of(token)
-        gss_rules.name_of(oid)
-        if token is None:
-            raise gss_rules.Fault(f"no token of the mechanism at {oid.at}")
-    oid, inner = gss_rules.framed(token)
-    gss_rules.name_of(oid)
-    if inner.left()[:2] not in (b"\2\0", b"\3\0"):
-        raise gss_rules.Fault(f"another token identifier at {inner.at}")
-    return int(inner.left()[0] == 3), inner.left()[2:]
+    return gss_rules.response(NAMES.get(negotiated), inner, 0 if kind == b"\x02\x00" else 2)
 
 
 def opening_answer(codes, token):
-    try:
-        is_error, message = answered(token)
-    except gss_rules.Fault as fault:
-        code, at = coded(codes, str(fault))
+    first, *others, last = gss_rules.answered(token).split(" ")
+    if first == "refused":
+        code, at = coded(codes, " ".join([*others, last]))
         return f"answer {code} {at} 0 {digits(token)} -"
-    return f"answer 0 0 {is_error} {digits(token)} {digits(message)}"
-
-
-def drawn_answer(rng):
-    """A service's answer as some service may send it."""
-    name = rng.choice((KERBEROS, KERBEROS, MICROSOFT, gss_rules.NTLM))
-    message = rng.randbytes(rng.choice((0, 1, 5, 100, 130, 300)))
-    inner = gss_rules.kerberos(name, message, rng.choice((b"\2\0", b"\2\0", b"\3\0", b"\1\0", b"\2")))
-    if rng.random() < 0.3:
-        return inner
-    parts = [(0xA0, 0x0A, rng.choice((b"\0", b"\2", b"\1"))),
-             (0xA1, 0x06, rng.choice((KERBEROS, KERBEROS, MICROSOFT, gss_rules.NTLM, gss_rules.IAKERB,
-             gss_rules.SPNEGO, b"\x2a"))), (0xA2, 0x04, inner), (0xA3, 0x04, b"mic")]
-    kept = [it for it, share in zip(parts, (0.8, 0.95, 0.9, 0.3)) if rng.random() < share]
-    return element(0xA1, element(0x30, b"".join(element(outer, element(tag, content)) for outer, tag, content in kept)))
+    return f"answer 0 0 {int(others[-1] == 'error')} {digits(token)} {last}"
 
 
 def asking(number, negotiated, message):
@@ -104,16 +70,70 @@ def asking(number, negotiated, message):
 def writing(codes):
     """What is wrapped, and opened again."""
     for message in (b"", b"m", bytes(100), bytes(200), bytes(300)):
-        for number in (1, 2):
-            for negotiated in (0, 1, 2):
+        for number in NAMES:
+            for name, kind in (("reply", b"\x02\x00"), ("error", b"\x03\x00")):
+                yield f"{name} 0 {number} {NAMED} {digits(message)} {digits(answering(number, NAMED, kind, message))}"
+            for negotiated in (0, *NAMES):
                 yield f"request 0 {number} {negotiated} {digits(message)} {digits(asking(number, negotiated, message))}"
                 for name, kind in (("reply", b"\x02\x00"), ("error", b"\x03\x00")):
                     token = answering(number, negotiated, kind, message)
                     yield f"{name} 0 {number} {negotiated} {digits(message)} {digits(token)}"
                     yield f"answer 0 0 {int(name == 'error')} {digits(token)} {digits(message)}"
-    for number, negotiated in ((0, 0), (3, 0), (1, 3), (0, 1), (4294967295, 1)):
+    for number, negotiated in ((0, 0), (4, 0), (1, 4), (0, 1), (4294967295, 1), (0, NAMED), (NAMED, NAMED)):
         for name in ("request", "reply", "error"):
             yield f"{name} {codes['BAD_MECHANISM']} {number} {negotiated} 00 -"
+    yield f"request {codes['BAD_MECHANISM']} 1 {NAMED} 00 -"
+
+
+def misplaced(codes):
+    """A later token that comes first, and an answer whose token is a request without one around it."""
+    yield from negotiations(codes, [gss_rules.going_on(bare(1, b"\x01\x00", b"m"))])
+    yield opening_answer(codes, gss_rules.response(KERBEROS, b"\x6e\x00", 0))
+
+
+def verdicts(codes):
+    """Answers without a token, written and read."""
+    for says, state, names in ((1, 0, (0, *NAMES)), (2, 1, NAMES), (3, 2, (0,))):
+        for name in names:
+            token = gss_rules.response(NAMES.get(name), None, state)
+            yield f"said 0 {says} {name} {digits(token)}"
+            yield f"verdict 0 {says} {name} {digits(token)}"
+    for says, name in ((0, 0), (1, 4), (1, NAMED), (2, 0), (2, NAMED), (3, 1), (4, 0), (4294967295, 1)):
+        yield f"said {codes['BAD_VERDICT']} {says} {name} -"
+
+
+def drawn_verdict(codes, rng):
+    text = gss_rules.straight_verdict(rng)
+    text = gss_rules.bent(rng, text) or b"\0" if rng.random() < 0.5 else text
+    word, _, name = gss_rules.verdict(text).partition(" ")
+    if word == "none":
+        return f"verdict {codes['NOTHING_THERE']} 0 0 {digits(text)}"
+    says = ["completed", "incomplete", "rejected"].index(word) + 1
+    return f"verdict 0 {says} {NUMBERS.get(name, 0)} {digits(text)}"
+
+
+def negotiations(codes, tokens):
+    """The lines of a negotiation: each has the numbers before and after, and what its token gives."""
+    side, before = gss_rules.Negotiation(), "0 0"
+    for token in tokens:
+        said = side.take(token)
+        word, *rest = said.split()
+        after = {"ended": "2 0", "asked": f"1 {NUMBERS.get(rest[-1], 0) if rest else 0}"}[side.stage]
+        if word == "refused":
+            fault = said.removeprefix("refused ")
+            code, at = (codes["NEGOTIATION_OVER"], 0) if fault == "the negotiation is over" else coded(codes, fault)
+            yield f"take {code} {at} {before} {after} 0 0 {digits(token)} -"
+        elif word == "asks":
+            answer = gss_rules.response(NAMES[NUMBERS[rest[0]]], None, 1)
+            yield f"take 0 0 {before} {after} 0 {NUMBERS[rest[0]]} {digits(token)} {digits(answer)}"
+        else:
+            *listed, name, request = rest
+            first = NAMED if word == "later" else NUMBERS[listed[1]] if listed[0] == "negotiated" else 0
+            yield f"take 0 0 {before} {after} {NUMBERS[name]} {first} {digits(token)} {request}"
+        before = after
+    yield f"take {codes['BAD_NEGOTIATION']} 0 3 0 3 0 0 0 {digits(tokens[0])} -"
+    yield f"take {codes['BAD_NEGOTIATION']} 0 1 4 1 4 0 0 {digits(tokens[0])} -"
+    yield f"take {codes['BAD_NEGOTIATION']} 0 0 1 0 1 0 0 {digits(tokens[0])} -"
 
 
 def contexts(codes):
@@ -141,9 +161,13 @@ def lines(codes):
         for _ in range(rng.choice((0, 0, 1, 1, 2))):
             token = gss_rules.bent(rng, token) or b"\0"
         yield opening(codes, token)
-        answer = drawn_answer(rng)
+        answer = gss_rules.straight_answer(rng)
         for _ in range(rng.choice((0, 0, 1, 1, 2))):
             answer = gss_rules.bent(rng, answer) or b"\0"
         yield opening_answer(codes, answer)
+        yield from negotiations(codes, gss_rules.conversation(rng))
+        yield drawn_verdict(codes, rng)
+    yield from misplaced(codes)
     yield from writing(codes)
+    yield from verdicts(codes)
     yield from contexts(codes)

@@ -1,4 +1,3 @@
-#!/usr/bin/env python3
 """What a strict reader of the DER subset answers, worked out from the rules alone.
 
 The rules (X.690, sections 8.1, 8.3, 8.6, 8.7 and 10.1; RFC 4120, section 5.2):
@@ -25,6 +24,9 @@ between `[` and `]`.
 """
 import functools
 import re
+
+from support import der
+from support.der import sequence
 
 PROGRAM = "krb_calls_wire"
 # How many bytes a message has at most.
@@ -213,14 +215,8 @@ def answer(shape, data):
 
 
 def element(tag, content, size=None):
-    length = len(content)
-    if size is None:
-        if length < 128:
-            size = bytes([length])
-        else:
-            digits = length.to_bytes((length.bit_length() + 7) // 8, "big")
-            size = bytes([0x80 + len(digits)]) + digits
-    return bytes([tag]) + size + bytes(content)
+    """An element, whose length may be spelled otherwise."""
+    return der.element(tag, bytes(content)) if size is None else bytes([tag]) + size + content
 
 
 def cases():
@@ -282,11 +278,7 @@ def cases():
 
 
 def tagged(number, *parts):
-    return element(0xA0 + number, b"".join(parts))
-
-
-def sequence(*parts):
-    return element(0x30, b"".join(parts))
+    return der.field(number, b"".join(parts))
 
 
 def nested_cases():
@@ -347,10 +339,6 @@ def nested_cases():
         yield "name", alice[:cut]
 
 
-def element_of(kind, content):
-    return element(TAGS[kind], content)
-
-
 # The bytes of contents at the edges of the forms of a length, and the longest that a message has room for.
 SIZES = [0, 1, 127, 128, 255, 256, 65_535, 65_536, 100_000, 500_000, 1_000_000, 1_048_571]
 
@@ -361,9 +349,9 @@ def sizes():
         content = b"\x07" * size
         word = packed(content)
         for kind in ("octets", "string"):
-            whole = packed(element_of(kind, content))
+            whole = packed(element(TAGS[kind], content))
             yield f"{size} bytes of {kind}", [f"der encoded {kind} {word}", f"der read {kind} {whole}"], [whole, word]
-        both = element_of("octets", content) + element_of("string", content)
+        both = element(TAGS["octets"], content) + element(TAGS["string"], content)
         lines = f"der write octets {word} string {word} wrap 30 0 len"
         whole = sequence(both)
         yield f"{size} bytes, call by call", [lines], [f"{len(whole)} {packed(whole)}"]

@@ -58,8 +58,8 @@ def accepted(request, part, shown):
     return " ".join([
         "accepted", name_word(part[3][0], part[2], part[3][1]),
         name_word(request[3][2][0], request[3][1], request[3][2][1]), pair(part[1]),
-        str(part[0]), str(part[5]), or_none(part.get(6)), str(part[7]), elements(part.get(9)), elements(part.get(10)),
-        str(shown[5]), str(shown[4]),
+        str(part[0]), pair(part[4]), str(part[5]), or_none(part.get(6)), str(part[7]), elements(part.get(9)),
+        elements(part.get(10)), str(shown[5]), str(shown[4]),
         pair(shown.get(6)), or_none(shown.get(7)), pair(shown.get(3)), elements(shown.get(8)),
         "mutual" if model.bit(request[2], model.MUTUAL) else "plain",
     ])

@@ -11,7 +11,8 @@ import struct
 
 from support import fixture, reference
 from support.calls import TOP, shown
-from support.reference import Fault, Reader, Short
+from support.der_rules import packed
+from support.reference import NEW, OLD, Fault, Reader, Short, credential_of, data16_of, name_of, record_of
 
 PROGRAM = "krb_calls_files"
 LIMIT = reference.LIMIT
@@ -20,27 +21,6 @@ LIST = 2048
 
 HOLES = (TOP / "examples/mit-holes.keytab").read_bytes()
 KEY = bytes.fromhex("3705d96080c17728a0e800eab6e0d23c")
-
-
-class Spelled:
-    """Bytes, and the word that stands for them."""
-
-    def __init__(self, data=b"", word=None):
-        self.data = data
-        self.word = word or data.hex() or "-"
-
-    def __add__(self, other):
-        other = other if isinstance(other, Spelled) else Spelled(other)
-        if not self.data or not other.data:
-            return self if self.data else other
-        return Spelled(self.data + other.data, f"{self.word}+{other.word}")
-
-    def times(self, count):
-        return Spelled(self.data * count, f"{self.data.hex()}*{count}") if count and self.data else Spelled()
-
-
-def run_of(byte, count):
-    return Spelled(bytes([byte])).times(count)
 
 
 # What the program shows.
@@ -72,13 +52,8 @@ def credential_shown(it):
     return f"{front}:{times}:{lists}:{shown(it['ticket'])}:{shown(it['second_ticket'])}"
 
 
-def is_configuration(it):
-    server = it["server"]
-    return server["realm"] == b"X-CACHECONF:" and server["components"][:1] == [b"krb5_ccache_conf_data"]
-
-
 def kind_shown(it):
-    return f"{'config' if is_configuration(it) else 'ticket'} {credential_shown(it)}"
+    return f"{'config' if reference.is_configuration(it) else 'ticket'} {credential_shown(it)}"
 
 
 def fault_shown(fault):
@@ -278,7 +253,7 @@ class Credentials:
 
     def credential(self):
         server = self.name(self.name())
-        key = self.number(">I", server + (4 if self.found == reference.OLD else 2))
+        key = self.number(">I", server + (4 if self.found == OLD else 2))
         self.number("B", key + 16)
         authdata = self.list(self.list(4))
         ticket = self.number(">I", authdata)
@@ -288,11 +263,11 @@ class Credentials:
     def version(self):
         self.take(2)
         self.found = self.hand.bytes()
-        if self.found not in (reference.OLD, reference.NEW):
+        if self.found not in (OLD, NEW):
             raise Stop(False)
 
     def header(self):
-        if self.found == reference.OLD:
+        if self.found == OLD:
             return []
         self.take(self.number(">H"))
         return reference.header_fields(self.hand.bytes()[2:])
@@ -358,15 +333,15 @@ def conversation(reader, calls, count):
 
 
 def entry_case(name, file, piece, failing=None, calls=("next",)):
-    source = Source(file.data, piece, failing)
+    source = Source(file, piece, failing)
     lines, answers = conversation(Entries(source), calls, 100_000)
-    return PROGRAM, name, [f"entries {source.spelled()} {file.word}", *lines], ["open", *answers]
+    return PROGRAM, name, [f"entries {source.spelled()} {packed(file)}", *lines], ["open", *answers]
 
 
 def credential_case(name, file, piece, failing=None, calls=("next",)):
-    source = Source(file.data, piece, failing)
+    source = Source(file, piece, failing)
     reader = Credentials(source)
-    line, fault = f"credentials {source.spelled()} {file.word}", reader.open()
+    line, fault = f"credentials {source.spelled()} {packed(file)}", reader.open()
     if fault:
         return PROGRAM, name, [line], [f"{fault} {source.back()}"]
     lines, answers = conversation(reader, calls, 100_000)
@@ -381,17 +356,17 @@ def each_call(case, name, file, piece, failing=None):
 
 def file_case(kind, name, file, piece, found, written):
     """What `parse`, `read` and the writing of what was read give."""
-    given = f"given {min(len(file.data), LIMIT + 1)} failures 0"
-    lines = [f"{kind} parse {file.word}", f"{kind} read piece:{piece} {file.word}"]
+    given = f"given {min(len(file), LIMIT + 1)} failures 0"
+    lines = [f"{kind} parse {packed(file)}", f"{kind} read piece:{piece} {packed(file)}"]
     answers = [found, f"{found} {given}"]
     if found.startswith("ok"):
-        lines.append(f"{kind} write {file.word}")
-        answers.append(written(file.data))
+        lines.append(f"{kind} write {packed(file)}")
+        answers.append(written(file))
     return PROGRAM, name, lines, answers
 
 
 def keytab_case(name, file, piece=4_096):
-    return file_case("keytab", name, file, piece, keytab_shown(file.data),
+    return file_case("keytab", name, file, piece, keytab_shown(file),
                      lambda data: f"ok {shown(reference.convert_keytab(data))}")
 
 
@@ -403,91 +378,96 @@ def written_cache(data):
 
 
 def cache_case(name, file, piece=4_096):
-    return file_case("cache", name, file, piece, cache_shown(file.data), written_cache)
+    return file_case("cache", name, file, piece, cache_shown(file), written_cache)
+
+
+# What is drawn of a file: the calls of its reader and of what reads it as a whole.
+
+KEYTABS, CACHES = (entry_case, keytab_case), (credential_case, cache_case)
+
+
+def read_and_parsed(kinds, name, file, pieces, most=4_096):
+    reader, whole = kinds
+    for piece in pieces:
+        yield from each_call(reader, f"{name}, {piece} a read", file, piece)
+    yield whole(f"{name}, as a whole", file, most)
+
+
+def beginnings(kinds, name, file, pieces):
+    for length in range(len(file) + 1):
+        yield from read_and_parsed(kinds, f"{length} bytes of {name}", file[:length], pieces, 50)
+
+
+def with_other_bytes(kinds, name, file, values, piece):
+    for at in range(len(file)):
+        for value in values:
+            changed = file[:at] + bytes([value]) + file[at + 1 :]
+            yield from read_and_parsed(kinds, f"{value} at {at} of {name}", changed, (piece,))
+
+
+def with_failures(kinds, name, file, pieces, most):
+    for piece in pieces:
+        for failing in range(1, most):
+            yield from each_call(kinds[0], f"{name} of whose reads {failing} fails", file, piece, failing)
 
 
 # Keytabs.
 
 
-def data16(text):
-    return struct.pack(">H", len(text)) + text
+def record(components, key, kvno=3, realm=b"EX"):
+    return record_of({"realm": realm, "components": components, "name_type": 1, "timestamp": 1_700_000_000,
+                      "kvno": kvno, "etype": 19, "key": key})
 
 
-def record(realm, count, component, key, kvno=3, etype=19, name_type=1):
-    """A record with one component so many times, and a key."""
-    head = Spelled(struct.pack(">H", count) + struct.pack(">H", len(realm.data))) + realm
-    items = Spelled(data16(component)).times(count)
-    numbers = struct.pack(">iIBhH", name_type, 1_700_000_000, kvno % 256, etype, len(key.data))
-    body = head + items + numbers + key + struct.pack(">I", kvno)
-    return Spelled(struct.pack(">i", len(body.data))) + body
+START = b"\5\2"
+ALICE = record([b"alice"], KEY, 256)
 
 
-ALICE = Spelled(b"\5\2") + record(Spelled(b"EX"), 1, b"alice", Spelled(KEY), 256)
-
-
-def entry_words(realm, components, key, kvno=3, etype=19):
-    return f"1/{realm}/{components} 1700000000 {kvno} {etype} {key}"
+def entry_words(components, key):
+    return f"1/4558/{components} 1700000000 3 19 {key}"
 
 
 def keytabs_of_sizes():
     """Names of 0 to 300 components, and keys of as many bytes; and files of 0 to 300 entries."""
     for count in range(301):
-        file = Spelled(b"\5\2") + record(Spelled(b"EX"), count, b"host", run_of(7, count))
+        file = START + record([b"host"] * count, b"\7" * count)
         yield keytab_case(f"a keytab with a name of {count} components", file)
-        words = entry_words("4558", f"686f7374^{count}" if count else ".", f"07*{count}" if count else "-")
-        name = f"an entry of {count} components is added"
-        yield PROGRAM, name, [f"keytab add 0502 {words}"], [f"ok {shown(file.data)}"]
-    one = record(Spelled(b"EX"), 2, b"host", run_of(7, 2))
-    words = entry_words("4558", "686f7374^2", "0707")
+        words = entry_words(times_of("686f7374", count), f"07*{count}" if count else "-")
+        yield PROGRAM, f"an entry of {count} components is added", [f"keytab add 0502 {words}"], [f"ok {shown(file)}"]
+    one, words, file = record([b"host"] * 2, b"\7\7"), entry_words("686f7374^2", "0707"), START
     for count in range(301):
-        file = Spelled(b"\5\2") + Spelled(one.data).times(count)
-        more = shown(file.data + one.data)
-        yield PROGRAM, f"an entry is added to {count}", [f"keytab add {file.word} {words}"], [f"ok {more}"]
-        if count % 10 == 0:
-            yield keytab_case(f"a keytab of {count} entries", file)
+        lines = [f"keytab add {packed(file)} {words}", f"keytab turned {packed(file)}"]
+        yield PROGRAM, f"an entry is added to {count}", lines, [f"ok {shown(file + one)}", "same"]
+        yield keytab_case(f"a keytab of {count} entries", file)
+        file += record([b"host", b"web%d" % count], b"\7" * 32, count)
 
 
 def other_keytabs():
     """Beginnings of a file of MIT's, and one with each byte another; sources that fail."""
-    for length in range(len(HOLES)):
-        file = Spelled(HOLES[:length])
-        for piece in (1, 7):
-            yield from each_call(entry_case, f"{length} bytes of a keytab, {piece} a read", file, piece)
-        yield keytab_case(f"{length} bytes of a keytab", file, 50)
-    for at in range(len(ALICE.data)):
-        for value in (0, 1, 0x7F, 0x80, 0xFF):
-            file = Spelled(ALICE.data[:at] + bytes([value]) + ALICE.data[at + 1 :])
-            yield from each_call(entry_case, f"{value} at {at} of a keytab", file, 3)
-            yield keytab_case(f"{value} at {at}, as a whole", file)
-    for failing in range(1, 30):
-        yield from each_call(entry_case, f"a keytab of whose reads {failing} fails", Spelled(HOLES), 50, failing)
+    yield from beginnings(KEYTABS, "a keytab", HOLES, (1, 7))
+    yield from with_other_bytes(KEYTABS, "a keytab", START + ALICE, (0, 1, 0x7F, 0x80, 0xFF), 3)
+    yield from with_failures(KEYTABS, "a keytab", HOLES, (50,), 30)
 
 
 # Caches.
 
 
-def data32(text):
-    return Spelled(struct.pack(">I", len(text.data))) + text
+HOST = {"name_type": 1, "realm": b"EX", "components": [b"host"]}
+NONE = {"client": HOST, "server": HOST, "etype": 19, "key": b"", "authtime": 1, "starttime": 2, "endtime": 3,
+        "renew_till": 4, "is_skey": 0, "flags": 5, "addresses": [], "authdata": [], "ticket": b"", "second_ticket": b""}
 
 
-def name32(name_type, realm, count, component):
-    head = Spelled(struct.pack(">iI", name_type, count)) + data32(realm)
-    return head + Spelled(data32(Spelled(component)).data).times(count)
-
-
-def list32(count, kind, text):
-    item = struct.pack(">HI", kind, len(text)) + text
-    return Spelled(struct.pack(">I", count)) + Spelled(item).times(count)
+def host(size, **more):
+    """A name of so many components."""
+    return {**HOST, "components": [b"host"] * size, **more}
 
 
 def sized(size):
-    """The bytes of a credential whose names, lists, key and tickets have so many components, elements and bytes, and
-    its word."""
-    name = name32(1, Spelled(b"EX"), size, b"host")
-    item = list32(size, 2, b"\x7f\0\0\1")
-    numbers = struct.pack(">4IBI", 1, 2, 3, 4, 0, 5)
-    keys = data32(run_of(9, size)) + numbers
-    return name + name + struct.pack(">h", 20) + keys + item + item + data32(run_of(7, size)) + data32(run_of(8, size))
+    """The bytes of a credential whose names, lists, key and tickets have so many components, elements and bytes."""
+    lists = [(2, b"\x7f\0\0\1")] * size
+    texts = {"key": b"\x09" * size, "ticket": b"\7" * size, "second_ticket": b"\x08" * size}
+    names = {"client": host(size), "server": host(size)}
+    return credential_of({**NONE, **names, **texts, "etype": 20, "addresses": lists, "authdata": lists})
 
 
 def times_of(item, size, sign="^"):
@@ -501,26 +481,24 @@ def sized_words(size):
     return name, f"{name}:{name}:20:{key}:1:2:3:4:0:5:{addresses}:{addresses}:{ticket}:{second}"
 
 
-def header16(count, tag, value):
-    item = struct.pack(">HH", tag, len(value)) + value
-    return Spelled(struct.pack(">H", count * len(item))) + Spelled(item).times(count)
+def cache_of(*credentials, fields=(), default=HOST):
+    """The bytes of a cache of these credentials. Of its header's fields each is a tag and a value."""
+    header = b"".join(struct.pack(">H", tag) + data16_of(value) for tag, value in fields)
+    return NEW + data16_of(header) + name_of(default) + b"".join(credentials)
 
 
 def sized_cache(credentials, size):
     """A cache of so many such credentials; its header has as many fields of as many bytes, but 100 at most."""
     fields = min(size, 100)
-    file = Spelled(b"\5\4") + header16(fields, 2, b"\6" * size) + name32(1, Spelled(b"EX"), size, b"host")
+    file = cache_of(*[sized(size)] * credentials, fields=[(2, b"\6" * size)] * fields, default=host(size))
     name, credential = sized_words(size)
     header = times_of(f"2/06*{size}", fields) if size else "."
-    one = sized(size)
-    for _ in range(credentials):
-        file = file + one
     return file, " ".join([header, name, *[credential] * credentials])
 
 
 def made_case(name, file, words):
-    found = cache_shown(file.data)
-    return PROGRAM, name, [f"cache made {words}", f"cache written {words}"], [found, f"ok {shown(file.data)}"]
+    found = cache_shown(file)
+    return PROGRAM, name, [f"cache made {words}", f"cache written {words}"], [found, f"ok {shown(file)}"]
 
 
 def caches_of_sizes():
@@ -575,30 +553,17 @@ def old_caches():
     credentials."""
     files = dict(two_credentials())
     files["the client's cache of 0x0503"] = fixture.old_cache(unreal_ticket())
-    for word, whole in files.items():
-        for length in range(len(whole) + 1):
-            file = Spelled(whole[:length])
-            for piece in (1, 7):
-                yield from each_call(credential_case, f"{length} bytes of {word}, {piece} a read", file, piece)
-            yield cache_case(f"{length} bytes of {word}, as a whole", file, 50)
+    for name, whole in files.items():
+        yield from beginnings(CACHES, name, whole, (1, 7))
     whole = files["two credentials of 0x0503, the first with all fields"]
-    for at in range(len(whole)):
-        for value in (0, 1, 2, 4, 0xFF):
-            file = Spelled(whole[:at] + bytes([value]) + whole[at + 1 :])
-            yield from each_call(credential_case, f"{value} at {at} of a cache of 0x0503", file, 64)
-            yield cache_case(f"{value} at {at} of a cache of 0x0503, as a whole", file)
-    for piece in (7, 50):
-        for failing in range(1, 41):
-            yield from each_call(credential_case, f"a cache of 0x0503 of whose reads {failing} fails", Spelled(whole),
-                                 piece, failing)
+    yield from with_other_bytes(CACHES, "a cache of 0x0503", whole, (0, 1, 2, 4, 0xFF), 64)
+    yield from with_failures(CACHES, "a cache of 0x0503", whole, (7, 50), 41)
     for again in (b"\0\0", b"\0\x12", b"\x13\0", b"\xff\xff"):
-        yield cache_case(f"a second encryption type of {again.hex()}",
-                         Spelled(fixture.old_cache(unreal_ticket(), again)))
+        yield cache_case(f"a second encryption type of {again.hex()}", fixture.old_cache(unreal_ticket(), again))
     for length in (LIMIT, LIMIT + 1):
         size = length - 18
-        file = Spelled(b"\5\3" + struct.pack(">iIII", 1, 1, 0, size)) + run_of(7, size)
-        yield cache_case(f"a cache of 0x0503 of {length} bytes without credentials", file, 65_536)
-        yield credential_case(f"a cache of 0x0503 of {length} bytes without credentials, off a reader", file, 65_536)
+        file = OLD + struct.pack(">iIII", 1, 1, 0, size) + b"\7" * size
+        yield from (case(f"a cache of 0x0503 of {length} bytes without credentials", file, 65_536) for case in CACHES)
 
 
 def drawn_text(draw, most):
@@ -618,11 +583,11 @@ def drawn_list(draw):
 
 def drawn_cache(draw, is_old):
     """The bytes of a cache of either version."""
-    fields = b"".join(struct.pack(">H", 2 + draw.randrange(9)) + data16(drawn_text(draw, 6))
+    fields = b"".join(struct.pack(">H", 2 + draw.randrange(9)) + data16_of(drawn_text(draw, 6))
                       for _ in range(draw.randrange(3)))
     if draw.randrange(2):
         fields += struct.pack(">HH", 1, 8) + draw.randbytes(8)
-    found = b"\5\3" if is_old else b"\5\4" + data16(fields)
+    found = OLD if is_old else NEW + data16_of(fields)
     found += drawn_name(draw)
     for _ in range(draw.randrange(4)):
         found += drawn_name(draw) + drawn_name(draw)
@@ -641,90 +606,59 @@ def drawn_caches():
         if draw.randrange(3) == 0:
             at = draw.randrange(len(data))
             data = data[:at] + draw.randbytes(1) + data[at + 1 :]
-        file, piece = Spelled(data), draw.randrange(1, 70)
-        yield cache_case(f"drawn cache {number}", file, piece)
-        yield credential_case(f"drawn cache {number}, off a reader", file, piece)
+        piece = draw.randrange(1, 70)
+        yield from (case(f"drawn cache {number}", data, piece) for case in CACHES)
 
 
 def other_caches():
     """Beginnings of three caches, one with each byte another or with four, and sources that fail."""
     files = {"ticket": fixture.cache(unreal_ticket()), "configured": fixture.configured_cache(), "full": full_cache()}
-    for word, whole in files.items():
-        for length in range(len(whole) + 1):
-            file = Spelled(whole[:length])
-            yield from each_call(credential_case, f"{length} bytes of the {word} cache", file, 7)
-            yield cache_case(f"{length} bytes of the {word} cache, as a whole", file, 50)
-    for length in range(len(files["ticket"]) + 1):
+    for name, whole in files.items():
+        yield from beginnings(CACHES, f"the {name} cache", whole, (7,))
+    whole = files["ticket"]
+    for length in range(len(whole) + 1):
         for piece in (1, 2, 3):
-            yield credential_case(f"{length} bytes of the ticket cache, {piece} a read",
-                                  Spelled(files["ticket"][:length]), piece)
-    whole = files["full"]
-    for at in range(len(whole)):
-        for value in (0, 1, 2, 0xFF):
-            file = Spelled(whole[:at] + bytes([value]) + whole[at + 1 :])
-            yield from each_call(credential_case, f"{value} at {at} of a cache", file, 64)
-            yield cache_case(f"{value} at {at}, as a whole", file)
-    for piece in (7, 50):
-        for failing in range(1, 41):
-            yield from each_call(credential_case, f"a cache of whose reads {failing} fails", Spelled(files["ticket"]),
-                                 piece, failing)
-    empty = sized_cache(1, 0)[0].data
+            yield credential_case(f"{length} bytes of a ticket's cache, {piece} a read", whole[:length], piece)
+    yield from with_other_bytes(CACHES, "a cache", files["full"], (0, 1, 2, 0xFF), 64)
+    yield from with_failures(CACHES, "a cache", whole, (7, 50), 41)
+    empty = sized_cache(1, 0)[0]
     for at in range(len(empty) - 3):
-        yield cache_case(f"a count of 4294967295 at {at}", Spelled(empty[:at] + b"\xff" * 4 + empty[at + 4 :]))
+        yield cache_case(f"a count of 4294967295 at {at}", empty[:at] + b"\xff" * 4 + empty[at + 4 :])
 
 
 # Sizes at which memory is taken. There is ample memory, so out of memory is a wrong answer to any of them.
 
 
-def credential_of(**parts):
-    """The bytes of a credential whose parts are these or small ones."""
-    name = name32(1, Spelled(b"EX"), 1, b"host")
-    told = {"client": name, "server": name, "key": Spelled(), "addresses": list32(0, 0, b""),
-            "authdata": list32(0, 0, b""),
-            "ticket": Spelled(), "second": Spelled(), **parts}
-    front = told["client"] + told["server"] + struct.pack(">h", 19) + data32(told["key"])
-    front += struct.pack(">4IBI", 1, 2, 3, 4, 0, 5)
-    return front + told["addresses"] + told["authdata"] + data32(told["ticket"]) + data32(told["second"])
-
-
-def cache_of(*credentials, header=None, default=None):
-    file = Spelled(b"\5\4") + (header or Spelled(b"\0\0")) + (default or name32(1, Spelled(b"EX"), 1, b"host"))
-    for it in credentials:
-        file = file + it
-    return file
+LONG = b"\x61" * 60_000
 
 
 def large_caches():
-    long, text = run_of(0x61, 60_000), b"\x61" * 60_000
-    yield "a realm of 60000 bytes", cache_of(credential_of(), default=name32(1, long, 1, b"host"))
-    yield "a component of 60000 bytes", cache_of(credential_of(), default=name32(1, long, 1, text))
-    yield "names of 60000 bytes", cache_of(credential_of(client=name32(1, long, 2, text),
-                                                         server=name32(1, long, 1, text)))
-    for part in ("key", "ticket", "second"):
-        yield f"a {part} of 60000 bytes", cache_of(credential_of(**{part: long}))
+    plain, long = credential_of(NONE), {**HOST, "realm": LONG}
+    yield "a realm of 60000 bytes", cache_of(plain, default=long)
+    yield "a component of 60000 bytes", cache_of(plain, default={**long, "components": [LONG]})
+    names = {"client": {**long, "components": [LONG] * 2}, "server": {**long, "components": [LONG]}}
+    yield "names of 60000 bytes", cache_of(credential_of({**NONE, **names}))
+    for part in ("key", "ticket", "second_ticket"):
+        yield f"a {part} of 60000 bytes", cache_of(credential_of({**NONE, part: LONG}))
     for part in ("addresses", "authdata"):
-        yield f"{part} of 60000 bytes", cache_of(credential_of(**{part: list32(2, 3, text)}))
-        yield f"1000 {part}", cache_of(credential_of(**{part: list32(1_000, 3, b"abcd")}))
-    many = name32(1, Spelled(b"EX"), 1_000, b"host")
-    yield "names of 1000 components", cache_of(credential_of(client=many, server=many), default=many)
-    yield "a header field of 60000 bytes", cache_of(credential_of(), header=header16(1, 2, text))
-    yield "1000 header fields", cache_of(credential_of(), header=header16(1_000, 3, b"abcd"))
-    yield "2000 credentials", cache_of(*(credential_of(ticket=Spelled(struct.pack(">I", it))) for it in range(2_000)))
+        yield f"{part} of 60000 bytes", cache_of(credential_of({**NONE, part: [(3, LONG)] * 2}))
+        yield f"1000 {part}", cache_of(credential_of({**NONE, part: [(3, b"abcd")] * 1_000}))
+    many = host(1_000)
+    yield "names of 1000 components", cache_of(credential_of({**NONE, "client": many, "server": many}), default=many)
+    yield "a header field of 60000 bytes", cache_of(plain, fields=[(2, LONG)])
+    yield "1000 header fields", cache_of(plain, fields=[(3, b"abcd")] * 1_000)
+    yield "2000 credentials", cache_of(*(credential_of({**NONE, "ticket": struct.pack(">I", it)})
+                                         for it in range(2_000)))
 
 
 def long_keytabs():
-    long, text = run_of(0x61, 60_000), b"\x61" * 60_000
-    start = Spelled(b"\5\2")
-    yield "a realm of 60000 bytes", start + record(long, 1, b"host", Spelled(KEY))
-    yield "components of 60000 bytes", start + record(Spelled(b"EX"), 2, text, Spelled(KEY))
-    yield "a key of 60000 bytes", start + record(Spelled(b"EX"), 1, b"host", long)
-    yield "1000 components", start + record(Spelled(b"EX"), 1_000, b"host", Spelled(KEY))
-    entries = start
-    for it in range(2_000):
-        entries = entries + record(Spelled(b"EX"), 2, b"host", Spelled(KEY), it)
-    yield "2000 entries", entries
-    hole = Spelled(struct.pack(">i", -150_000)) + run_of(9, 150_000)
-    yield "a hole of 150000 bytes between two entries", ALICE + hole + Spelled(ALICE.data[2:])
+    yield "a realm of 60000 bytes", START + record([b"host"], KEY, realm=LONG)
+    yield "components of 60000 bytes", START + record([LONG] * 2, KEY)
+    yield "a key of 60000 bytes", START + record([b"host"], LONG)
+    yield "1000 components", START + record([b"host"] * 1_000, KEY)
+    yield "2000 entries", START + b"".join(record([b"host"] * 2, KEY, it) for it in range(2_000))
+    hole = struct.pack(">i", -150_000) + b"\x09" * 150_000
+    yield "a hole of 150000 bytes between two entries", START + ALICE + hole + ALICE
 
 
 def removed(data, index):
@@ -755,67 +689,63 @@ def added(data, one):
 
 def edited_case(name, file, one, words):
     """What `add_in` gives of this entry, and `remove_in` then."""
-    lines = [f"keytab add {file.word} {words}"]
+    lines = [f"keytab add {packed(file)} {words}"]
     try:
-        made = added(file.data, one)
+        made = added(file, one)
     except Fault as fault:
-        return PROGRAM, name, lines, [f"{fault.name} {shown(file.data)}"]
+        return PROGRAM, name, lines, [f"{fault.name} {shown(file)}"]
     return PROGRAM, name, lines, [f"ok {shown(made)}"]
 
 
 def edits_of_large_files():
-    one, words = ALICE.data[2:], f"1/4558/616c696365 1700000000 256 19 {KEY.hex()}"
-    hole = Spelled(struct.pack(">i", -200_000)) + run_of(9, 200_000)
-    yield edited_case("an entry is added into a hole of 200000 bytes", ALICE + hole + Spelled(one), one, words)
-    entries = ALICE + Spelled(one).times(20_000)
-    yield edited_case("an entry is added to a file of 1 MB", entries, one, words)
-    gone = removed(entries.data, 19_999)
+    words = f"1/4558/616c696365 1700000000 256 19 {KEY.hex()}"
+    hole = struct.pack(">i", -200_000) + b"\x09" * 200_000
+    yield edited_case("an entry is added into a hole of 200000 bytes", START + ALICE + hole + ALICE, ALICE, words)
+    entries = START + ALICE * 20_001
+    yield edited_case("an entry is added to a file of 1 MB", entries, ALICE, words)
+    gone = removed(entries, 19_999)
     name = "an entry of a file of 1 MB is removed"
-    yield PROGRAM, name, [f"keytab remove 19999 {entries.word}"], [f"ok {shown(gone)}"]
+    yield PROGRAM, name, [f"keytab remove 19999 {packed(entries)}"], [f"ok {shown(gone)}"]
     for key in (65_209, 65_208):
-        yield edited_case(f"an entry is added to a file of {16_711_958 + key} bytes", full_keytab(key), one, words)
+        yield edited_case(f"an entry is added to a file of {16_711_958 + key} bytes", full_keytab(key), ALICE, words)
 
 
 def full_keytab(key):
     """A keytab of one entry, with 255 components of 65535 bytes and a key of so many, without a version number of 32
     bits. It has 16711958 bytes and those of the key."""
-    item = Spelled(b"\xff\xff") + run_of(0x61, 65_535)
-    file = Spelled(b"\5\2" + struct.pack(">I", 16_711_952 + key) + b"\0\xff\0\0")
-    for _ in range(255):
-        file = file + item
-    return file + struct.pack(">iIBhH", 1, 0, 1, 18, key) + run_of(7, key)
+    name = b"\0\xff\0\0" + data16_of(b"\x61" * 65_535) * 255
+    numbers = struct.pack(">iIBh", 1, 0, 1, 18)
+    return START + struct.pack(">I", 16_711_952 + key) + name + numbers + data16_of(b"\7" * key)
 
 
 def most_of_a_keytab():
     """Keytabs at the limit, and a byte past it; one that is longer where it is written."""
     for key in (65_258, 65_254):
         file = full_keytab(key)
-        entry = reference.keytab(file.data)
+        entry = reference.keytab(file)
         found = f"ok 1 {list_shown([entry_shown(it) for it in entry], ' ')}"
         try:
-            written = f"ok {shown(reference.convert_keytab(file.data))}"
+            written = f"ok {shown(reference.convert_keytab(file))}"
         except Fault as fault:
             written = fault.name
-        lines = [f"keytab parse {file.word}", f"keytab read reader {file.word}", f"keytab write {file.word}"]
-        answers = [found, f"{found} given {len(file.data)} failures 0", written]
-        yield PROGRAM, f"a keytab of {len(file.data)} bytes, written", lines, answers
+        word = packed(file)
+        lines = [f"keytab parse {word}", f"keytab read reader {word}", f"keytab write {word}"]
+        answers = [found, f"{found} given {len(file)} failures 0", written]
+        yield PROGRAM, f"a keytab of {len(file)} bytes, written", lines, answers
     file = full_keytab(65_258)
-    yield entry_case(f"a reader of a keytab of {len(file.data)} bytes", file, 65_536)
-    longer = file + b"\0"
-    yield keytab_case(f"a keytab of {len(longer.data)} bytes", longer)
-    yield entry_case(f"a reader of a keytab of {len(longer.data)} bytes", longer, 65_536)
+    yield entry_case(f"a reader of a keytab of {len(file)} bytes", file, 65_536)
+    yield from (case(f"a keytab of {len(file) + 1} bytes", file + b"\0", 65_536) for case in KEYTABS)
 
 
 def most_of_a_cache():
-    small = len(cache_of(credential_of()).data)
+    small = len(cache_of(credential_of(NONE)))
     for length in (65_535, 65_536, 100_000, LIMIT - small, LIMIT - small + 1):
-        file = cache_of(credential_of(ticket=run_of(7, length)))
+        file = cache_of(credential_of({**NONE, "ticket": b"\7" * length}))
         name, short = "1/4558/686f7374", f"a cache with a ticket of {length} bytes"
         made = f". {name} {name}:{name}:19:-:1:2:3:4:0:5:.:.:07*{length}:-"
-        written = f"ok {shown(file.data)}" if len(file.data) <= LIMIT else "TooLong"
+        written = f"ok {shown(file)}" if len(file) <= LIMIT else "TooLong"
         yield PROGRAM, f"{short} is made", [f"cache written {made}"], [written]
-        yield cache_case(short, file, 65_536)
-        yield credential_case(f"{short}, off a reader", file, 65_536)
+        yield from (case(short, file, 65_536) for case in CACHES)
 
 
 # Of so many items, a file of small ones still has room.
@@ -824,40 +754,37 @@ MOST = 20_000
 
 def many_items():
     """Very many entries and credentials: each is shown as it is alone."""
-    one, start = record(Spelled(b"EX"), 2, b"host", Spelled(KEY)), Spelled(b"\5\2")
-    found = f"ok {MOST} {list_shown([entry_shown(reference.keytab(start.data + one.data)[0])] * MOST, ' ')}"
-    yield file_case("keytab", f"a keytab of {MOST} entries", start + one.times(MOST), 65_536, found,
+    one = record([b"host"] * 2, KEY)
+    found = f"ok {MOST} {list_shown([entry_shown(reference.keytab(START + one)[0])] * MOST, ' ')}"
+    yield file_case("keytab", f"a keytab of {MOST} entries", START + one * MOST, 65_536, found,
                     lambda data: f"ok {shown(data)}")
-    one, start = Spelled(credential_of().data), cache_of()
-    _, default, credentials = reference.cache(start.data + one.data)
+    one = credential_of(NONE)
+    _, default, credentials = reference.cache(cache_of(one))
     found = f"ok {name_shown(default)} none {MOST} {list_shown([kind_shown(credentials[0])] * MOST, ' ')}"
-    yield file_case("cache", f"a cache of {MOST} credentials", start + one.times(MOST), 65_536, found,
+    yield file_case("cache", f"a cache of {MOST} credentials", cache_of(one * MOST), 65_536, found,
                     lambda data: f"ok {shown(data)}")
 
 
 def wide_records():
     """Entries and credentials of 1 MiB, with very many components."""
-    file = Spelled(b"\5\2") + record(Spelled(), 65_535, b"\7" * 14, Spelled())
+    file = START + record([b"\7" * 14] * 65_535, b"", realm=b"")
     yield from each_call(entry_case, "an entry of 65535 components", file, 65_536)
-    items = Spelled(data16(b"\7" * 14)).times(65_535)
-    body = Spelled(b"\xff\xff\0\0") + items + struct.pack(">iIBhB", 1, 0, 1, 19, 0)
-    cut = Spelled(b"\5\2" + struct.pack(">i", len(body.data))) + body
+    body = b"\xff\xff\0\0" + data16_of(b"\7" * 14) * 65_535 + struct.pack(">iIBhB", 1, 0, 1, 19, 0)
+    cut = START + struct.pack(">i", len(body)) + body
     yield from each_call(entry_case, "an entry of 65535 components, cut", cut, 65_536)
-    name, wide = name32(0, Spelled(), 0, b""), name32(1, Spelled(), 262_000, b"")
+    name = {"name_type": 0, "realm": b"", "components": []}
+    zeros = {**dict.fromkeys(("etype", "authtime", "starttime", "endtime", "renew_till", "flags"), 0), "client": name}
     for flag in (1, 2):
-        numbers = struct.pack(">4IBI", 0, 0, 0, 0, flag, 0)
-        item = name + wide + struct.pack(">hI", 0, 0) + numbers + bytes(16)
-        file = Spelled(b"\5\4\0\0") + name + item
+        wide = {**name, "name_type": 1, "components": [b""] * 262_000}
+        file = cache_of(credential_of({**NONE, **zeros, "server": wide, "is_skey": flag}), default=name)
         yield from each_call(credential_case, f"a credential of 262000 components, of flag {flag}", file, 65_536)
 
 
 def sizes():
     for name, file in long_keytabs():
-        yield keytab_case(f"a keytab with {name}", file)
-        yield from each_call(entry_case, f"a keytab with {name}, off a reader", file, 4_096)
+        yield from read_and_parsed(KEYTABS, f"a keytab with {name}", file, (4_096,))
     for name, file in large_caches():
-        yield cache_case(f"a cache with {name}", file)
-        yield from each_call(credential_case, f"a cache with {name}, off a reader", file, 4_096)
+        yield from read_and_parsed(CACHES, f"a cache with {name}", file, (4_096,))
     for part in (edits_of_large_files, most_of_a_keytab, most_of_a_cache, many_items, wide_records, long_words):
         yield from part()
 
@@ -923,22 +850,21 @@ def claims():
 
 def claim_cases():
     for name, data in claims():
-        title, file, is_keytab = f"16 MB are claimed by {name}", Spelled(data), data[1] == 2
-        case, reader = (keytab_case, entry_case) if is_keytab else (cache_case, credential_case)
-        yield case(title, file)
-        yield from each_call(reader, f"{title}, off a reader", file, 100)
+        yield from read_and_parsed(KEYTABS if data[1] == 2 else CACHES, f"16 MB are claimed by {name}", data, (100,))
 
 
 # Names.
 
 
 def names():
+    """Names of 1 to 300 components become texts and names again."""
     for count in range(1, 301):
-        text = reference.principal_text(b"EX", [b"web"] * count)
+        parts = [*(b"c%d" % it for it in range(1, count)), b"last"]
+        text, listed = reference.principal_text(b"EX", parts), ",".join(it.hex() for it in parts)
         told = f"={text}" if len(text) <= 1024 else shown(text.encode())
-        name = name_shown({"name_type": 1, "realm": b"EX", "components": [b"web"] * count})
-        yield PROGRAM, f"a name of {count} components", [f"name text 1/4558/776562^{count}",
-                                                         f"name read 1 ={text}"], [told, name]
+        name = name_shown({"name_type": 1, "realm": b"EX", "components": parts})
+        lines = [f"name text 1/4558/{listed}", f"name read 1 ={text}"]
+        yield PROGRAM, f"a name of {count} components", lines, [told, name]
 
 
 PARTS = (names, keytabs_of_sizes, other_keytabs, caches_of_sizes, other_caches, old_caches, drawn_caches, sizes,

@@ -6,7 +6,7 @@ and usages; messages bent byte by byte.
 """
 import struct
 
-from support import der, fixture, model
+from support import der, fixture, model, reference
 
 LINES = 30
 BASE = 1_700_000_000
@@ -23,20 +23,11 @@ def often(draw, usual, *others):
     return usual if draw.random() < 0.9 else draw.choice(others)
 
 
-def some_bytes(draw, count):
-    return draw.randbytes(count)
-
-
 def some_key(draw):
     """A type and a key, usually one that is usable."""
     etype = draw.choice([19, 20])
-    return often(draw, etype, 17, 18, 39 - etype,
-                 -1), some_bytes(draw, often(draw, model.KEY_LENGTHS[etype], 0, 15, 17, 31, 33))
-
-
-def principal16(name):
-    realm, components = name
-    return struct.pack(">H", len(components)) + b"".join(struct.pack(">H", len(it)) + it for it in (realm, *components))
+    named = often(draw, etype, 17, 18, 39 - etype, -1)
+    return named, draw.randbytes(often(draw, model.KEY_LENGTHS[etype], 0, 15, 17, 31, 33))
 
 
 def keytab(draw):
@@ -45,8 +36,10 @@ def keytab(draw):
     for _ in range(draw.randint(1, 6)):
         etype, key = some_key(draw)
         kvno = draw.choice(KVNOS)
-        name, name_type = principal16(often(draw, NAMES[0], *NAMES)), draw.choice([0, 1, 3])
-        entry = name + struct.pack(">iIBhH", name_type, BASE, kvno % 256, etype, len(key)) + key
+        (realm, components), name_type = often(draw, NAMES[0], *NAMES), draw.choice([0, 1, 3])
+        one = {"realm": realm, "components": components, "name_type": name_type, "timestamp": BASE, "kvno": kvno,
+               "etype": etype, "key": key}
+        entry = reference.record_of(one)[4:-4]
         entry += draw.choice([b"", struct.pack(">I", kvno), struct.pack(">I", 0), struct.pack(">I", kvno) + b"rest"])
         made += struct.pack(">i", len(entry)) + entry
         if draw.random() < 0.2:
@@ -87,7 +80,8 @@ def ticket_part(draw, client, session):
     authtime = often(draw, BASE - 100, some_time(draw, BASE))
     times = authtime, often(draw, BASE + 36_000, BASE - 299, BASE - 300, BASE - 301)
     lists = {"addresses": addresses, "data": authorization(draw)}
-    return der.enc_ticket_part(flags, der.key(etype, key), client[0], name, *times, start=start, renew=renew, **lists)
+    return der.enc_ticket_part(flags, der.key(etype, key), client[0], name, *times, transited=der.key(2, client[0]),
+                               start=start, renew=renew, **lists)
 
 
 def authenticator(draw, client, seconds, micros):
@@ -106,7 +100,7 @@ def ticket(draw, seals, entries, client, session):
     usable = usable or [{**entry, "etype": 19, "key": bytes(16)}]
     entry = often(draw, draw.choice(usable), *usable)
     etype, key = entry["etype"], often(draw, entry["key"], bytes(len(entry["key"])))
-    cipher = seals.seal(etype, key, often(draw, 2, 11), some_bytes(draw, 16),
+    cipher = seals.seal(etype, key, often(draw, 2, 11), draw.randbytes(16),
                         bent(draw, ticket_part(draw, client, session)))
     kvno = often(draw, entry["kvno"], None, *KVNOS)
     realm, components = often(draw, (entry["realm"], entry["components"]), *NAMES)
@@ -121,7 +115,7 @@ def request(draw, seals, entries, now):
     sealed_as, under = (etype, key) if model.is_usable(etype, key) else (19, bytes(16))
     shown = authenticator(draw, often(draw, client, *CLIENTS), some_time(draw, now // 1_000_000),
                           draw.choice([now % 1_000_000, 0, 999_999]))
-    cipher = seals.seal(sealed_as, under, often(draw, 11, 2, 12), some_bytes(draw, 16), bent(draw, shown))
+    cipher = seals.seal(sealed_as, under, often(draw, 11, 2, 12), draw.randbytes(16), bent(draw, shown))
     options = often(draw, draw.choice([0, 0x20000000, 0x1FFFFFFF, 0xBFFFFFFF]), 0x40000000, 0xFFFFFFFF)
     part = der.encrypted(often(draw, sealed_as, 18, 39 - sealed_as), cipher, draw.choice([None, None, 9]))
     return bent(draw, der.request(options, made, part))
@@ -144,7 +138,7 @@ def conversation(draw):
         now = 1_000_000 * (BASE + draw.choice([0, 0, 1, 2, 300, -300])) + draw.choice([0, 5, 999_999])
         data = draw.choice(sent) if sent and draw.random() < 0.2 else request(draw, seals, service.entries, now)
         sent.append(data)
-        confounder = some_bytes(draw, 16) if draw.random() < 0.5 else None
+        confounder = draw.randbytes(16) if draw.random() < 0.5 else None
         lines.append(line_of(draw, data, now, confounder))
         answers.append(model.answered(service, data, now, confounder, named))
     words = ["accept", "f", "--skew", str(skew), *(["--service", "host/web@EX"] if named else [])]
@@ -152,22 +146,19 @@ def conversation(draw):
     return file, words, lines, answers
 
 
-def principal32(name_type, name):
-    return fixture.principal(name_type, name[0], *name[1])
-
-
 def cache(draw):
     """A cache whose tickets are for few services, so that many are for the one that is asked for."""
     default = draw.choice(CLIENTS[:3])
-    made = b"\x05\x04\0\0" + principal32(1, default)
+    made = b"\x05\x04\0\0" + fixture.principal(1, default[0], *default[1])
     for _ in range(draw.randint(0, 5)):
         etype, key = some_key(draw)
         server = draw.choice([NAMED, NAMED, NAMED, NAMES[1], (b"X-CACHECONF:", (b"krb5_ccache_conf_data", b"it"))])
         client = often(draw, default, *CLIENTS[:3])
-        part = der.encrypted(often(draw, 19, 18), some_bytes(draw, draw.randint(0, 200)), draw.choice([None, 1]))
+        part = der.encrypted(often(draw, 19, 18), draw.randbytes(draw.randint(0, 200)), draw.choice([None, 1]))
         body = der.ticket(b"EX", fixture.WEB, part)
         times = (BASE - 5, 0, draw.choice([BASE, BASE + 1, BASE - 1, BASE + 9]), 0)
-        names = principal32(draw.choice([0, 1, -128]), client), principal32(draw.choice([0, 3]), server)
+        names = [fixture.principal(draw.choice(kinds), name[0], *name[1])
+                 for kinds, name in (([0, 1, -128], client), ([0, 3], server))]
         made += fixture.credential(*names, etype, key, times, bent(draw, often(draw, body, b"", b"yes", body[:-1])))
     return made
 
@@ -175,7 +166,7 @@ def cache(draw):
 def asked(draw):
     """A cache, the command's words, and the answer of a second client: standard output, standard error and status."""
     seals, file = model.Seals(), cache(draw)
-    micros, confounder, is_mutual = draw.choice([0, 1, 999_999]), some_bytes(draw, 16), draw.random() < 0.5
+    micros, confounder, is_mutual = draw.choice([0, 1, 999_999]), draw.randbytes(16), draw.random() < 0.5
     words = ["request", "f", "host/web@EX", "--time", str(BASE), "--usec", str(micros), "--confounder",
              confounder.hex(), *(["--mutual"] if is_mutual else [])]
     name = {"realm": NAMED[0], "components": list(NAMED[1])}

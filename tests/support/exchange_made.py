@@ -14,6 +14,8 @@ NAME=VALUE:
     {reply ..}                       of what differs from the fixture's reply: the fields of Replied
     {error CODE}                     the fixture's error with this code
     {cut LENGTH WHAT ..}             the first bytes of this
+    {CARRIER WHAT ..}                this in what it goes in (CARRIERS)
+    {asking}, {asked}, {completed}, {completed-later}, {rejected}    what a negotiation says without a message
     {turned PLACE:BITS WHAT ..}      this with these bits of a byte turned
 
 KEY and VALUE of bytes are hexadecimal digits, or `service` and `session` for the fixture's keys, or HEX*N for HEX N
@@ -23,7 +25,7 @@ import functools
 import struct
 from dataclasses import dataclass, fields, replace
 
-from support import der, der_rules, fixture, model
+from support import der, der_rules, fixture, gss_rules, model
 from support.sealing import sealed
 
 sealed = functools.lru_cache(maxsize=None)(sealed)
@@ -87,6 +89,8 @@ class Made(Sent):
     full: int = 0
     # The realm of the client's cache, where it isn't the ticket's.
     realm: bytes = None
+    # The channel bindings that a client of GSS-API sends.
+    bindings: bytes = None
 
 
 @dataclass(frozen=True)
@@ -152,6 +156,8 @@ def listed(elements):
 
 # What a full request and a full reply carry: a key of a type that we don't know, and the checksum.
 OTHER_KEY, CHECKSUM = "18/0707070707", (32_771, b"\xd0" * 4)
+# The realms that a ticket passed through, of a full request and of another one (RFC 4120, section 5.3).
+TRANSITED, NO_REALMS = (-2, b"\xc0" * 3), (1, b"")
 HIGHEST = 2**32 - 1
 
 
@@ -173,6 +179,10 @@ def lists_of(made):
     return None, *(None if kind is None else [(kind, b"")] for kind in (made.ticket_data, made.data))
 
 
+def transited_of(made):
+    return TRANSITED if made.full else NO_REALMS
+
+
 def ticket_part(made):
     made = filled(made)
     realm, components = parts_of(made.ticket_client)
@@ -180,7 +190,7 @@ def ticket_part(made):
     return der.enc_ticket_part(
         made.flags, der.key(made.session_etype, stretched(fixture.SESSION_KEY, made.session_len)), realm,
         der.name(1, *components), AUTHTIME, ENDTIME,
-        transited=der.key(1, b"\xc0" * 3 if made.full else b""), start=made.starttime,
+        transited=der.key(*transited_of(made)), start=made.starttime,
         renew=1_700_100_000 if made.full else None,
         addresses=listed(addresses), data=listed(data))
 
@@ -189,9 +199,12 @@ def authenticator(made):
     made = filled(made)
     realm, components = parts_of(made.client)
     subkey = chosen_key(made.subkey)
+    checksum = CHECKSUM if made.full else None
+    if made.bindings is not None:
+        checksum = 0x8003, struct.pack("<I16sI", 16, made.bindings, 0)
     return der.authenticator(
         realm, der.name(made.client_type, *components), made.micros, made.seconds,
-        checksum=der.key(*CHECKSUM) if made.full else None,
+        checksum=checksum and der.key(*checksum),
         subkey=subkey and der.key(*subkey), number=made.number, data=listed(lists_of(made)[2]))
 
 
@@ -230,7 +243,8 @@ def accepted(made):
     is_mutual = made.options >> 31 - model.MUTUAL & 1
     return " ".join([
         "accepted", name_word(1, *parts_of(made.ticket_client)), name_word(3, *parts_of(made.service)),
-        f"{made.session_etype}/{session_key(made.session_etype).hex()}", str(made.flags), str(AUTHTIME),
+        f"{made.session_etype}/{session_key(made.session_etype).hex()}", str(made.flags),
+        items_word([transited_of(made)]), str(AUTHTIME),
         or_none(made.starttime),
         str(ENDTIME), items_word(addresses), items_word(ticket_data), str(made.seconds), str(made.micros),
         or_none(made.subkey), or_none(made.number),
@@ -269,14 +283,8 @@ def reply(replied):
 
 
 def keytab(keys):
-    """The keytab of host/web@EX with these keys: version number, type and bytes."""
-    name = struct.pack(">H", 2) + b"".join(struct.pack(">H", len(it)) + it for it in (b"EX", b"host", b"web"))
-    file = b"\x05\x02"
-    for kvno, etype, key in keys:
-        key = stretched(key, LENGTHS[etype])
-        entry = name + struct.pack(">iIBhH", 3, AUTHTIME, kvno, etype, len(key)) + key + struct.pack(">I", kvno)
-        file += struct.pack(">i", len(entry)) + entry
-    return file
+    """The keytab of host/web@EX with these keys, each as long as its type asks for."""
+    return fixture.keytab([(kvno, etype, stretched(key, LENGTHS[etype])) for kvno, etype, key in keys])
 
 
 BOTH = [(3, 19, fixture.SERVICE_KEY), (3, 20, fixture.SERVICE_KEY)]
@@ -335,9 +343,31 @@ def cache_of(made):
                                                          (AUTHTIME, 0, ENDTIME, 0), ticket(made))
 
 
+def token(message, token_id=b"\x01\0"):
+    """A token of Kerberos."""
+    return gss_rules.kerberos(gss_rules.KERBEROS, message, token_id)
+
+
+# What a message stands in, by the word before it.
+CARRIERS = {
+    "framed": token,
+    "framed-reply": lambda it: token(it, b"\x02\0"),
+    "framed-error": lambda it: token(it, b"\x03\0"),
+    "proposed": lambda it: gss_rules.negotiation([gss_rules.KERBEROS], token(it)),
+    "foreign": lambda it: gss_rules.negotiation([gss_rules.NTLM, gss_rules.KERBEROS], token(it)),
+    "going-on": lambda it: gss_rules.going_on(token(it)),
+    "accepted-with": lambda it: gss_rules.response(gss_rules.KERBEROS, token(it, b"\x02\0"), 0),
+    "rejected-with": lambda it: gss_rules.response(gss_rules.KERBEROS, token(it, b"\x03\0"), 2),
+    "accepted-later-with": lambda it: gss_rules.response(None, token(it, b"\x02\0"), 0),
+    "rejected-later-with": lambda it: gss_rules.response(None, token(it, b"\x03\0"), 2),
+}
+
+
 def made_of(words):
     """The bytes that a text in braces says, without the braces."""
     what, *words = words
+    if what in CARRIERS:
+        return CARRIERS[what](made_of(words))
     if what == "cut":
         return made_of(words[1:])[: int(words[0])]
     if what == "turned":
@@ -354,6 +384,11 @@ def made_of(words):
         "reply": lambda it: reply(of_words(Replied, it)),
         "error": lambda it: fixture.error(int(it[0])),
         "stamp": lambda it: stamp(of_words(Made, it)),
+        "asking": lambda _: gss_rules.negotiation([gss_rules.KERBEROS], None),
+        "asked": lambda _: gss_rules.response(gss_rules.KERBEROS, None, 1),
+        "completed": lambda _: gss_rules.response(gss_rules.KERBEROS, None, 0),
+        "completed-later": lambda _: gss_rules.response(None, None, 0),
+        "rejected": lambda _: gss_rules.response(None, None, 2),
     }[what](words)
 
 

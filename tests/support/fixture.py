@@ -5,7 +5,7 @@ DER is written by der.py, and sealing is that of sealing.py.
 """
 import struct
 
-from support import der
+from support import der, reference
 from support.sealing import sealed
 
 SERVICE_KEY = bytes.fromhex("3705d96080c17728a0e800eab6e0d23c")
@@ -37,11 +37,11 @@ def credential(client, server, etype, key, times, ticket_bytes, second_etype=b""
             + struct.pack(">BI", 0, 0) + struct.pack(">II", 0, 0) + data(ticket_bytes) + data(b""))
 
 
-def keytab():
-    name_of_service = struct.pack(">H", 2) + b"".join(struct.pack(">H", len(it)) + it
-                                                      for it in (b"EX", b"host", b"web"))
-    entry = name_of_service + struct.pack(">iIBhH", 3, 1_700_000_000, 3, 19, 16) + SERVICE_KEY + struct.pack(">I", 3)
-    return b"\x05\x02" + struct.pack(">i", len(entry)) + entry
+def keytab(keys=((3, 19, SERVICE_KEY),)):
+    """The keytab of host/web@EX with these keys: version number, type and bytes."""
+    names = {"realm": b"EX", "components": [b"host", b"web"], "name_type": 3, "timestamp": AUTHTIME}
+    entries = ({**names, "kvno": kvno, "etype": etype, "key": key} for kvno, etype, key in keys)
+    return b"\x05\x02" + b"".join(map(reference.record_of, entries))
 
 
 def cache(of=None):

@@ -22,14 +22,15 @@ def keytabs():
 
 
 def removing(name, data, index):
-    words = ["remove-key", "f", "out", str(index)]
-    case = {"name": f"remove-key: {name}, entry {index}", "args": words, "files": {"f": data, "out": b"old"}}
+    words = ["remove-key", "f", str(index), "--out", "out"]
+    files = {"f": data, "out": b"old"}
+    case = {"name": f"remove-key: {name}, entry {index}", "args": words, "files": files}
     try:
         count = len(reference.keytab(data))
     except reference.Fault as fault:
-        return {**case, "stderr": f"krbtool: f: {fault}\n", "status": 1, "after": {"f": data, "out": b""}}
+        return {**case, "stderr": f"krbtool: f: {fault}\n", "status": 1, "after": files}
     if index >= count:
-        return {**case, "stderr": "krbtool: remove-key: NoSuchEntry\n", "status": 1, "after": {"f": data, "out": b""}}
+        return {**case, "stderr": "krbtool: remove-key: NoSuchEntry\n", "status": 1, "after": files}
     made = drawn_files.removed(data, index)
     return {**case, "stdout": f"wrote {len(made)}\n", "after": {"f": data, "out": made}}
 
@@ -68,17 +69,17 @@ def extended(data, others):
 
 
 def adding(name, data, others):
-    files = {"f": data, "g": others}
-    case = {"name": f"add-keys: {name}", "args": ["add-keys", "f", "g", "out"], "files": {**files, "out": b"old"}}
-    for file in files:
+    files = {"f": data, "g": others, "out": b"old"}
+    case = {"name": f"add-keys: {name}", "args": ["add-keys", "f", "g", "--out", "out"], "files": files}
+    for file in ("f", "g"):
         try:
             reference.keytab(files[file])
         except reference.Fault as fault:
-            return {**case, "stderr": f"krbtool: {file}: {fault}\n", "status": 1, "after": {**files, "out": b""}}
+            return {**case, "stderr": f"krbtool: {file}: {fault}\n", "status": 1, "after": files}
     try:
         made = extended(data, others)
     except reference.Fault as fault:
-        return {**case, "stderr": f"krbtool: f: {fault}\n", "status": 1, "after": {**files, "out": b""}}
+        return {**case, "stderr": f"krbtool: f: {fault}\n", "status": 1, "after": files}
     return {**case, "stdout": f"wrote {len(made)}\n", "after": {**files, "out": made}}
 
 

@@ -118,7 +118,7 @@ def many_keys():
     data, keys = (KEYTAB + b"".join(it) for it in (records[:60_000], records[30_000:]))
     made = KEYTAB + b"".join(records)
     yield {"name": "add-keys: 60,000 keys, half of them there already, to 60,000",
-           "args": ["add-keys", "f", "g", "out"],
+           "args": ["add-keys", "f", "g", "--out", "out"],
            "files": {"f": data, "g": keys}, "stdout": f"wrote {len(made)}\n",
            "after": {"f": data, "g": keys, "out": made}}
 
@@ -130,7 +130,7 @@ def many_versions():
     data, keys = (KEYTAB + b"".join(it) for it in (records[:60_000], records[30_000:]))
     made = KEYTAB + b"".join(records)
     yield {"name": "add-keys: 60,000 keys of one name, half of them there already, to 60,000",
-           "args": ["add-keys", "f", "g", "out"],
+           "args": ["add-keys", "f", "g", "--out", "out"],
            "files": {"f": data, "g": keys}, "stdout": f"wrote {len(made)}\n",
            "after": {"f": data, "g": keys, "out": made}}
 
@@ -145,7 +145,7 @@ def many_holes():
     data = KEYTAB + short * 20_000 + long * 10_000
     made = KEYTAB + b"".join([*records[0::2], *records[1:20_000:2], *records[20_001::2]])
     yield {"name": "add-keys: 40,000 keys to 30,000 holes, of which 20,000 are too short for half of them",
-           "args": ["add-keys", "f", "g", "out"],
+           "args": ["add-keys", "f", "g", "--out", "out"],
            "files": {"f": data, "g": KEYTAB + b"".join(records)}, "stdout": f"wrote {len(made)}\n",
            "after": {"f": data, "g": KEYTAB + b"".join(records), "out": made}}
 

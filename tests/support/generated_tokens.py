@@ -21,7 +21,8 @@ CONFOUNDER = bytes(range(0x30, 0x40))
 
 # What the program calls faults that the model names otherwise.
 FAULTS = {"no token of a mechanism": "NotToken at 0", "the token continues a negotiation": "Response at 0"}
-PLACED = {"no token of the mechanism": "NoToken", "another token identifier": "TokenId"}
+PLACED = {"no token of the mechanism": "NoToken", "another token identifier": "TokenId",
+          "a request without a token around it": "Unframed"}
 MECHANISMS = {"Unknown": "OtherMechanism"}
 
 

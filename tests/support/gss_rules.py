@@ -1,20 +1,24 @@
 """Tokens of GSS-API (RFC 2743, section 3.1; RFC 4121, section 4.1; RFC 4178, section 4.2), and which fault a token has.
 
-The model knows DER by itself. It draws tokens as clients send them and bends them in structure; `drawn` gives the
+It draws tokens as clients send them and bends them in structure; `drawn` gives the
 cases. It also writes requests and answers in their wrapping, and checksums of authenticators (RFC 4121, section 4.1.1).
 """
 import hashlib
 import random
 
+from support import der_rules
+from support.der import element
+
 PROGRAM = "krb_calls_wire"
 KERBEROS = bytes.fromhex("2a864886f712010202")
 MICROSOFT = bytes.fromhex("2a864882f712010202")
+DRAFT = bytes.fromhex("2b05010502")
 SPNEGO = bytes.fromhex("2b0601050502")
 NTLM = bytes.fromhex("2b06010401823702020a")
 IAKERB = bytes.fromhex("2b0601050205")
-NAMES = {KERBEROS: "Kerberos", MICROSOFT: "Microsoft"}
+NAMES = {KERBEROS: "Kerberos", MICROSOFT: "Microsoft", DRAFT: "Draft"}
 OTHERS = {SPNEGO: "Negotiation", NTLM: "Ntlm", IAKERB: "IaKerb"}
-LIMIT = 1_048_576
+LIMIT = der_rules.LIMIT
 CASES = 6_000
 
 
@@ -22,28 +26,21 @@ class Fault(Exception):
     pass
 
 
-def length(count):
-    if count < 128:
-        return bytes([count])
-    digits = count.to_bytes((count.bit_length() + 7) // 8, "big")
-    return bytes([0x80 + len(digits)]) + digits
-
-
-def element(tag, content):
-    return bytes([tag]) + length(len(content)) + content
-
-
 def kerberos(name, message, token_id=b"\x01\x00"):
     return element(0x60, element(0x06, name) + token_id + message)
 
 
-def negotiation(names, token, flags=None, mic=None):
+def fields_of(*parts, more=b""):
+    """A SEQUENCE of fields: each is its tag, the tag inside and the content, or None. `more` are the fields after
+    them."""
+    return element(0x30, *(element(outer, element(inner, it)) for outer, inner, it in parts if it is not None), more)
+
+
+def negotiation(names, token, flags=None, mic=None, more=b""):
     """A token of SPNEGO; the parts are contents, or None."""
-    fields = element(0xA0, element(0x30, b"".join(element(0x06, it) for it in names)))
-    for outer, inner, content in ((0xA1, 0x03, flags), (0xA2, 0x04, token), (0xA3, 0x04, mic)):
-        if content is not None:
-            fields += element(outer, element(inner, content))
-    return element(0x60, element(0x06, SPNEGO) + element(0xA0, element(0x30, fields)))
+    listed = b"".join(element(0x06, it) for it in names)
+    fields = fields_of((0xA0, 0x30, listed), (0xA1, 0x03, flags), (0xA2, 0x04, token), (0xA3, 0x04, mic), more=more)
+    return element(0x60, element(0x06, SPNEGO) + element(0xA0, fields))
 
 
 class Reader:
@@ -57,28 +54,11 @@ class Reader:
 
     def enter(self, tag):
         """The content of the next element, which has this tag."""
-        text, at, end = self.text, self.at, self.end
-        if at == end:
-            raise Fault(f"Truncated at {end}")
-        if text[at] != tag:
-            raise Fault(f"Tag at {at}")
-        if at + 1 == end:
-            raise Fault(f"Truncated at {end}")
-        first, start = text[at + 1], at + 2
-        size = first
-        if first >= 0x80:
-            count = first - 0x80
-            if not 1 <= count <= 4:
-                raise Fault(f"Length at {at + 1}")
-            if start + count > end:
-                raise Fault(f"Truncated at {end}")
-            size, start = int.from_bytes(text[start : start + count], "big"), start + count
-            if length(size) != text[at + 1 : start]:
-                raise Fault(f"Length at {at + 1}")
-        if start + size > end:
-            raise Fault(f"Truncated at {end}")
-        self.at = start + size
-        return Reader(text, start, start + size)
+        try:
+            start, self.at = der_rules.head(self.text, self.at, self.end, tag)
+        except der_rules.Refused as fault:
+            raise Fault(str(fault)) from None
+        return Reader(self.text, start, self.at)
 
     def last(self, tag):
         inside = self.enter(tag)
@@ -88,6 +68,14 @@ class Reader:
     def finish(self):
         if self.at != self.end:
             raise Fault(f"Trailing at {self.at}")
+
+    def unknown(self):
+        """Passes over fields that aren't known, to the end."""
+        while self.left():
+            tag = self.left()[0]
+            if 0xA0 <= tag <= 0xA3 or tag % 32 == 31:
+                raise Fault(f"Trailing at {self.at}")
+            self.enter(tag)
 
     def optional(self, outer, inner):
         if self.left()[:1] == bytes([outer]):
@@ -114,6 +102,21 @@ def message_of(oid, inner):
     return name, inner.left()[2:]
 
 
+def held(token):
+    """The name and the identifier of a token that a negotiation holds."""
+    if token.left()[:1] == b"\x6e":
+        raise Fault(f"a request without a token around it at {token.at}")
+    return framed(token)
+
+
+def token_of(fields):
+    """The mechToken or responseToken; what is after it is passed over."""
+    token = fields.optional(0xA2, 0x04)
+    fields.optional(0xA3, 0x04)
+    fields.unknown()
+    return token
+
+
 def init_of(part):
     fields = part.last(0xA0).last(0x30)
     names = fields.enter(0xA0).last(0x30)
@@ -121,10 +124,7 @@ def init_of(part):
     while names.left():
         names.enter(0x06)
     fields.optional(0xA1, 0x03)
-    token = fields.optional(0xA2, 0x04)
-    fields.optional(0xA3, 0x04)
-    fields.finish()
-    return first, token
+    return first, token_of(fields)
 
 
 def opened(text):
@@ -133,6 +133,8 @@ def opened(text):
         raise Fault("TooLong at 0")
     if text[:1] == b"\xa1":
         raise Fault("the token continues a negotiation")
+    if text[:1] == b"\x6e":
+        raise Fault("a request without a token around it at 0")
     if text[:1] != b"\x60":
         raise Fault("no token of a mechanism")
     oid, inner = framed(Reader(text, 0, len(text)))
@@ -143,7 +145,7 @@ def opened(text):
     listed = name_of(first)
     if token is None:
         raise Fault(f"no token of the mechanism at {first.at}")
-    name, request = message_of(*framed(token))
+    name, request = message_of(*held(token))
     return f"negotiated {listed} {name}", request
 
 
@@ -151,10 +153,81 @@ def response_of(part):
     fields = part.last(0xA1).last(0x30)
     fields.optional(0xA0, 0x0A)
     oid = fields.enter(0xA1).last(0x06)
-    token = fields.optional(0xA2, 0x04)
-    fields.optional(0xA3, 0x04)
-    fields.finish()
-    return oid, token
+    return oid, token_of(fields)
+
+
+class Negotiation:
+    """The service's side: what it says of each token of the client."""
+
+    def __init__(self):
+        self.stage = "begun"
+
+    def take(self, text):
+        stage, self.stage = self.stage, "ended"
+        try:
+            if stage == "ended":
+                raise Fault("the negotiation is over")
+            if stage == "asked":
+                name, request = later(text)
+                return f"later {name} {request.hex() or '-'}"
+            if first := asking(text):
+                self.stage = "asked"
+                return f"asks {first}"
+            front, request = opened(text)
+            return f"first {front} {request.hex() or '-'}"
+        except Fault as fault:
+            return f"refused {fault}"
+
+
+def asking(text):
+    """The name by which a negotiation without a token names Kerberos first."""
+    try:
+        oid, inner = framed(Reader(text, 0, len(text)))
+        if oid.left() != SPNEGO or len(text) > LIMIT:
+            return None
+        first, token = init_of(inner)
+        return None if token else NAMES.get(first.left())
+    except Fault:
+        return None
+
+
+def later(text):
+    """The name and the request of a client's later token."""
+    if len(text) > LIMIT:
+        raise Fault("TooLong at 0")
+    fields = Reader(text, 0, len(text)).last(0xA1).last(0x30)
+    begin = fields.at
+    fields.optional(0xA0, 0x0A)
+    token = token_of(fields)
+    if token is None:
+        raise Fault(f"no token of the mechanism at {begin}")
+    return message_of(*held(token))
+
+
+SAID = {b"\0": "completed", b"\1": "incomplete", b"\2": "rejected"}
+
+
+def verdict(text):
+    """What a service says without a token."""
+    try:
+        fields = Reader(text, 0, len(text)).last(0xA1).last(0x30)
+        state = fields.enter(0xA0).last(0x0A)
+        oid = fields.optional(0xA1, 0x06)
+        if token_of(fields) is not None or len(text) > LIMIT:
+            return "none"
+    except Fault:
+        return "none"
+    word, name = SAID.get(state.left(), "none"), oid and NAMES.get(oid.left())
+    if word == "rejected":
+        return word
+    if (oid and not name) or (word == "incomplete" and not oid):
+        return "none"
+    return word if word == "none" or not name else f"{word} {name}"
+
+
+def going_on(token, state=None, mic=None, more=b""):
+    """A client's later token."""
+    return element(0xA1, fields_of((0xA0, 0x0A, state), (0xA2, 0x04, token), (0xA3, 0x04, mic), more=more))
 
 
 def reply_of(oid, inner):
@@ -178,9 +251,15 @@ def answered(text):
         listed = name_of(oid)
         if token is None:
             raise Fault(f"no token of the mechanism at {oid.at}")
-        return f"negotiated {listed} {reply_of(*framed(token))}"
+        return f"negotiated {listed} {reply_of(*held(token))}"
     except Fault as fault:
         return f"refused {fault}"
+
+
+def unknown_fields(rng):
+    """Fields after the known ones: mostly none, else whole elements, or what isn't one."""
+    whole = element(0xA4, b"\x30\x00") + element(0xA5, b""), element(0x04, b"hint"), element(0xBE, bytes(200))
+    return rng.choice((b"",) * 20 + whole + (element(0xA1, b""), element(0x1F, b""), b"\xa4\x05", b"\xa4\x80\0\0"))
 
 
 def straight_answer(rng):
@@ -190,15 +269,11 @@ def straight_answer(rng):
     inner = kerberos(rng.choice((KERBEROS, KERBEROS, MICROSOFT, NTLM, SPNEGO)), message, token_id)
     if rng.random() < 0.3:
         return inner
-    oid = rng.choice((KERBEROS, KERBEROS, MICROSOFT, MICROSOFT, NTLM, IAKERB))
-    fields = b""
-    for outer, tag, content in ((0xA0, 0x0A, rng.choice((b"\0", b"\1", b"\2", None, b"", b"\0\0"))),
-                                (0xA1, 0x06, rng.choice((oid,) * 9 + (None,))),
-                                (0xA2, 0x04, rng.choice((inner,) * 9 + (None,))),
-                                (0xA3, 0x04, rng.choice((None, None, b"mic")))):
-        if content is not None:
-            fields += element(outer, element(tag, content))
-    return element(0xA1, element(0x30, fields))
+    oid = rng.choice((KERBEROS,) * 6 + (MICROSOFT,) * 4 + (NTLM, IAKERB, SPNEGO, b"\x2a"))
+    parts = ((0xA0, 0x0A, rng.choice((b"\0", b"\1", b"\2", None, b"", b"\0\0"))),
+             (0xA1, 0x06, rng.choice((oid,) * 9 + (None,))), (0xA2, 0x04, rng.choice((inner,) * 9 + (None,))),
+             (0xA3, 0x04, rng.choice((None, None, b"mic"))))
+    return element(0xA1, fields_of(*parts, more=unknown_fields(rng)))
 
 
 def answer(text):
@@ -212,16 +287,44 @@ def answer(text):
 def straight(rng):
     """A token as some client may send it."""
     message = b"\x6e" + rng.randbytes(rng.choice((0, 1, 5, 100, 120, 130, 250, 300)))
-    inner = kerberos(rng.choice((KERBEROS, KERBEROS, MICROSOFT, NTLM, SPNEGO)), message,
+    inner = kerberos(rng.choice((KERBEROS, KERBEROS, MICROSOFT, DRAFT, NTLM, SPNEGO)), message,
                      rng.choice((b"\x01\x00",) * 5 + (b"\x02\x00", b"\x01\x01", b"\x01", b"")))
+    if rng.random() < 0.03:
+        return message
     if rng.random() < 0.3:
         return inner
-    names = [rng.choice((KERBEROS, MICROSOFT, KERBEROS, NTLM, IAKERB, SPNEGO, rng.randbytes(4), b""))]
+    names = [rng.choice((KERBEROS, MICROSOFT, KERBEROS, DRAFT, NTLM, IAKERB, SPNEGO, rng.randbytes(4), b""))]
     names += [rng.choice((KERBEROS, MICROSOFT, NTLM)) for _ in range(rng.choice((0, 1, 3)))]
     flags = rng.choice((None, None, b"\x01\x02", b"\x00" * 5))
     mic = rng.choice((None, None, b"", b"mic"))
-    return negotiation(names[: rng.choice((0, 1, 9, 9, 9, 9))], rng.choice((inner, inner, inner, None, b"NTLMSSP\0")),
-                       flags, mic)
+    token = rng.choice((inner,) * 6 + (None, None, b"NTLMSSP\0", message))
+    return negotiation(names[: rng.choice((0, 1, 9, 9, 9, 9))], token, flags, mic, unknown_fields(rng))
+
+
+def straight_later(rng):
+    """A later token as some client may send it."""
+    message = b"\x6e" + rng.randbytes(rng.choice((0, 1, 120, 300)))
+    token_id = rng.choice((b"\x01\x00",) * 5 + (b"\x02\x00",))
+    inner = kerberos(rng.choice((KERBEROS, MICROSOFT, DRAFT, NTLM)), message, token_id)
+    token = rng.choice((inner,) * 6 + (None, message))
+    return going_on(token, rng.choice((None, None, b"\1", b"")), rng.choice((None, None, b"mic")), unknown_fields(rng))
+
+
+def conversation(rng):
+    """The tokens of a client in a negotiation."""
+    first = [rng.choice((KERBEROS, MICROSOFT, DRAFT, NTLM))]
+    tokens = [straight(rng) if rng.random() < 0.4 else negotiation(first, None, more=unknown_fields(rng))]
+    tokens += [straight_later(rng) for _ in range(rng.choice((0, 1, 1, 2)))]
+    return [bent(rng, it) or b"\0" if rng.random() < 0.1 else it for it in tokens]
+
+
+def straight_verdict(rng):
+    name = rng.choice((None, KERBEROS, MICROSOFT, DRAFT, NTLM))
+    state = rng.choice((b"\0", b"\1", b"\2", b"\3", b"", b"\0\0"))
+    parts = ((0xA0, 0x0A, state if rng.random() < 0.9 else None), (0xA1, 0x06, name),
+             (0xA2, 0x04, kerberos(KERBEROS, b"m") if rng.random() < 0.1 else None),
+             (0xA3, 0x04, b"mic" if rng.random() < 0.1 else None))
+    return element(0xA1, fields_of(*parts, more=unknown_fields(rng)))
 
 
 def bent(rng, text):
@@ -256,15 +359,13 @@ def large():
 
 
 def response(name, token, state):
-    """A NegTokenResp of negState, supportedMech and responseToken."""
-    parts = (0xA0, 0x0A, bytes([state])), (0xA1, 0x06, name), (0xA2, 0x04, token)
-    fields = b"".join(element(outer, element(tag, content)) for outer, tag, content in parts)
-    return element(0xA1, element(0x30, fields))
+    """A NegTokenResp of negState, supportedMech and responseToken: the last two are contents, or None."""
+    return element(0xA1, fields_of((0xA0, 0x0A, bytes([state])), (0xA1, 0x06, name), (0xA2, 0x04, token)))
 
 
 def wrapped(rng):
     """A request or an answer that is wrapped: the line and what is answered."""
-    place, name = rng.choice((None, KERBEROS, MICROSOFT)), rng.choice((KERBEROS, MICROSOFT))
+    place, name = rng.choice((None, KERBEROS, MICROSOFT, DRAFT)), rng.choice((KERBEROS, MICROSOFT, DRAFT))
     message = rng.randbytes(rng.choice((0, 1, 2, 90, 97, 113, 127, 128, 250, 300)))
     kind, token_id, state = rng.choice((("request", 1, None), ("answer", 2, 0), ("answer", 3, 2)))
     token = kerberos(name, message, bytes([token_id, 0]))
@@ -280,6 +381,8 @@ def too_long():
     """The longest messages that fit, and one byte more."""
     for words, around in (("request bare Kerberos", lambda it: kerberos(KERBEROS, it)),
                           ("request Kerberos Microsoft", lambda it: negotiation([KERBEROS], kerberos(MICROSOFT, it))),
+                          ("request Draft Draft", lambda it: negotiation([DRAFT], kerberos(DRAFT, it))),
+                          ("later Draft reply", lambda it: response(None, kerberos(DRAFT, it, b"\x02\x00"), 0)),
                           ("answer bare Kerberos reply", lambda it: kerberos(KERBEROS, it, b"\x02\x00")),
                           ("answer Microsoft Kerberos error",
                            lambda it: response(MICROSOFT, kerberos(KERBEROS, it, b"\x03\x00"), 2))):
@@ -342,6 +445,19 @@ def checksums(rng):
     yield f"bindings {text.hex()} {wanted.hex()}", read if read.startswith("refused") else same
 
 
+def said():
+    """Each answer without a token, and to a later token; and what they are read as."""
+    for state, word in enumerate(SAID.values()):
+        for name in (None, *NAMES) if word == "completed" else NAMES if word == "incomplete" else (None,):
+            words = f"{word} {NAMES[name]}" if name else word
+            token = response(name, None, state)
+            yield words, [f"said {words}", f"verdict {token.hex()}"], [token.hex(), words]
+    for name, shown in NAMES.items():
+        for kind, token_id, state in ("reply", b"\x02\x00", 0), ("error", b"\x03\x00", 2):
+            token = response(None, kerberos(name, b"message", token_id), state)
+            yield f"later {shown} {kind}", [f"later {shown} {kind} {b'message'.hex()}"], [token.hex()]
+
+
 def drawn():
     """The cases: program, name, lines and answers."""
     for name, lines, answers in drawn_calls():
@@ -366,7 +482,15 @@ def drawn_calls():
         line, token = wrapped(rng)
         call, back = ("open", answer(token)) if line.startswith("request") else ("answered", answered(token))
         yield f"wrapped {number}", [line, f"{call} {token.hex()}"], [token.hex(), back]
+        tokens = conversation(rng)
+        side = Negotiation()
+        answers = " ".join(map(side.take, tokens))
+        yield f"negotiation {number}", [f"take {' '.join(it.hex() for it in tokens)}"], [answers]
+        text = straight_verdict(rng)
+        text = bent(rng, text) or b"\0" if rng.random() < 0.3 else text
+        yield f"verdict {number}", [f"verdict {text.hex()}"], [verdict(text)]
         both = list(checksums(rng))
         yield f"checksum {number}", [line for line, _ in both], [it for _, it in both]
+    yield from said()
     for name, line, answer_is in too_long():
         yield name, [line], [answer_is]

@@ -4,9 +4,10 @@ A case is a table [[case]] of a TOML file:
 
     name    what it shows
     args    the words after the program's name: a text, or { hex = "ff" } for bytes that are no text
-    files   files that lie where it runs, of mode 640: hex digits, or "@PATH" of a file of the repository
     folders empty folders that lie where it runs
-    links   links that lie there: the name of each, and what it points to
+    files   files that lie there, of mode 640: hex digits, or "@PATH" of a file of the repository
+    set     other modes of files, in octal digits
+    links   links that lie there, and must stay: the name of each, and what it points to
     umask   in octal digits (022 where left out)
     stdin   what it reads (text), or "@PATH"
     output  "full": standard output is /dev/full
@@ -19,6 +20,7 @@ A case is a table [[case]] of a TOML file:
     after   files that must lie there afterwards, as hex digits or "@PATH"
     modes   their modes, in octal digits
     gone    names that must not lie there afterwards
+    left    all names that must lie there afterwards
 """
 import os
 import stat
@@ -31,8 +33,8 @@ from pathlib import Path
 
 from support import TESTS, TOP
 
-WORDS = """name args files folders links umask stdin output closed descriptors status stdout stdout_begins stdout_holds
-    stderr stderr_begins after modes gone"""
+WORDS = """name args folders files set links umask stdin output closed descriptors status stdout stdout_begins
+    stdout_holds stderr stderr_begins after modes gone left"""
 KEYS = set(WORDS.split())
 
 
@@ -62,7 +64,8 @@ def unlike(case, stream, wrote):
         return f"{stream} {wrote[:800]!r} doesn't hold {held}"
     if begins is not None:
         return None if wrote.startswith(begins.encode()) else f"{stream} {wrote[:400]!r} doesn't begin {begins!r}"
-    return None if wrote == wanted.encode() else f"{stream} {wrote[:400]!r}, not {wanted[:400]!r}"
+    wanted = wanted if isinstance(wanted, bytes) else wanted.encode()
+    return None if wrote == wanted else f"{stream} {wrote[:400]!r}, not {wanted[:400]!r}"
 
 
 def difference(case, ran, room):
@@ -84,16 +87,22 @@ def difference(case, ran, room):
         found = stat.S_IMODE((room / name).stat().st_mode)
         if found != int(wanted, 8):
             return f"the mode of {name} is {found:o}, not {wanted}"
+    for name, target in case.get("links", {}).items():
+        if not (room / name).is_symlink() or os.readlink(room / name) != target:
+            return f"{name} is no link to {target}"
+    found = sorted(it.name for it in room.iterdir())
+    if found != sorted(case.get("left", found)):
+        return f"there are {found}"
     there = [name for name in case.get("gone", []) if os.path.lexists(room / name)]
     return f"there is a file {there[0]}" if there else None
 
 
 def laid_out(case, room):
-    for name, text in case.get("files", {}).items():
-        (room / name).write_bytes(content(text))
-        (room / name).chmod(0o640)
     for name in case.get("folders", []):
         (room / name).mkdir()
+    for name, text in case.get("files", {}).items():
+        (room / name).write_bytes(content(text))
+        (room / name).chmod(int(case.get("set", {}).get(name, "640"), 8))
     for name, target in case.get("links", {}).items():
         (room / name).symlink_to(target)
 

@@ -206,7 +206,7 @@ def chosen(cache, service, seconds):
     """The credential that a request is made of; or Refused."""
     _, default, credentials = cache
     found = [it for it in credentials if same(it["client"], default) and same(it["server"], service)
-             and not is_configuration(it)]
+             and not reference.is_configuration(it)]
     if not found:
         raise Refused("NoCredential")
     found = [it for it in found if is_usable(it["etype"], it["key"])]
@@ -222,11 +222,6 @@ def chosen(cache, service, seconds):
 
 def same(one, other):
     return (one["realm"], one["components"]) == (other["realm"], other["components"])
-
-
-def is_configuration(credential):
-    server = credential["server"]
-    return server["realm"] == b"X-CACHECONF:" and server["components"][:1] == [b"krb5_ccache_conf_data"]
 
 
 def request(seals, cache, service, seconds, micros, confounder, is_mutual, subkey=None, number=None):

@@ -1,4 +1,3 @@
-#!/usr/bin/env python3
 """What a strict reader of Kerberos messages answers, and what a writer writes.
 
 The messages are those of tests/support/msg_values.py, and der_rules reads them, by the rules at its head. The shapes
@@ -91,17 +90,6 @@ KRB_ERROR = application(
     PRINCIPAL_NAME, may("string"), may("octets"),
 )
 
-# What each message of msg_values is, by its name's last words: the first of these names that it ends in.
-SHAPES = {
-    "ENC_TICKET": ENC_TICKET_PART,
-    "ENC_AP_REP": ENC_AP_REP_PART,
-    "TICKET": TICKET,
-    "AUTHENTICATOR": AUTHENTICATOR,
-    "AP_REQ": AP_REQ,
-    "AP_REP": AP_REP,
-    "KRB_ERROR": KRB_ERROR,
-}
-
 # The types by the names that the program gives them.
 TYPES = {
     "ticket": TICKET,
@@ -118,8 +106,8 @@ SHORTEST = ["SHORT_TICKET", "ENC_TICKET", "SHORT_AP_REQ", "AUTHENTICATOR", "SHOR
 
 
 def type_of(word):
-    shape = next(shape for end, shape in SHAPES.items() if word.endswith(end))
-    return next(kind for kind, it in TYPES.items() if it is shape)
+    """The type of one of the messages of msg_values: the longest of their names in which its own ends."""
+    return max((it for it in TYPES if word.replace("_", "-").lower().endswith(it)), key=len)
 
 
 def parse(kind, data):

@@ -2,7 +2,7 @@
 import os
 import subprocess
 import tempfile
-from dataclasses import dataclass
+from dataclasses import dataclass, field
 from pathlib import Path
 
 import pytest
@@ -36,14 +36,26 @@ class Command:
     status: int = 0
     other: bytes | None = None
 
+    @property
+    def is_replacing(self):
+        """Whether OUT is replaced by a new file, so that it always holds what it held or all that it is to hold."""
+        return "--out" in self.words or "--replace" in self.words
+
+    def is_begun(self, out):
+        """Whether OUT may hold this if the command fails."""
+        if self.is_replacing:
+            return out in (OLD, self.out)
+        return self.out.startswith(out)
+
 
 @dataclass
 class Found:
-    """Status, standard output, standard error, and OUT."""
+    """Status, standard output, standard error, OUT, and the names of files that weren't there before."""
     status: int
     wrote: bytes
     said: str
     out: bytes
+    left: list = field(default_factory=list)
 
     def is_well(self, command):
         return self == Found(command.status, command.wrote, "", command.out)
@@ -55,7 +67,9 @@ def file_commands():
         file = keytab if "keytab" in word else cache
         if word.startswith("convert"):
             made = command(file)
-            yield Command([word, "f", "out"], file, b"", f"wrote {len(made)}\n".encode(), made)
+            wrote = f"wrote {len(made)}\n".encode()
+            yield Command([word, "f", "out"], file, b"", wrote, made)
+            yield Command([word, "f", "out", "--replace"], file, b"", wrote, made)
         else:
             yield Command([*word.split(), "f"], file, b"", command(file).encode(), OLD)
     yield requested()
@@ -90,14 +104,14 @@ def picked():
 
 def removed(keytab):
     made = drawn_files.removed(keytab, 2)
-    return Command("remove-key f out 2".split(), keytab, b"", f"wrote {len(made)}\n".encode(), made)
+    return Command("remove-key f 2 --out out".split(), keytab, b"", f"wrote {len(made)}\n".encode(), made)
 
 
 def added(keytab):
     """Two keys are added to a keytab with a hole: one fits, the other comes last."""
     others = (EXAMPLES / "service.keytab").read_bytes() + reference.record_of(LONG)
     made = generated_edits.extended(keytab, others)
-    return Command("add-keys f g out".split(), keytab, b"", f"wrote {len(made)}\n".encode(), made, other=others)
+    return Command("add-keys f g --out out".split(), keytab, b"", f"wrote {len(made)}\n".encode(), made, other=others)
 
 
 def called(lines, *more):
@@ -136,7 +150,9 @@ def run(program, command, preloaded=None, first=1, lasting=False, **more):
         with open(room / "stdin", "rb") as stdin:
             done = subprocess.run([program, *command.words], cwd=room, env={**os.environ, **more}, stdin=stdin,
                                   capture_output=True, timeout=SECONDS)
-        found = Found(done.returncode, done.stdout, done.stderr.decode(errors="replace"), (room / "out").read_bytes())
+        left = sorted({it.name for it in room.iterdir()} - {"f", "g", "out", "stdin", "met"})
+        said, out = done.stderr.decode(errors="replace"), (room / "out").read_bytes()
+        found = Found(done.returncode, done.stdout, said, out, left)
         return found, (room / "met").exists()
 
 
@@ -178,7 +194,7 @@ def calls_with_tokens(program):
 def parameters(*more):
     """The commands that read files, and those of a name and a function that makes one of the program: parameters `make`
     of a test."""
-    of_files = [pytest.param(lambda _, it=it: it, id=slug(" ".join(it.words[:3]))) for it in file_commands()]
+    of_files = [pytest.param(lambda _, it=it: it, id=slug(" ".join(it.words[:4]))) for it in file_commands()]
     return pytest.mark.parametrize("make", [*of_files, *(pytest.param(make, id=name) for name, make in more)])
 
 

@@ -1,13 +1,15 @@
 """A second reading of what `list-keytab --readable` and `list-ccache --readable` print, written from their rules alone.
 
 `keytab_table` and `cache_table` give the text for what tests/support/reference.py read of a file. Nothing here is taken
-from the program's sources. `check` compares its own answers with what other sources say: dates and enctype names that
-are known, and the tables of files of MIT krb5 and Heimdal in examples/.
+from the program's sources. `check` compares its answers with the stored cases of tests/program/readable.toml.
 """
 import datetime
+import re
 import struct
+import tomllib
 
-from support import EXAMPLES, reference
+from support import TESTS, reference
+from support.krbtool import content
 
 # IANA's registry "Kerberos Encryption Type Numbers".
 ENCTYPES = {
@@ -89,14 +91,9 @@ def keytab_table(entries):
     return table(rows)
 
 
-def is_configuration(item):
-    server = item["server"]
-    return server["realm"] == b"X-CACHECONF:" and server["components"][:1] == [b"krb5_ccache_conf_data"]
-
-
 def credential_row(item, now):
     names = (reference.name_text(item["client"]), reference.name_text(item["server"]))
-    if is_configuration(item):
+    if reference.is_configuration(item):
         return ("config", *"------", *names)
     kind = "expired" if now is not None and item["endtime"] < now else "ticket"
     times = (time_cell(item[word]) for word in ("authtime", "starttime", "endtime", "renew_till"))
@@ -117,58 +114,20 @@ def cache_table(cache, now=None):
 # ---------------------------------------------------------------- what other sources say
 
 
-def read(name):
-    return (EXAMPLES / name).read_bytes()
-
-
-# Seconds, and what `date -u -d @SECONDS` of GNU coreutils says.
-DATES = (
-    (0, "1970-01-01T00:00:00Z"),
-    (68_255_999, "1972-02-29T23:59:59Z"),
-    (946_684_799, "1999-12-31T23:59:59Z"),
-    (951_782_400, "2000-02-29T00:00:00Z"),
-    (1_700_000_000, "2023-11-14T22:13:20Z"),
-    (2_147_483_648, "2038-01-19T03:14:08Z"),
-    (4_107_542_400, "2100-03-01T00:00:00Z"),
-    (4_294_967_295, "2106-02-07T06:28:15Z"),
-)
-
-HOLES = """\
-KVNO  ENCTYPE                     TIMESTAMP             PRINCIPAL
-2     aes256-cts-hmac-sha384-192  2026-11-22T06:56:07Z  host/web.peer.test@PEER.TEST
-2     aes128-cts-hmac-sha256-128  2026-11-22T06:56:07Z  host/web.peer.test@PEER.TEST
-4     aes256-cts-hmac-sha384-192  2026-11-22T06:56:07Z  host/web.peer.test@PEER.TEST
-4     aes128-cts-hmac-sha256-128  2026-11-22T06:56:07Z  host/web.peer.test@PEER.TEST
-"""
-
-# The ticket of client.ccache is good to 2023-11-15T08:13:20Z, which is 1,700,036,000.
-CLIENT = """\
-default alice@EX
-KIND{0}  ENCTYPE                     AUTHTIME              STARTTIME  ENDTIME               RENEW-TILL  FLAGS  CLIENT    SERVER
-{1}  aes128-cts-hmac-sha256-128  2023-11-14T22:13:20Z  -          2023-11-15T08:13:20Z  -           -      alice@EX  host/web@EX
-"""
-
-HEIMDAL = """\
-default alice@HEIM.TEST
-KIND    ENCTYPE                     AUTHTIME              STARTTIME             ENDTIME               RENEW-TILL  FLAGS  CLIENT           SERVER
-ticket  aes256-cts-hmac-sha384-192  2026-11-22T06:56:12Z  2026-11-22T06:56:12Z  2036-11-19T06:56:12Z  -           FIA    alice@HEIM.TEST  krbtgt/HEIM.TEST@HEIM.TEST
-config  -                           -                     -                     -                     -           -      alice@HEIM.TEST  krb5_ccache_conf_data/start_realm@X-CACHECONF:
-config  -                           -                     -                     -                     -           -      alice@HEIM.TEST  krb5_ccache_conf_data/fast_avail/krbtgt\\/HEIM.TEST\\@HEIM.TEST@X-CACHECONF:
-ticket  aes256-cts-hmac-sha384-192  2026-11-22T06:56:12Z  2026-11-22T06:56:12Z  2036-11-19T06:56:12Z  -           FAT    alice@HEIM.TEST  host/web.heim.test@HEIM.TEST
-"""
+def told(case):
+    """What a stored case's table is by this reading, or None if the case isn't about one."""
+    word, *words = case["args"]
+    if "--readable" not in words or "--" in words or "stdout" not in case or len(case.get("files", {})) != 1:
+        return None
+    (data,), now = map(content, case["files"].values()), re.search(r"--now[= ](\d+)", " ".join(words))
+    if word == "list-keytab":
+        return keytab_table(reference.keytab(data))
+    return cache_table(reference.cache(data), now and int(now[1]))
 
 
 def check():
-    for seconds, text in DATES:
-        assert date(seconds) == text, (seconds, date(seconds))
-    assert flags(0xFFFFFFFF) == "FfPpDdiRIHATOa" and flags(0x00010000) == "-"
-    assert (enctype(-133), enctype(18), enctype(4)) == ("-133", "aes256-cts-hmac-sha1-96", "4")
-    assert keytab_table([]) == "KVNO  ENCTYPE  TIMESTAMP  PRINCIPAL\n"
-    assert keytab_table(reference.keytab(read("mit-holes.keytab"))) == HOLES
-    client = reference.cache(read("client.ccache"))
-    ticket, expired = CLIENT.format("  ", "ticket"), CLIENT.format("   ", "expired")
-    for now, text in ((None, ticket), (1_700_035_999, ticket), (1_700_036_000, ticket), (1_700_036_001, expired)):
-        assert cache_table(client, now) == text, (now, cache_table(client, now))
-    assert cache_table(reference.cache(read("client-0503.ccache"))) == ticket
-    assert cache_table(reference.cache(read("heimdal.ccache")), 1_795_570_309) == HEIMDAL
-    assert cache_table(reference.cache(read("mit-tickets.ccache"))).split("\n")[1] == "offset 0 0"
+    """The stored cases have dates that `date -u` says, and names and letters that klist says."""
+    with open(TESTS / "program/readable.toml", "rb") as file:
+        found = [(it["name"], told(it), it.get("stdout")) for it in tomllib.load(file)["case"]]
+    compared = [(name, one == other) for name, one, other in found if one]
+    assert all(is_same for _, is_same in compared) and len(compared) >= 13, compared

@@ -211,9 +211,15 @@ def name_text(name):
     return principal_text(name["realm"], name["components"])
 
 
+def is_configuration(item):
+    """Whether a credential is none, but keeps something about others."""
+    server = item["server"]
+    return server["realm"] == b"X-CACHECONF:" and server["components"][:1] == [b"krb5_ccache_conf_data"]
+
+
 def credential_line(item):
     server = item["server"]
-    if server["realm"] == b"X-CACHECONF:" and server["components"][:1] == [b"krb5_ccache_conf_data"]:
+    if is_configuration(item):
         return f"config {name_text(server)}\n"
     times = " ".join(str(item[word]) for word in ("authtime", "starttime", "endtime", "renew_till"))
     return f"ticket {item['etype']} {times} {item['flags']:08x} {name_text(item['client'])} {name_text(server)}\n"

@@ -3,13 +3,14 @@
     python3 -m tools.generate           writes them (`make generate`)
     python3 -m tools.generate --check   writes none, and ends with 1 after the first line that differs
 
-crates/krb_c/interface.toml is the table of the library for C, crates/krb_msg/messages.toml that of the messages. Debian's python3-jinja2
-must be installed.
+crates/krb_c/interface.toml is the table of the library for C, crates/krb_ap/causes.toml that of causes for refusing a request,
+crates/krb_msg/messages.toml that of the messages, crates/krb_gss/messages.toml that of the messages of tokens, and
+crates/krb_command_line/commands.toml that of krbtool's commands. Debian's python3-jinja2 must be installed.
 """
 import itertools
 import sys
 
-from . import ROOT, interface, messages
+from . import ROOT, causes, commands, interface, message_calls, messages, tokens
 
 
 def difference(path, wanted):
@@ -25,7 +26,8 @@ def difference(path, wanted):
 def main(words):
     if words not in ([], ["--check"]):
         sys.exit(__doc__)
-    texts = interface.files() | messages.files()
+    made = interface.environment()
+    texts = interface.files() | causes.files(made) | messages.files() | message_calls.files() | tokens.files() | commands.files()
     for path in messages.left_over(texts):
         if words:
             sys.exit(f"{path} isn't made of messages.toml any more")

@@ -6,7 +6,7 @@ from dataclasses import dataclass, field
 
 import jinja2
 
-from . import ROOT, layout, manual
+from . import ROOT, causes, layout, manual
 
 TABLE = "crates/krb_c/interface.toml"
 # The files, and the templates that they are made by.
@@ -14,6 +14,7 @@ TEMPLATES = {
     "include/fevstunik.h": "fevstunik.h",
     "crates/krb_c/src/code.rt": "code.rt",
     "crates/krb_c/src/cause.rt": "cause.rt",
+    "crates/krb_c/src/handles.rt": "handles.rt",
     "crates/krb_c/src/structs.rt": "structs.rt",
     "crates/krb_c/src/version.rt": "version.rt",
     "crates/krb_c/specs/Codes.antt": "Codes.antt",
@@ -22,8 +23,11 @@ TEMPLATES = {
     "tests/c/structs.h": "structs.h",
     "debian/libfevstunik0.symbols": "libfevstunik0.symbols",
     "packaging/fevstunik.map": "fevstunik.map",
+    "packaging/wiping/calls.c": "calls.c",
     "docs/man/fevstunik.3": "fevstunik.3",
 }
+# What is made of each handle: the proofs that nothing is lost between it and its place.
+HANDLE_PROOFS = "crates/krb_c/proofs/handles"
 # Numbers: their types in Rattle, and in C.
 NUMBERS = {"u8": "uint8_t", "u32": "uint32_t", "i16": "int16_t", "i32": "int32_t", "i64": "int64_t", "usize": "size_t", "bool": "bool"}
 # The names of codes in a text, also abbreviated ones.
@@ -56,11 +60,12 @@ class Code:
 
 @dataclass(frozen=True)
 class Group:
-    """Codes, with what is said above them. Causes are numbered by krb_ap."""
+    """Codes, with what is said above them. The causes and the breaches have a table of their own."""
 
-    codes: list
+    codes: list = field(default_factory=list)
     doc: str = ""
     causes: bool = False
+    breaches: bool = False
 
     @property
     def shown(self):
@@ -100,7 +105,7 @@ class Field:
 
 @dataclass(frozen=True)
 class Type:
-    """A struct with its fields, or an enum with its numbers."""
+    """A struct with its fields, or an enum with its numbers. A struct that is sized begins with its size, and may be shorter."""
 
     kind: str
     name: str
@@ -108,11 +113,47 @@ class Type:
     fields: list = field(default_factory=list)
     numbers: list = field(default_factory=list)
     compared: str = ""
+    sized: bool = False
 
     @property
     def rattle(self):
         """Its name in Rattle, and in Python."""
         return camel(self.name)
+
+
+@dataclass(frozen=True)
+class Handle:
+    """A handle: its names in C and in Rattle, what it holds, and what that is in contracts; and the handle that is its first member, if any."""
+
+    name: str
+    doc: str
+    of: str
+    rattle: str
+    holds: str
+    model: str
+    uses: str
+    row: str
+    contains: str = ""
+
+    @property
+    def members(self):
+        """Its members in C."""
+        return [*([f"fevstunik_{self.contains} {self.contains};"] if self.contains else []), "void *opaque;"]
+
+    @property
+    def init(self):
+        """The value that initializes it as empty."""
+        return "{{NULL}, NULL}" if self.contains else "{NULL}"
+
+    @property
+    def python(self):
+        """Its type in the package."""
+        return camel(self.name) + "Handle" if self.contains else "Opaque"
+
+    @property
+    def held(self):
+        """The name of the type that it holds."""
+        return self.holds.split("::")[-1]
 
 
 @dataclass(frozen=True)
@@ -128,6 +169,8 @@ class Function:
     codes: list = field(default_factory=list)
     python: str = ""
     since: str = "0.1.0"
+    sized: tuple = ()
+    nested: tuple = ()
 
     @property
     def parts(self):
@@ -146,13 +189,42 @@ class Function:
         return "\n\n".join(it for it in (self.doc.strip("\n"), self.returns.strip("\n"), indented(self.example)) if it)
 
     def prototype(self):
-        return layout.prototype(self.c_result, f"fevstunik_{self.name}", self.parameters())
+        return self.prototype_as(f"fevstunik_{self.name}")
+
+    def prototype_as(self, name):
+        return layout.prototype(self.c_result, name, self.parameters())
+
+    def calls_proved(self):
+        """A line of C that calls the proved function with the same parameters, and keeps what it returns."""
+        kept = "" if self.result == "nothing" else f"{self.c_result} {self.kept} = "
+        whole = {f"{name}": f"&whole_{name}" for name, _ in self.copied}
+        names = [re.search(r"\w+$", it)[0] for it in self.parameters()]
+        return layout.listed(f"    {kept}proved_{self.name}(", [whole.get(it, it) for it in names])
+
+    @property
+    def copied(self):
+        """The arguments that the proved function gets as whole structs, whatever their size, and these structs."""
+        return [(name, kind.removeprefix("in ")) for name, kind in self.parts if kind.removeprefix("in ") in self.sized]
+
+    @property
+    def kept(self):
+        """The variable for what it returns."""
+        return "number" if self.result in NUMBERS else self.result
 
     def python_types(self):
-        return [python_argument(kind) for _, kind in self.parts]
+        return [f"POINTER({camel(kind.split()[-1])}Handle)" if kind.split()[-1] in self.nested else python_argument(kind) for _, kind in self.parts]
 
     def python_result(self):
         return "None" if self.result == "nothing" else ctypes_name(self.result) if self.result in NUMBERS else camel(self.result)
+
+
+def codes_of(group):
+    """The codes of a group's table, or those of the causes or the breaches."""
+    rows = causes.causes() if group.get("causes") else causes.breaches() if group.get("breaches") else None
+    if rows is None:
+        return [Code(**code) for code in group["codes"]]
+    kerberos = causes.kerberos_codes()
+    return [Code(it.c_name, it.number, it.text, kerberos[it.code], it.note, placed=it.has_fault) for it in rows]
 
 
 def indented(code):
@@ -199,14 +271,24 @@ class Interface:
         self.version = table["version"]
         self.head = table["head"]
         self.codes_doc, self.types_doc = table["codes"]["doc"], table["types"]["doc"]
-        self.groups = [Group(**(it | {"codes": [Code(**code) for code in it["codes"]]})) for it in table["codes"]["group"]]
+        self.groups = [Group(**(it | {"codes": codes_of(it)})) for it in table["codes"]["group"]]
         self.types = [Type(**(it | {"fields": [Field(**one) for one in it.get("fields", [])]})) for it in table["types"]["type"]]
-        self.handles = table["handle"]
-        self.sections = [(it["title"], [Function(**one) for one in it["function"]]) for it in table["section"]]
-        self.functions = [it for _, functions in self.sections for it in functions]
+        self.handles = [Handle(**it) for it in table["handle"]]
         self.codes = [it for group in self.groups for it in group.codes]
         self.structs = [it for it in self.types if it.kind == "struct"]
         self.causes = [it for group in self.groups if group.causes for it in group.codes]
+        self.breaches = [it for group in self.groups if group.breaches for it in group.codes]
+        self.sections = [(it["title"], [self.function(one) for one in it["function"]]) for it in table["section"]]
+        self.functions = [it for _, functions in self.sections for it in functions]
+
+    def function(self, row):
+        """A function's row, whose text may name the first and the last cause and breach."""
+        returns = row.get("returns", "")
+        for kind, codes in (("cause", self.causes), ("breach", self.breaches)):
+            for name, code in zip(("first", "last"), codes[:1] + codes[-1:]):
+                returns = returns.replace(f"{{{name}_{kind}}}", f"FEVSTUNIK_{code.name}")
+        sized, nested = tuple(it.name for it in self.structs if it.sized), tuple(it.name for it in self.handles if it.contains)
+        return Function(**(row | {"returns": returns}), codes=named_codes(self, returns), sized=sized, nested=nested)
 
     def number(self):
         major, minor, patch = self.version
@@ -231,17 +313,15 @@ def faults(interface):
         if fields & set(re.findall(r"`(\w+)`", it.text)):
             yield f"the text of {it.name} names a field of a struct"
     for it in interface.functions:
-        if named_codes(interface, it.returns) != it.codes:
-            yield f"{it.name} returns {named_codes(interface, it.returns)} by its text, and {it.codes} by its codes"
         for name, kind in it.parts:
             of = kind.split(" ")[-1]
-            if of not in NUMBERS and of not in ("bytes", "buffer") and of not in names and of not in {one["name"] for one in interface.handles}:
+            if of not in NUMBERS and of not in ("bytes", "buffer") and of not in names and of not in {one.name for one in interface.handles}:
                 yield f"{it.name} has an argument of a type that isn't known: {name}: {kind}"
         if f"fevstunik_{it.name}(" not in it.example:
             yield f"the example of {it.name} doesn't call it"
     returned = {code for it in interface.functions for code in it.codes}
     if returned != {it.name for it in shown}:
-        yield f"no function returns {sorted({it.name for it in shown} - returned)}, and no code is {sorted(returned - {it.name for it in shown})}"
+        yield f"no function's text says that it returns {sorted({it.name for it in shown} - returned)}, and no code is {sorted(returned - {it.name for it in shown})}"
 
 
 def environment():
@@ -261,4 +341,8 @@ def files():
     page = manual.Page(interface)
     made.filters |= {"told": page.told, "body": page.body, "code": manual.code, "argument": manual.argument}
     words = {"interface": interface, "manual": manual}
-    return {path: made.get_template(f"{name}.j2").render(words) for path, name in TEMPLATES.items()}
+    proofs = {
+        f"{HANDLE_PROOFS}/{it.rattle}Handle/{call}/Proof.antt": made.get_template(f"{call}.antt.j2").render(it=it)
+        for it in interface.handles for call in ("of_place", "into_place")}
+    texts = {path: made.get_template(f"{name}.j2").render(words) for path, name in TEMPLATES.items()} | proofs
+    return texts | layout.laid_out({path: text for path, text in texts.items() if path.endswith(".rt")})

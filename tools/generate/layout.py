@@ -1,9 +1,15 @@
-"""Lays out texts: comments of C and of Rattle, prototypes, and pages for man."""
+"""Lays out texts: comments of C and of Rattle, prototypes, pages for man, files in Rattle, and parts of documents."""
+import pathlib
 import re
+import shutil
+import subprocess
+import sys
+import tempfile
 import textwrap
 
 # How wide a line of a comment and one of C's code may be.
 COMMENT_WIDTH, LINE_WIDTH = 100, 140
+RATTLE = pathlib.Path(shutil.which("rt") or "/opt/rattle/bin/rt").resolve().parent / "rattle"
 
 
 def blocks(text):
@@ -52,15 +58,19 @@ def inner_comment(text):
 
 def prototype(result, name, parameters):
     """A function of C, in lines that aren't too long."""
-    begin = f"{result}{'' if result.endswith('*') else ' '}{name}("
+    return listed(f"{result}{'' if result.endswith('*') else ' '}{name}(", parameters or ["void"])
+
+
+def listed(begin, words, end=");"):
+    """Words in brackets, in lines that aren't too long."""
     lines, line = [], begin
-    for at, it in enumerate(parameters):
-        word = it + (", " if at + 1 < len(parameters) else ");")
+    for at, it in enumerate(words):
+        word = it + (", " if at + 1 < len(words) else end)
         if len(line) + len(word.rstrip()) > LINE_WIDTH:
             lines.append(line.rstrip())
             line = " " * len(begin)
         line += word
-    return "\n".join([*lines, line if parameters else begin + "void);"])
+    return "\n".join([*lines, line if words else begin + end])
 
 
 def members(rows):
@@ -77,3 +87,24 @@ def doc(text, indent=""):
 def sentence(text):
     """A remark as a sentence."""
     return text[0].upper() + text[1:] + ("" if text.endswith(".") else ".")
+
+
+def laid_out(texts):
+    """The texts of files in Rattle, by their paths, in the layout of `rt fmt`."""
+    with tempfile.TemporaryDirectory() as room:
+        folder = pathlib.Path(room)
+        for path, text in texts.items():
+            (folder / path).parent.mkdir(parents=True, exist_ok=True)
+            (folder / path).write_text(text)
+        subprocess.run([RATTLE, "fmt", "--write", *texts], cwd=folder, check=True, stdout=subprocess.DEVNULL)
+        return {path: (folder / path).read_text() for path in texts}
+
+
+def with_parts(text, parts, path):
+    """A document with its made parts anew: each stands between `<!-- NAME: made of .. -->` and `<!-- end -->`."""
+    for name, made in parts.items():
+        found = re.search(rf"(<!-- {name}: made of [^>]*-->\n).*?(?=<!-- end -->)", text, re.S)
+        if not found:
+            sys.exit(f"{path} has no place for the part {name}")
+        text = text[: found.end(1)] + made + "\n" + text[found.end() :]
+    return text

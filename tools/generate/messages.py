@@ -2,21 +2,16 @@
 
 The table says what its entries mean. `rattle fmt` lays the files out, as `rt fmt` does.
 """
-import pathlib
 import re
-import shutil
-import subprocess
-import tempfile
 import textwrap
 import tomllib
 from collections import Counter
 from dataclasses import dataclass
 
-from . import ROOT
+from . import ROOT, layout
 
 PLACE = "crates/krb_msg"
 CRATE = ROOT / PLACE
-RATTLE = pathlib.Path(shutil.which("rt") or "/opt/rattle/bin/rt").resolve().parent / "rattle"
 
 MADE = "Made from messages.toml by packaging/messages.py. Don't edit this file."
 # The checker finds by itself that a row of so many fields is read and written right.
@@ -736,20 +731,9 @@ def texts():
     return sources | answers | {f"specs/{name}.antt": text for name, text in definitions(messages).items()}
 
 
-def laid_out(texts):
-    """The texts of files in the layout of `rt fmt`."""
-    with tempfile.TemporaryDirectory() as room:
-        folder = pathlib.Path(room)
-        for path, text in texts.items():
-            (folder / path).parent.mkdir(parents=True, exist_ok=True)
-            (folder / path).write_text(text)
-        subprocess.run([RATTLE, "fmt", "--write", *texts], cwd=folder, check=True, stdout=subprocess.DEVNULL)
-        return {path: (folder / path).read_text() for path in texts}
-
-
 def files():
     """The text of each file, by its path."""
-    return {f"{PLACE}/{path}": text for path, text in laid_out(texts()).items()}
+    return {f"{PLACE}/{path}": text for path, text in layout.laid_out(texts()).items()}
 
 
 def left_over(texts):

@@ -23,6 +23,8 @@ pub mod Replying
 pub mod Codes
 pub mod OneRequest
 pub mod Once
+pub mod Limits
+pub mod Undecided
 pub mod NewKeytab
 pub mod Life
 pub mod Sharing

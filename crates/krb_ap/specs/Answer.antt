@@ -21,6 +21,7 @@ taken_of x = record {
   service = x.service;
   session_key = x.session_key;
   flags = x.flags.0;
+  transited = owned_typed_of x.transited;
   authtime = x.authtime;
   starttime = x.starttime;
   endtime = x.endtime;

@@ -6,6 +6,7 @@ pub mod Bit
 pub mod Taken
 pub mod Causes
 pub mod Answer
+pub mod Undecided
 pub mod Service
 pub mod Once
 pub mod Living

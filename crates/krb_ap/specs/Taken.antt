@@ -16,15 +16,16 @@ use Rattle.krb_ap.specs.Quiet.{Settled}
 use Rattle.krb_ap.specs.History.{effective, IsShown}
 
 -- What is known of an accepted request. From the ticket: client and service (its realm and sname,
--- whichever entry of the keytab has the key), session key, flags, times, addresses and
--- authorization data. From the authenticator: subkey, sequence number, checksum, authorization data
--- and time. And whether a reply is asked for. Times are whole seconds since 1970-01-01T00:00:00Z;
--- cusec is the microseconds of ctime.
+-- whichever entry of the keytab has the key), session key, flags, transited encoding (its type and
+-- contents), times, addresses and authorization data. From the authenticator: subkey, sequence
+-- number, checksum, authorization data and time. And whether a reply is asked for. Times are whole
+-- seconds since 1970-01-01T00:00:00Z; cusec is the microseconds of ctime.
 pub record Taken : Type 0 where
   pub client : Principal
   pub service : Principal
   pub session_key : KeyValue
   pub flags : ℕ
+  pub transited : ValueOf (typed (leaf octets))
   pub authtime : ℤ
   pub starttime : Option ℤ
   pub endtime : ℤ
@@ -51,6 +52,7 @@ taken_from request part auth = record {
   service = service_of request;
   session_key = session_key part;
   flags = (part_fields part).flags;
+  transited = (part_fields part).transited;
   authtime = (part_times part).authtime;
   starttime = (part_times part).starttime;
   endtime = (part_times part).endtime;

@@ -23,6 +23,10 @@ pub struct Accepted {
     pub session_key: Key,
     /// The ticket's flags.
     pub flags: Flags,
+    /// The realms between the client's and the service's that the ticket passed through, as the
+    /// ticket encodes them: the type of the encoding, and its contents (RFC 4120, section 5.3). They
+    /// are passed on as they are, and weren't checked.
+    pub transited: Typed,
     /// When the client was authenticated.
     pub authtime: Seconds,
     /// When the ticket becomes valid, if the ticket says so (RFC 4120, section 5.3); if absent, at

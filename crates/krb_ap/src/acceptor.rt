@@ -1,12 +1,12 @@
 //! The service's side.
 
-ghost use Rattle.std.specs.Prelude.{◌≡◌, ◌↔◌, ◌⊎◌, List, None, Some, [], IsErrAnd, IfOk, IfErr, IsErrOf, IsTrue, map, MatchResult, OnOk, OnErr};
+ghost use Rattle.std.specs.Prelude.{◌≡◌, ◌↔◌, ◌⊎◌, List, None, Some, [], IsErr, IsErrAnd, IfOk, IfErr, IsErrOf, IsTrue, map, MatchResult, OnOk, OnErr};
 ghost use Rattle.krb_replay.specs.Memory.{later_of, AddsStamp, IsRecent, SameStamps};
 ghost use Rattle.krb_replay.specs.Stamp.{Stamp};
 ghost use Rattle.krb_ap.specs.Setup.{Arrival, arrival};
 ghost use Rattle.krb_ap.specs.Opened.{AsksFor, IsOrdinary};
-ghost use Rattle.krb_ap.specs.History.{IsShown, IsShownLately};
-ghost use Rattle.krb_ap.specs.Service.{SameMemory, Stands};
+ghost use Rattle.krb_ap.specs.History.{IsShown, IsShownLately, Shows, effective};
+ghost use Rattle.krb_ap.specs.Service.{IsPastLimit, SameMemory, Stands};
 ghost use Rattle.krb_ap.specs.Taken.{Accept, Taken};
 ghost use Rattle.krb_ap.specs.Causes.{Cause, TellsPlaceWithin, place};
 ghost use Rattle.krb_ap.specs.Inner.GoingOn.{GoesOn};
@@ -51,10 +51,11 @@ impl<M> Model for Acceptor<M> {
 impl<M: ReplayMemory> Acceptor<M> {
     /// Makes a service that decides by `keytab` and `skew`, and remembers in `memory`.
     ///
-    /// Use it only if no service has used this name and these keys before, with this or any other
-    /// software, or if all instances have always shared a store that lost nothing. Otherwise use
-    /// [`Acceptor::started`], or the service may accept a request again: a request whose time was
-    /// ahead by the skew stays acceptable for twice the skew (RFC 4120, section 3.2.3).
+    /// Use it only if every key in the keytab is new: no service has used one of them before, with
+    /// this or any other software. Otherwise use [`Acceptor::started`], or recorded logins can be
+    /// replayed: a request whose time was ahead by the skew stays acceptable for twice the skew (RFC
+    /// 4120, section 3.2.3). It may also be used if all instances have always shared a store that
+    /// lost nothing.
     ///
     /// Condition: the memory is new. It has no tuple (`len()` is 0), and was given no moment
     /// (`latest()` is `None`).
@@ -163,6 +164,21 @@ impl<M: ReplayMemory> Acceptor<M> {
         // The offset in a refusal is that of one of the bytes, or their end.
         ensures offset { IfErr result (TellsPlaceWithin bytes.now) }
 
+        // A request that is shown for the first time is answered with out of memory if it is past a limit of the memory.
+        // Nothing else is counted as refused for a limit.
+        ensures full { (history : List Arrival) (stamp : Stamp)
+            → Stands M.has M.newest self.old history
+            → Shows self.old.setup (effective history now) bytes.now stamp
+            → ¬ M.has self.old.memory stamp
+            → IsPastLimit M.has (M.limits self.old.memory) self.old (later_of (M.newest self.old.memory) now) stamp
+            → IsErrOf result OutOfMemory }
+        ensures limit { (history : List Arrival)
+            → Stands M.has M.newest self.old history
+            → (M.refusals self.new.memory ≡ M.refusals self.old.memory)
+            ⊎ (IsErrOf result OutOfMemory × ((stamp : Stamp) × (Shows self.old.setup (effective history now) bytes.now stamp
+            × IsPastLimit M.has (M.limits self.old.memory) self.old (later_of (M.newest self.old.memory) now) stamp))) }
+        ensures limits { M.limits self.new.memory ≡ M.limits self.old.memory }
+
         // Out of memory is answered for requests of the ordinary kind alone, and changes nothing.
         ensures memory { IsErrOf result OutOfMemory → IsOrdinary bytes.now }
         ensures unchanged { IsErrOf result OutOfMemory → SameMemory M.has M.newest self.old.memory self.new.memory }
@@ -222,6 +238,18 @@ impl<M: ReplayMemory> Acceptor<M> {
         ensures offset { IfErr result (TellsPlaceWithin bytes.now) }
         ensures memory { IsErrOf result OutOfMemory → IsOrdinary bytes.now }
         ensures service { IfOk result (λ accepted. AsksFor bytes.now accepted.service) }
+        ensures full { (history : List Arrival) (stamp : Stamp)
+            → Stands M.has M.newest self.old history
+            → Shows self.old.setup (effective history now) bytes.now stamp
+            → ¬ M.has self.old.memory stamp
+            → IsPastLimit M.has (M.limits self.old.memory) self.old (later_of (M.newest self.old.memory) now) stamp
+            → IsErrOf result OutOfMemory }
+        ensures limit { (history : List Arrival)
+            → Stands M.has M.newest self.old history
+            → (M.refusals self.new.memory ≡ M.refusals self.old.memory)
+            ⊎ (IsErrOf result OutOfMemory × ((stamp : Stamp) × (Shows self.old.setup (effective history now) bytes.now stamp
+            × IsPastLimit M.has (M.limits self.old.memory) self.old (later_of (M.newest self.old.memory) now) stamp))) }
+        ensures limits { M.limits self.new.memory ≡ M.limits self.old.memory }
         ensures unchanged { IsErrOf result OutOfMemory → SameMemory M.has M.newest self.old.memory self.new.memory }
     {
         facts();
@@ -236,7 +264,7 @@ impl<M: ReplayMemory> Acceptor<M> {
                 return Err(refusal);
             }
         };
-        match self.remember(judged.tuple) {
+        match self.remember(judged.tuple, now) {
             Ok(()) => {
                 self.advance(now);
                 judged.answer
@@ -267,12 +295,17 @@ impl<M: ReplayMemory> Acceptor<M> {
         }
     }
 
-    fn remember(&mut self, tuple: Tuple) -> Result<(), AllocError>
+    fn remember(&mut self, tuple: Tuple, now: Moment) -> Result<(), AllocError>
         ensures setup { self.new.setup ≡ self.old.setup }
         ensures newest { M.newest self.new.memory ≡ M.newest self.old.memory }
         ensures ok { OnOk result (AddsStamp (M.has self.old.memory) (M.has self.new.memory) tuple) }
         ensures err { OnErr result (SameStamps (M.has self.old.memory) (M.has self.new.memory)) }
+        ensures full { IsPastLimit M.has (M.limits self.old.memory) self.old (later_of (M.newest self.old.memory) now) tuple → IsErr result }
+        ensures refused { (M.refusals self.new.memory ≡ M.refusals self.old.memory)
+            ⊎ (IsErr result × IsPastLimit M.has (M.limits self.old.memory) self.old (later_of (M.newest self.old.memory) now) tuple) }
+        ensures limits { M.limits self.new.memory ≡ M.limits self.old.memory }
     {
+        self.state.judge.memory.expect(now, self.state.judge.skew);
         self.state.judge.memory.remember(tuple)
     }
 
@@ -285,6 +318,8 @@ impl<M: ReplayMemory> Acceptor<M> {
         ensures keeps { IsTrue M.KEEPS → SameStamps (M.has self.old.memory) (M.has self.new.memory) }
         ensures forgets { IsTrue M.FORGETS → (stamp : Stamp) → M.has self.new.memory stamp
             → IsRecent (later_of (M.newest self.old.memory) now) self.old.setup.skew stamp }
+        ensures limits { M.limits self.new.memory ≡ M.limits self.old.memory }
+        ensures refusals { M.refusals self.new.memory ≡ M.refusals self.old.memory }
     {
         self.state.judge.memory.advance(now, self.state.judge.skew);
     }

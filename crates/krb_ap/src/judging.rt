@@ -270,6 +270,7 @@ fn accepted(
         service: service(alloc, &request.ticket)?,
         session_key,
         flags: part.flags,
+        transited: part.transited.to_owned(alloc)?,
         authtime: part.authtime,
         starttime: part.starttime,
         endtime: part.endtime,

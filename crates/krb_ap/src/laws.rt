@@ -23,6 +23,7 @@ ghost use Rattle.krb_ap.specs.Living.{Lives, Step, TakesInLife, TakesOnceInLife}
 ghost use Rattle.krb_ap.specs.Once.{HasStamp, TakesAmong, TakesOnce};
 ghost use Rattle.krb_ap.specs.Opened.{stamp_at};
 ghost use Rattle.krb_ap.specs.Sharing.{Asked, AskedAmong, ClocksAgree, Has, InTime, IsLetInNext, LetsInAmong, LetsInOnce, SaysNew, Share, StoreEvent, asked_by, asked_stamp, forgets};
+ghost use Rattle.krb_ap.specs.Undecided.{AreDecided, SayTheSame, decided_answers, decided_calls};
 ghost use Rattle.krb_ap.specs.World.{BothAgree, Comes, Event, IsHeldInEachWorld, IsHeldOnce, IsOf, World, nothing_yet};
 ghost use Rattle.krb_ccache.specs.declared.credential.Credential.{Credential};
 ghost use Rattle.krb_ap.specs.declared.accepted.Accepted.{Accepted};
@@ -129,6 +130,24 @@ pub fn no_stamp_twice()
         → Run setup history calls answers end → TakesOnce setup calls answers }
     ensures before { (setup : Setup) (history : List Arrival) (calls : List Arrival) (answers : List (Result Accepted Refusal)) (end : List Arrival)
         (stamp : Stamp) → Run setup history calls answers end → IsShown setup history stamp → ¬ TakesAmong setup calls answers stamp }
+{
+    facts();
+}
+
+/// States that a call that is answered with `OutOfMemory` changes no other answer. There was no
+/// memory, or the memory of what was seen has a limit, which is reached (clauses `full` and `limit`
+/// of `accept`).
+///
+/// Clause `others`: without these calls, the other calls have right answers too, which are the same
+/// ones, and lead to the same history. Clause `alone`: if another service with the same setup and
+/// history gets the other calls alone, and decides all of them, its answers say the same.
+pub fn undecided_calls_change_nothing()
+    ensures others { (setup : Setup) (history : List Arrival) (calls : List Arrival) (answers : List (Result Accepted Refusal)) (end : List Arrival)
+        → Run setup history calls answers end → Run setup history (decided_calls calls answers) (decided_answers answers) end }
+    ensures alone { (setup : Setup) (history : List Arrival) (calls : List Arrival) (answers others : List (Result Accepted Refusal))
+        (end other_end : List Arrival) → Run setup history calls answers end
+        → Run setup history (decided_calls calls answers) others other_end → AreDecided others
+        → SayTheSame (decided_answers answers) others × (other_end ≡ end) }
 {
     facts();
 }

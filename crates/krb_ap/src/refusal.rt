@@ -1,3 +1,5 @@
+// Made from causes.toml by `make generate`. Don't edit this file.
+
 //! Why a request is refused.
 
 ghost use Rattle.std.specs.Prelude.{◌≡◌, Some};
@@ -12,66 +14,69 @@ use thiserror::Error;
 /// is our own; or `OutOfMemory`.
 #[derive(Clone, Copy, Debug, PartialEq, Eq, Error)]
 pub enum Refusal {
-    /// There is a first byte, and it isn't that of a request.
-    #[error("the message isn't a request")]
+    /// The message isn't empty, and its first byte isn't that of a request.
+    #[error("the first byte isn't that of a request")]
     MessageType,
-    /// The bytes aren't a request: what is wrong with them, and at which offset.
-    #[error("the request is malformed: {0}")]
+    /// The bytes aren't exactly one valid request; the fault says what is wrong, and where.
+    #[error("the bytes aren't a request: {0}")]
     Malformed(Fault),
-    /// The option use-session-key is set: the request says that the ticket is sealed under the
-    /// session key of another ticket.
-    #[error("user-to-user requests aren't taken")]
+    /// The request has the option use-session-key set: its ticket is sealed under another ticket's
+    /// session key.
+    #[error("the option use-session-key is set")]
     UserToUser,
-    /// The ticket is of an encryption type other than 19 and 20.
-    #[error("the ticket's encryption type is not known")]
+    /// The ticket's encryption type is neither 19 nor 20.
+    #[error("the ticket's encryption type isn't 19 or 20")]
     TicketEtype,
-    /// The keytab has no entry of the service's name that the ticket is for.
-    #[error("the ticket is for another service")]
+    /// The keytab has no entry of the ticket's service, or the service serves one name, and the
+    /// ticket is for another.
+    #[error("the ticket is for a service that isn't served here")]
     NotUs,
-    /// None of these keys is usable and of the ticket's encryption type.
-    #[error("there is no key of the ticket's encryption type")]
+    /// No entry of the ticket's service has the ticket's type and a usable key.
+    #[error("no key of the ticket's encryption type is usable")]
     NoKey,
-    /// None of these keys has the version number that the ticket names.
-    #[error("there is no key of the ticket's version number")]
+    /// No usable key of the ticket's service and type has the ticket's version number.
+    #[error("no key of the ticket's encryption type has its version number")]
     BadKeyVersion,
-    /// The key doesn't open the ticket, or opens it to something other than a ticket's sealed part.
-    #[error("the ticket doesn't open")]
+    /// The chosen key doesn't open the ticket, or the decrypted bytes aren't exactly one valid
+    /// EncTicketPart.
+    #[error("the key doesn't open the ticket")]
     TicketIntegrity,
-    /// The ticket's session key is of another type, or doesn't have the length that its type asks
-    /// for.
-    #[error("the session key is not usable")]
+    /// The ticket's session key isn't of type 19 with 16 bytes or type 20 with 32.
+    #[error("the ticket's session key isn't usable")]
     SessionKey,
-    /// The session key isn't for the authenticator's encryption type, doesn't open it, or opens it
-    /// to something else.
-    #[error("the authenticator doesn't open")]
+    /// The session key isn't of the authenticator's type, or doesn't open it, or the decrypted
+    /// bytes aren't exactly one valid Authenticator.
+    #[error("the session key doesn't open the authenticator")]
     AuthenticatorIntegrity,
     /// The authenticator and the ticket name different clients.
-    #[error("the authenticator is another client's")]
+    #[error("the authenticator and the ticket name different clients")]
     BadMatch,
-    /// The authenticator's time differs by more than the skew from the latest moment that was
-    /// given.
-    #[error("the clocks differ by too much")]
+    /// The client's time differs from the service's by more than the skew.
+    #[error("the clocks differ by more than the skew")]
     Skew,
-    /// The service was started again, and the latest moment or the authenticator's time isn't later
-    /// than that start by more than the skew. The request is remembered.
+    /// The service was started again, and its clock or the client's isn't later than this start by
+    /// more than the skew. The request is remembered.
     #[error("the service has just started")]
     JustStarted,
-    /// A request of the same service, client and time was seen before, whatever its other bytes.
-    #[error("the request is a repeat")]
+    /// A request of the same service, client and client's time was seen before.
+    #[error("a request of this service, client and time was seen before")]
     Repeat,
-    /// The ticket begins later than the latest moment plus the skew, or is marked invalid.
-    #[error("the ticket is not valid yet")]
+    /// The ticket begins more than the skew after the service's time, or is marked invalid. The
+    /// request is remembered.
+    #[error("the ticket isn't valid yet, or is marked invalid")]
     NotYetValid,
-    /// The latest moment is later than the ticket's end plus the skew.
+    /// The ticket ended more than the skew before the service's time. The request is remembered.
     #[error("the ticket has expired")]
     Expired,
-    /// The client is of another realm, and no KDC checked the realms between.
-    #[error("the transited realms were not checked")]
+    /// The client is of another realm, and no KDC says that it checked the realms between them. The
+    /// request is remembered.
+    #[error("the client is of another realm, and no KDC checked the realms between")]
     Transited,
-    /// The ticket or the authenticator has authorization data that may not be ignored.
-    #[error("there is authorization data that is not known")]
+    /// The ticket or the authenticator has authorization data that may not be ignored. The request
+    /// is remembered.
+    #[error("the request has authorization data that may not be ignored")]
     Authorization,
-    /// There is no memory. Nothing has changed.
+    /// Memory ran out. Nothing has changed.
     #[error("out of memory")]
     OutOfMemory,
 }

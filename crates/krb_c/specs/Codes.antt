@@ -5,9 +5,14 @@ use Rattle.std.specs.Prelude.{ℕ, ◌+◌, ◌/◌}
 use Rattle.krb_ap.specs.declared.refusal.Refusal.{Refusal}
 use Rattle.krb_ap.specs.declared.refusal.Refusal.TheVariants.{OutOfMemory}
 use Rattle.krb_ap.specs.Causes.{place}
+use Rattle.krb_login.specs.Terms.{place as breach_place}
+use Rattle.krb_login.specs.declared.breach.Breach.{Breach}
 
 abbrev pub ok : ℕ
 ok = 0
+
+abbrev pub go_on : ℕ
+go_on = 1
 
 abbrev pub out_of_memory : ℕ
 out_of_memory = 400
@@ -23,6 +28,9 @@ nothing_there = 403
 
 abbrev pub too_long : ℕ
 too_long = 404
+
+abbrev pub full : ℕ
+full = 405
 
 abbrev pub bad_skew : ℕ
 bad_skew = 410
@@ -53,6 +61,12 @@ no_start = 418
 
 abbrev pub early_start : ℕ
 early_start = 419
+
+abbrev pub bad_bindings : ℕ
+bad_bindings = 420
+
+abbrev pub bad_random : ℕ
+bad_random = 421
 
 abbrev pub file_version : ℕ
 file_version = 500
@@ -96,6 +110,9 @@ reply_integrity = 702
 abbrev pub reply_mismatch : ℕ
 reply_mismatch = 703
 
+abbrev pub error_malformed : ℕ
+error_malformed = 704
+
 abbrev pub text_short : ℕ
 text_short = 800
 
@@ -126,6 +143,9 @@ token_empty = 903
 abbrev pub token_id : ℕ
 token_id = 904
 
+abbrev pub token_unframed : ℕ
+token_unframed = 905
+
 abbrev pub other_mechanism : ℕ
 other_mechanism = 910
 
@@ -141,6 +161,15 @@ nested_negotiation = 913
 abbrev pub bad_mechanism : ℕ
 bad_mechanism = 920
 
+abbrev pub bad_verdict : ℕ
+bad_verdict = 921
+
+abbrev pub bad_negotiation : ℕ
+bad_negotiation = 922
+
+abbrev pub negotiation_over : ℕ
+negotiation_over = 923
+
 abbrev pub context_truncated : ℕ
 context_truncated = 930
 
@@ -155,6 +184,10 @@ context_delegation = 932
 abbrev pub cause_code : Refusal → ℕ
 cause_code OutOfMemory = out_of_memory
 cause_code refusal = 90 + place refusal / 10
+
+-- why a client isn't let in though its request is accepted; these places come after those of causes
+abbrev pub breach_code : Breach → ℕ
+breach_code breach = 90 + breach_place breach / 10
 
 -- the library's version: the major number, the minor number and the patch number, with two digits
 -- for each of the last two

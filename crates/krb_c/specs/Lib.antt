@@ -12,8 +12,12 @@ pub mod Listing
 pub mod Finishing
 pub mod Tokens
 pub mod Wrapping
+pub mod Negotiating
+pub mod Errors
 pub mod TokenAnswers
 pub mod Contexts
 pub mod Stamps
 pub mod Renewing
 pub mod Options
+pub mod Login
+pub mod Inner

@@ -1,19 +1,46 @@
 -- What a service is made with, and what comes of it.
-use Rattle.std.specs.Prelude.{◌≡◌, ◌≢◌, ◌≤◌, ◌<◌, ◌≤ℤ◌, ◌*◌, ◌⊎◌, ℕ, ℤ, pos, IsTrue, List, [], Option, Some, None, IsSomeAnd}
+use Rattle.std.specs.Prelude.{◌≡◌, ◌==◌, ◌/◌, max, if◌then◌else◌, ◌≢◌, ◌≤◌, ◌<◌, ◌≤ℤ◌, ◌*◌, ◌⊎◌, ℕ, ℤ, pos, Bool, true, false, IsTrue, List, [], replicate, Option, Some, None, IsSomeAnd}
+use Rattle.krb_login.specs.declared.terms.Bindings.{Bindings}
+use Rattle.krb_login.specs.declared.terms.Bindings.TheVariants.{Ignored, IfSent, Required}
+use Rattle.krb_login.specs.declared.terms.Realms.{Realms}
+use Rattle.krb_login.specs.declared.terms.Realms.TheVariants.{Any, Only}
+use Rattle.krb_login.specs.declared.terms.Terms.{Terms}
 use Rattle.krb_keytab.specs.Entry.{KeytabEntry}
 use Rattle.krb_c.specs.Accepting.{IsMomentOf, Stands, fresh}
 use Rattle.krb_c.specs.Answer.{plain}
 use Rattle.krb_c.specs.Asking.{IsMomentFault, moment_of}
-use Rattle.krb_c.specs.Codes.{bad_options, bad_skew, early_start, no_name, no_start, ok, out_of_memory}
+use Rattle.krb_c.specs.Codes.{bad_bindings, bad_options, bad_skew, early_start, key_type, no_name, no_start, ok, out_of_memory}
 use Rattle.krb_c.specs.Editing.{HasKeytab}
 use Rattle.krb_c.specs.Renewing.{IsNamed, IsServed, IsUnusable}
 use Rattle.krb_c.specs.declared.structs.AcceptorOptions.{AcceptorOptions}
 use Rattle.krb_c.specs.declared.structs.Answer.{Answer}
 use Rattle.krb_c.specs.declared.service_state.ServiceState.{ServiceState}
 
--- the bytes of the options
+-- the bytes of the options, and of those without terms
 abbrev pub options_size : ℕ
-options_size = 40
+options_size = 88
+
+abbrev pub first_size : ℕ
+first_size = 56
+
+-- Options without terms stand for these: clients of any realm that aren't anonymous are let in, their
+-- bindings aren't looked at, and a reply sends no subkey.
+abbrev pub whole : AcceptorOptions → AcceptorOptions
+whole options = if options.size == first_size then record {
+  size = options_size;
+  started = options.started;
+  skew = options.skew;
+  restarts = options.restarts;
+  any_name = options.any_name;
+  any_start = options.any_start;
+  limit = options.limit;
+  limit_for_client = options.limit_for_client;
+  bindings = 0;
+  subkey_type = 0;
+  bindings_hash = replicate 16 0;
+  anonymous = false;
+  only_realms = false;
+} else options
 
 -- How repeats are refused across starts: the service was started at a moment, or it is in its first
 -- life, since no service has used one of these keys before.
@@ -26,6 +53,14 @@ first_life = 2
 -- the first second of the year 2020
 abbrev pub year_2020 : ℤ
 year_2020 = pos 1_577_836_800
+
+-- the most requests that are remembered: a million if the options don't say
+abbrev pub limit_of : AcceptorOptions → ℕ
+limit_of options = if options.limit == 0 then 1_000_000 else options.limit
+
+-- the most of one client: a tenth of the limit, but at least one, if the options don't say
+abbrev pub client_limit_of : AcceptorOptions → ℕ
+client_limit_of options = if options.limit_for_client == 0 then max (limit_of options / 10) 1 else options.limit_for_client
 
 -- the start isn't before that year, or any start is meant
 abbrev pub IsLateEnough : AcceptorOptions → Type 0
@@ -59,23 +94,57 @@ IsInvalid options text answer =
     ⊎ (IsNamed options.any_name text × (IsStartFault options answer
     ⊎ (((start : Option ℤ) × IsStart options start) × ((86_400 < options.skew) × (answer ≡ plain bad_skew)))))))
 
+-- ---- the terms
+-- What becomes of a client's channel bindings, by its number: 0 ignored, 1 if they are sent, 2
+-- required.
+abbrev pub rule_of : ℕ → List ℕ → Option Bindings
+rule_of rule hash = if rule == 0 then Some Ignored else if rule == 1 then Some (IfSent hash) else if rule == 2 then Some (Required hash) else None
+
+-- of any realm, or of those that are added, and none is yet
+abbrev pub AreRealms : Bool → Realms → Type 0
+AreRealms only Any = only ≡ false
+AreRealms only (Only realms) = (only ≡ true) × (realms.items ≡ [])
+
+-- the type of a subkey, or 0 for none
+abbrev pub IsSubkeyType : ℕ → Type 0
+IsSubkeyType etype = (etype ≡ 0) ⊎ ((etype ≡ 19) ⊎ (etype ≡ 20))
+
+pub record AreTerms (options : AcceptorOptions) (terms : Terms) : Type 0 where
+  pub anonymous : terms.anonymous ≡ options.anonymous
+  pub realms : AreRealms options.only_realms terms.realms
+  pub bindings : rule_of options.bindings options.bindings_hash ≡ Some terms.bindings
+  pub subkey : IsSubkeyType options.subkey_type
+
+-- why there are none: the first that holds
+abbrev pub IsTermsFault : AcceptorOptions → Answer → Type 0
+IsTermsFault options answer =
+    ((2 < options.bindings) × (answer ≡ plain bad_bindings))
+    ⊎ ((options.bindings ≤ 2) × ((¬ IsSubkeyType options.subkey_type) × (answer ≡ plain key_type)))
+
+abbrev pub HasTerms : AcceptorOptions → Type 0
+HasTerms options = (terms : Terms) × AreTerms options terms
+
+-- ---- a service
 -- The options are valid, the bytes are a keytab, and the service is new: it decides by the entries of
--- the name that is served, with the skew and the start of the options.
+-- the name that is served, with the skew, the start and the terms of the options.
 pub record IsMade (options : AcceptorOptions) (text bytes : List ℕ) (state : ServiceState) : Type 0 where
   pub start : Option ℤ
   pub valid : IsValid options text start
+  pub terms : Terms
+  pub terms_are : AreTerms options terms
   pub kept : List KeytabEntry
   pub is_served : IsServed text bytes kept
-  pub state_is : state ≡ fresh kept (1_000_000 * options.skew) start
+  pub state_is : state ≡ fresh kept (1_000_000 * options.skew) start (limit_of options) (client_limit_of options) terms options.subkey_type
   pub stands : Stands state []
 
--- none is made: the options are invalid, or else no keytab is read or the text isn't a name, or else
--- memory is lacking
+-- none is made: the options are invalid, or else their terms, or else no keytab is read or the text
+-- isn't a name, or else memory is lacking
 abbrev pub IsUnmade : AcceptorOptions → List ℕ → List ℕ → Answer → Type 0
 IsUnmade options text bytes answer =
     IsInvalid options text answer
-    ⊎ (((start : Option ℤ) × IsValid options text start) × (IsUnusable text bytes answer
-    ⊎ (HasKeytab bytes × (answer ≡ plain out_of_memory))))
+    ⊎ (((start : Option ℤ) × IsValid options text start) × (IsTermsFault options answer
+    ⊎ (HasTerms options × (IsUnusable text bytes answer
+    ⊎ (HasKeytab bytes × (answer ≡ plain out_of_memory))))))
 
 -- a service is made and kept; or the reason is reported, and what was kept is unchanged
 abbrev pub Makes : AcceptorOptions → List ℕ → List ℕ → Option ServiceState → Option ServiceState → Answer → Type 0

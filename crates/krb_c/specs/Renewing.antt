@@ -14,7 +14,11 @@ use Rattle.krb_c.specs.declared.service_state.ServiceState.{ServiceState}
 -- the same service with other entries
 abbrev pub renewed : ServiceState → List KeytabEntry → ServiceState
 renewed state entries = record {
-  acceptor = record { setup = with_entries state.acceptor.setup entries; memory = state.acceptor.memory };
+  service = record {
+    acceptor = record { setup = with_entries state.service.acceptor.setup entries; memory = state.service.acceptor.memory };
+    terms = state.service.terms;
+  };
+  subkey_type = state.subkey_type;
   refusal = state.refusal;
 }
 
@@ -30,7 +34,7 @@ pub record IsRenewed (text bytes : List ℕ) (old new : ServiceState) : Type 0 w
   pub kept : List KeytabEntry
   pub is_served : IsServed text bytes kept
   pub new_is : new ≡ renewed old kept
-  pub stands : (history : List Arrival) → Stands old history → Stands new (as_decided old.acceptor.setup history)
+  pub stands : (history : List Arrival) → Stands old history → Stands new (as_decided old.service.acceptor.setup history)
 
 -- a name is given, or each name of the keytab is to be served
 abbrev pub IsNamed : Bool → List ℕ → Type 0

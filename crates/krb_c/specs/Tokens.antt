@@ -3,15 +3,15 @@ use Rattle.std.specs.Prelude.{◌≡◌, ◌⊎◌, ℕ, List}
 use Rattle.krb_gss.specs.Fault.{IsTokenFault}
 use Rattle.krb_gss.specs.Token.{IsToken}
 use Rattle.krb_gss.specs.declared.fault.TokenFault.{TokenFault}
-use Rattle.krb_gss.specs.declared.fault.TokenFault.TheVariants.{Malformed, NotToken, Response, OtherMechanism, NoToken, TokenId}
+use Rattle.krb_gss.specs.declared.fault.TokenFault.TheVariants.{Malformed, NotToken, Response, OtherMechanism, NoToken, TokenId, Unframed, Ended}
 use Rattle.krb_gss.specs.declared.mechanism.Foreign.{Foreign}
 use Rattle.krb_gss.specs.declared.mechanism.Foreign.TheVariants.{Negotiation, Ntlm, IaKerb, Unknown}
 use Rattle.krb_gss.specs.declared.mechanism.Mechanism.{Mechanism}
-use Rattle.krb_gss.specs.declared.mechanism.Mechanism.TheVariants.{Kerberos, Microsoft}
+use Rattle.krb_gss.specs.declared.mechanism.Mechanism.TheVariants.{Kerberos, Microsoft, Draft}
 use Rattle.krb_gss.specs.declared.opening.Wrapping.{Wrapping}
 use Rattle.krb_gss.specs.declared.opening.Wrapping.TheVariants.{Bare, Negotiated}
 use Rattle.krb_c.specs.Answer.{Hands, placed, plain}
-use Rattle.krb_c.specs.Codes.{iakerb, nested_negotiation, not_a_token, ntlm, other_mechanism, token_continues, token_empty, token_id, token_malformed}
+use Rattle.krb_c.specs.Codes.{iakerb, negotiation_over, nested_negotiation, not_a_token, ntlm, other_mechanism, token_continues, token_empty, token_id, token_malformed, token_unframed}
 use Rattle.krb_c.specs.declared.structs.Answer.{Answer}
 use Rattle.krb_c.specs.declared.structs.Wrapped.{Wrapped}
 
@@ -19,6 +19,7 @@ use Rattle.krb_c.specs.declared.structs.Wrapped.{Wrapped}
 abbrev pub mechanism_number : Mechanism → ℕ
 mechanism_number Kerberos = 1
 mechanism_number Microsoft = 2
+mechanism_number Draft = 3
 
 abbrev pub negotiated_number : Wrapping → ℕ
 negotiated_number Bare = 0
@@ -26,6 +27,10 @@ negotiated_number (Negotiated mechanism) = mechanism_number mechanism
 
 abbrev pub wrapped_of : Wrapping → Mechanism → Wrapped
 wrapped_of wrapping mechanism = record { mechanism = mechanism_number mechanism; negotiated = negotiated_number wrapping }
+
+-- how a later token of a negotiation is wrapped, whose mechanism an earlier answer named
+abbrev pub later_of : Mechanism → Wrapped
+later_of mechanism = record { mechanism = mechanism_number mechanism; negotiated = 100 }
 
 -- another mechanism
 abbrev pub foreign_code : Foreign → ℕ
@@ -42,6 +47,8 @@ token_answer Response = plain token_continues
 token_answer (OtherMechanism foreign at) = placed (foreign_code foreign) at
 token_answer (NoToken at) = placed token_empty at
 token_answer (TokenId at) = placed token_id at
+token_answer (Unframed at) = placed token_unframed at
+token_answer Ended = plain negotiation_over
 
 -- the bytes are a token, and its request and how it is wrapped are returned
 pub record HandsRequest (bytes : List ℕ) (is : Wrapped) (old new : List ℕ) (answer : Answer) : Type 0 where

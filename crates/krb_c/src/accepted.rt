@@ -11,7 +11,8 @@ ghost use Rattle.krb_c.specs.Choice.{TellsReply};
 
 use crate::accepted_state::AcceptedState;
 use crate::code;
-use crate::handle::{AcceptedHandle, empty, put, take};
+use crate::handle::{empty, put, with_held};
+use crate::handles::AcceptedHandle;
 use crate::list::{count, hand_item};
 use crate::structs::{Answer, Choice, Known};
 use std::alloc::Global;
@@ -45,12 +46,7 @@ pub extern "C" fn fevstunik_accepted_known(
         (λ kept. TellsKnown kept.accepted known.old known.new buffer.old buffer.new result) }
     ensures stays { accepted.new.value ≡ accepted.old.value }
 {
-    let Some(kept) = take(accepted, alloc) else {
-        return Answer::plain(code::EMPTY_HANDLE);
-    };
-    let answer = kept.tell(alloc, known, buffer);
-    put(accepted, kept);
-    answer
+    with_held!(accepted, alloc, kept => kept.tell(alloc, known, buffer))
 }
 
 /// Counts the items of a list of what was accepted: 1 the ticket's addresses, 2 the ticket's
@@ -64,12 +60,7 @@ pub extern "C" fn fevstunik_accepted_count(
     ensures count { MatchOption accepted.old.value (result ≡ plain empty_handle) (λ kept. Counts kept.accepted list result) }
     ensures stays { accepted.new.value ≡ accepted.old.value }
 {
-    let Some(kept) = take(accepted, alloc) else {
-        return Answer::plain(code::EMPTY_HANDLE);
-    };
-    let answer = count(&kept.accepted, list);
-    put(accepted, kept);
-    answer
+    with_held!(accepted, alloc, kept => count(&kept.accepted, list))
 }
 
 /// Reads one item of a list of what was accepted; `index` counts from 0. Writes its type to `kind`,
@@ -87,12 +78,7 @@ pub extern "C" fn fevstunik_accepted_item(
         (λ kept. TellsItem kept.accepted list index kind.old kind.new buffer.old buffer.new result) }
     ensures stays { accepted.new.value ≡ accepted.old.value }
 {
-    let Some(kept) = take(accepted, alloc) else {
-        return Answer::plain(code::EMPTY_HANDLE);
-    };
-    let answer = hand_item(&kept.accepted, list, index, kind, buffer);
-    put(accepted, kept);
-    answer
+    with_held!(accepted, alloc, kept => hand_item(&kept.accepted, list, index, kind, buffer))
 }
 
 /// Builds the reply to what was accepted. The confounder is 16 random bytes, new for each call.
@@ -109,12 +95,7 @@ pub extern "C" fn fevstunik_accepted_reply(
         (λ kept. TellsReply kept.accepted confounder.now choice.now subkey.now buffer.old buffer.new result) }
     ensures stays { accepted.new.value ≡ accepted.old.value }
 {
-    let Some(kept) = take(accepted, alloc) else {
-        return Answer::plain(code::EMPTY_HANDLE);
-    };
-    let answer = kept.reply(alloc, confounder, choice, subkey, buffer);
-    put(accepted, kept);
-    answer
+    with_held!(accepted, alloc, kept => kept.reply(alloc, confounder, choice, subkey, buffer))
 }
 
 /// Frees what the handle holds. The handle is empty then.

@@ -12,7 +12,8 @@ ghost use Rattle.std.specs.List.{slice_get};
 
 use crate::answer::{append, hand_over, hand_over_with};
 use crate::code;
-use crate::handle::{CacheHandle, empty, put, take};
+use crate::handle::{empty, put, with_held};
+use crate::handles::CacheHandle;
 use crate::structs::{Answer, CacheEntry, Owner, Span};
 use krb_ap::Initiator;
 use krb_ccache::laws::each_file_has_one_answer;
@@ -86,12 +87,7 @@ pub extern "C" fn fevstunik_cache_credential(
     ensures credential { ListsCredential cache.old.value index credential.old credential.new buffer.old buffer.new result }
     ensures stays { cache.new.value ≡ cache.old.value }
 {
-    let Some(held) = take(cache, alloc) else {
-        return Answer::plain(code::EMPTY_HANDLE);
-    };
-    let answer = tell_credential_at(alloc, held.cache(), index, credential, buffer);
-    put(cache, held);
-    answer
+    with_held!(cache, alloc, held => tell_credential_at(alloc, held.cache(), index, credential, buffer))
 }
 
 fn tell_credential_at(
@@ -149,12 +145,7 @@ pub extern "C" fn fevstunik_cache_owner(
     ensures owner { ListsOwner cache.old.value owner.old owner.new buffer.old buffer.new result }
     ensures stays { cache.new.value ≡ cache.old.value }
 {
-    let Some(held) = take(cache, alloc) else {
-        return Answer::plain(code::EMPTY_HANDLE);
-    };
-    let answer = tell_owner(alloc, held.cache(), owner, buffer);
-    put(cache, held);
-    answer
+    with_held!(cache, alloc, held => tell_owner(alloc, held.cache(), owner, buffer))
 }
 
 fn tell_owner(alloc: Global, cache: &CCache, owner: &mut Owner, buffer: &mut [u8]) -> Answer

@@ -1,16 +1,17 @@
 // Made from interface.toml by `make generate`. Don't edit this file.
 
-//! The codes of causes for refusing a request.
+//! The codes of causes for refusing a request, and of breaches of a service's terms.
 
 ghost use Rattle.std.specs.Prelude.{◌≡◌};
 ghost use Rattle.std.specs.Option.{MatchOption};
 ghost use Rattle.krb_ap.specs.declared.refusal.Refusal.{Refusal as RefusalValue};
-ghost use Rattle.krb_c.specs.Codes.{cause_code};
+ghost use Rattle.krb_c.specs.Codes.{breach_code, cause_code};
 ghost use Rattle.krb_c.specs.Refusing.{IsCauseOf};
 
 use crate::code;
 use krb_ap::Refusal;
 use krb_der::{Fault, FaultKind};
+use krb_login::Breach;
 
 /// The code of a cause.
 pub(crate) fn code_of(refusal: &Refusal) -> u32
@@ -36,6 +37,17 @@ pub(crate) fn code_of(refusal: &Refusal) -> u32
         Refusal::Transited => code::TRANSITED,
         Refusal::Authorization => code::AUTHORIZATION,
         Refusal::OutOfMemory => code::OUT_OF_MEMORY,
+    }
+}
+
+/// The code of a breach of a service's terms.
+pub(crate) fn breach_code_of(breach: Breach) -> u32
+    ensures { result ≡ breach_code breach }
+{
+    match breach {
+        Breach::AnonymousClient => code::ANONYMOUS_CLIENT,
+        Breach::ForeignRealm => code::FOREIGN_REALM,
+        Breach::ChannelBindings => code::CHANNEL_BINDINGS,
     }
 }
 

@@ -5,6 +5,8 @@
 
 pub(crate) const OK: u32 = 0;
 
+pub(crate) const GO_ON: u32 = 1;
+
 pub(crate) const MESSAGE_TYPE: u32 = 100;
 
 pub(crate) const MALFORMED: u32 = 110;
@@ -41,6 +43,12 @@ pub(crate) const TRANSITED: u32 = 250;
 
 pub(crate) const AUTHORIZATION: u32 = 260;
 
+pub(crate) const ANONYMOUS_CLIENT: u32 = 280;
+
+pub(crate) const FOREIGN_REALM: u32 = 290;
+
+pub(crate) const CHANNEL_BINDINGS: u32 = 300;
+
 pub(crate) const OUT_OF_MEMORY: u32 = 400;
 
 pub(crate) const SHORT_BUFFER: u32 = 401;
@@ -50,6 +58,8 @@ pub(crate) const EMPTY_HANDLE: u32 = 402;
 pub(crate) const NOTHING_THERE: u32 = 403;
 
 pub(crate) const TOO_LONG: u32 = 404;
+
+pub(crate) const FULL: u32 = 405;
 
 pub(crate) const BAD_SKEW: u32 = 410;
 
@@ -70,6 +80,10 @@ pub(crate) const NO_NAME: u32 = 417;
 pub(crate) const NO_START: u32 = 418;
 
 pub(crate) const EARLY_START: u32 = 419;
+
+pub(crate) const BAD_BINDINGS: u32 = 420;
+
+pub(crate) const BAD_RANDOM: u32 = 421;
 
 pub(crate) const FILE_VERSION: u32 = 500;
 
@@ -99,6 +113,8 @@ pub(crate) const REPLY_INTEGRITY: u32 = 702;
 
 pub(crate) const REPLY_MISMATCH: u32 = 703;
 
+pub(crate) const ERROR_MALFORMED: u32 = 704;
+
 pub(crate) const TEXT_SHORT: u32 = 800;
 
 pub(crate) const TEXT_INTEGRITY: u32 = 801;
@@ -119,6 +135,8 @@ pub(crate) const TOKEN_EMPTY: u32 = 903;
 
 pub(crate) const TOKEN_ID: u32 = 904;
 
+pub(crate) const TOKEN_UNFRAMED: u32 = 905;
+
 pub(crate) const OTHER_MECHANISM: u32 = 910;
 
 pub(crate) const NTLM: u32 = 911;
@@ -128,6 +146,12 @@ pub(crate) const IAKERB: u32 = 912;
 pub(crate) const NESTED_NEGOTIATION: u32 = 913;
 
 pub(crate) const BAD_MECHANISM: u32 = 920;
+
+pub(crate) const BAD_VERDICT: u32 = 921;
+
+pub(crate) const BAD_NEGOTIATION: u32 = 922;
+
+pub(crate) const NEGOTIATION_OVER: u32 = 923;
 
 pub(crate) const CONTEXT_TRUNCATED: u32 = 930;
 

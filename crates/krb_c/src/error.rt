@@ -9,7 +9,8 @@ ghost use Rattle.krb_c.specs.Codes.{empty_handle};
 use crate::answer::hand_over;
 use crate::cause::cause_of;
 use crate::code;
-use crate::handle::{ServiceHandle, put, take};
+use crate::handle::with_held;
+use crate::handles::ServiceHandle;
 use crate::name::typed_name_of;
 use crate::service::fevstunik_acceptor_accept;
 use crate::structs::{Answer, Time};
@@ -31,12 +32,7 @@ pub extern "C" fn fevstunik_acceptor_error(
         (λ state. TellsError state.refusal service.now name_type now.now buffer.old buffer.new result) }
     ensures stays { handle.new.value ≡ handle.old.value }
 {
-    let Some(state) = take(handle, alloc) else {
-        return Answer::plain(code::EMPTY_HANDLE);
-    };
-    let answer = state.error(alloc, service, name_type, now, buffer);
-    put(handle, state);
-    answer
+    with_held!(handle, alloc, state => state.error(alloc, service, name_type, now, buffer))
 }
 
 /// Builds the error of the cause that has this code, with the service's name of this type and its

@@ -12,7 +12,8 @@ ghost use Rattle.std.specs.List.{slice_get};
 
 use crate::answer::{append, hand_over_with};
 use crate::code;
-use crate::handle::{KeytabHandle, empty, put, take};
+use crate::handle::{empty, put, with_held};
+use crate::handles::KeytabHandle;
 use crate::structs::{Answer, KeyEntry};
 use krb_keytab::laws::each_file_has_one_answer;
 use krb_keytab::{Entry, Keytab, KeytabFault};
@@ -87,12 +88,7 @@ pub extern "C" fn fevstunik_keytab_entry(
     ensures entry { ListsEntry keytab.old.value index entry.old entry.new buffer.old buffer.new result }
     ensures stays { keytab.new.value ≡ keytab.old.value }
 {
-    let Some(held) = take(keytab, alloc) else {
-        return Answer::plain(code::EMPTY_HANDLE);
-    };
-    let answer = tell_entry_at(alloc, &held, index, entry, buffer);
-    put(keytab, held);
-    answer
+    with_held!(keytab, alloc, held => tell_entry_at(alloc, &held, index, entry, buffer))
 }
 
 fn tell_entry_at(

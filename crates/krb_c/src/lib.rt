@@ -12,11 +12,11 @@
 //!
 //! What outlives a call is kept in a [`Handle`](handle::Handle): one pointer that is null while the
 //! handle is empty. There is one type of handle for each kind of thing: a service, an accepted
-//! request, a keytab, a credential cache, and a request whose reply is awaited. A call takes the
-//! value out of the handle and puts it back.
+//! request, a login, a keytab, a credential cache, and a request whose reply is awaited. A call takes
+//! the value out of the handle and puts it back.
 //!
-//! `specs/Options` says what a service is made with, and `specs/Accepting` how a call changes a
-//! service and what it accepted. `specs/Known` says what is returned of an accepted request,
+//! `specs/Options` says what a service is made with, `specs/Login` what it answers to a client in one
+//! call, and `specs/Accepting` how a call changes a service and what it accepted. `specs/Known` says what is returned of an accepted request,
 //! `specs/Items` what of its lists, and `specs/Choice` what a side chooses. `specs/Asking` and
 //! `specs/Finishing` say what becomes of a client's request and of the reply to it.
 //! `specs/Refusing` says which error reports a refusal, `specs/Listing` what is returned of the
@@ -24,13 +24,12 @@
 //!
 //! ```c
 //! fevstunik_acceptor service = FEVSTUNIK_ACCEPTOR_INIT;
-//! fevstunik_accepted accepted = FEVSTUNIK_ACCEPTED_INIT;
-//! fevstunik_acceptor_options options = {sizeof options, start, 300, FEVSTUNIK_RESTART_STARTED, false, false};
+//! fevstunik_login login = FEVSTUNIK_LOGIN_INIT;
+//! fevstunik_acceptor_options options = {.size = sizeof options, .started = start, .skew = 300, .restarts = FEVSTUNIK_RESTART_STARTED};
 //! fevstunik_acceptor_new(&service, keytab, keytab_size, name, name_size, &options);
-//! fevstunik_accepted_new(&accepted);
-//! if (fevstunik_acceptor_accept(&service, &accepted, request, request_size, &now).code == FEVSTUNIK_OK)
-//!     fevstunik_accepted_known(&accepted, &known, buffer, sizeof buffer);
-//! fevstunik_accepted_free(&accepted);
+//! if (fevstunik_service_answer(&service, &login, input, input_size, &now, random, 16, out, sizeof out).code == FEVSTUNIK_OK)
+//!     fevstunik_accepted_known(&login.accepted, &known, buffer, sizeof buffer);
+//! fevstunik_login_free(&login);
 //! fevstunik_acceptor_free(&service);
 //! ```
 #![tactic(auto)]
@@ -45,11 +44,16 @@ mod code;
 mod context;
 mod error;
 mod handle;
+mod handles;
 mod key;
 mod keytab;
 mod keytab_file;
+mod krb_error;
 mod list;
+mod login;
+mod login_state;
 mod name;
+mod negotiation;
 mod pending;
 mod place;
 mod raw_box;

@@ -8,7 +8,8 @@ ghost use Rattle.krb_c.specs.Finishing.{Ends, agreed_bytes, agreement_told, fini
 
 use crate::answer::{append, hand_over_with};
 use crate::code;
-use crate::handle::{PendingHandle, empty, put, take};
+use crate::handle::{empty, with_held};
+use crate::handles::PendingHandle;
 use crate::key::{bytes_of, type_of};
 use crate::structs::{Agreement, Answer};
 use krb_ap::{Agreed, FinishFault, Pending};
@@ -30,12 +31,7 @@ pub extern "C" fn fevstunik_finish(
         (λ awaited. Ends awaited reply.now agreement.old agreement.new buffer.old buffer.new result) }
     ensures stays { pending.new.value ≡ pending.old.value }
 {
-    let Some(held) = take(pending, alloc) else {
-        return Answer::plain(code::EMPTY_HANDLE);
-    };
-    let answer = finish(alloc, &held, reply, agreement, buffer);
-    put(pending, held);
-    answer
+    with_held!(pending, alloc, held => finish(alloc, &held, reply, agreement, buffer))
 }
 
 fn finish(

@@ -8,7 +8,8 @@ ghost use Rattle.krb_c.specs.Codes.{empty_handle};
 
 use crate::answer::hand_over;
 use crate::code;
-use crate::handle::{CacheHandle, PendingHandle, put, take};
+use crate::handle::{put, with_held};
+use crate::handles::{CacheHandle, PendingHandle};
 use crate::key::block_of;
 use crate::name::name_of;
 use crate::structs::{Answer, Choice, ContextChoice, Time};
@@ -105,12 +106,7 @@ fn request_by(
         given.now.confounder.now pending.old.value pending.new.value buffer.old buffer.new result) }
     ensures stays { cache.new.value ≡ cache.old.value }
 {
-    let Some(mut held) = take(cache, alloc) else {
-        return Answer::plain(code::EMPTY_HANDLE);
-    };
-    let answer = send(alloc, &mut held, pending, given, buffer);
-    put(cache, held);
-    answer
+    with_held!(cache, alloc, held => send(alloc, &mut held, pending, given, buffer))
 }
 
 fn send(

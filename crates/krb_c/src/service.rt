@@ -1,10 +1,11 @@
 //! A service that accepts requests.
 
 ghost use Rattle.std.specs.Prelude.{◌≡◌, None};
-ghost use Rattle.krb_c.specs.Accepting.{Decides, IsMomentOf, Remembers, TellsLatest, Turns, cleared, emptied, latest_of, nothing_kept};
+ghost use Rattle.krb_c.specs.Accepting.{Decides, IsMomentOf, Remembers, TellsLatest, TellsUsage, Turns, cleared, emptied, latest_of, nothing_kept};
 ghost use Rattle.krb_c.specs.Answer.{plain};
 ghost use Rattle.krb_c.specs.Codes.{bad_moment, empty_handle};
-ghost use Rattle.krb_c.specs.Options.{Makes};
+ghost use Rattle.krb_c.specs.Login.{AddsRealm};
+ghost use Rattle.krb_c.specs.Options.{Makes, whole};
 ghost use Rattle.krb_time.specs.Moments.{micros_of};
 ghost use Rattle.krb_c.specs.Renewing.{RenewsHeld};
 ghost use Rattle.std.specs.Option.{MatchOption, option_map};
@@ -13,9 +14,10 @@ ghost use Rattle.krb_replay.specs.Memory.{IsSizeOf};
 
 use crate::accepted_state::AcceptedState;
 use crate::code;
-use crate::handle::{AcceptedHandle, ServiceHandle, empty, put, take};
+use crate::handle::{empty, put, take, with_held};
+use crate::handles::{AcceptedHandle, ServiceHandle};
 use crate::service_options::service_of;
-use crate::structs::{AcceptorOptions, Answer, Time};
+use crate::structs::{AcceptorOptions, Answer, Time, Usage};
 use krb_msg::Moment;
 use krb_replay::ReplayMemory;
 use std::alloc::Global;
@@ -33,9 +35,9 @@ pub extern "C" fn fevstunik_acceptor_new(
     service: &[u8],
     options: &AcceptorOptions,
 ) -> Answer
-    ensures { Makes options.now service.now keytab.now handle.old.value handle.new.value result }
+    ensures { Makes (whole options.now) service.now keytab.now handle.old.value handle.new.value result }
 {
-    match service_of(alloc, keytab, service, options) {
+    match service_of(alloc, keytab, service, &options.whole()) {
         Ok(state) => {
             put(handle, state);
             Answer::plain(code::OK)
@@ -57,12 +59,7 @@ pub extern "C" fn fevstunik_acceptor_replace_keytab(
 ) -> Answer
     ensures { RenewsHeld any_name service.now keytab.now handle.old.value handle.new.value result }
 {
-    let Some(mut state) = take(handle, alloc) else {
-        return Answer::plain(code::EMPTY_HANDLE);
-    };
-    let answer = state.renew(alloc, keytab, service, any_name);
-    put(handle, state);
-    answer
+    with_held!(handle, alloc, state => state.renew(alloc, keytab, service, any_name))
 }
 
 /// Decides whether a request is accepted at a moment of the service's clock, and remembers what it
@@ -90,12 +87,7 @@ pub extern "C" fn fevstunik_acceptor_accept(
             return Answer::plain(code::BAD_MOMENT);
         }
     };
-    let Some(mut kept) = take(accepted, alloc) else {
-        return Answer::plain(code::EMPTY_HANDLE);
-    };
-    let answer = decided(handle, alloc, &mut kept, request, now);
-    put(accepted, kept);
-    answer
+    with_held!(accepted, alloc, kept => decided(handle, alloc, &mut kept, request, now))
 }
 
 fn decided(
@@ -146,13 +138,32 @@ pub extern "C" fn fevstunik_acceptor_count(handle: &mut ServiceHandle, alloc: Gl
     let Some(state) = take(handle, alloc) else {
         return 0;
     };
-    let count = state.acceptor.memory().len();
+    let count = state.service.acceptor.memory().len();
     put(handle, state);
     count
 }
 
+/// Reads how much the service remembers, and its limits.
+#[unsafe(no_mangle)]
+pub extern "C" fn fevstunik_acceptor_usage(
+    handle: &mut ServiceHandle,
+    alloc: Global,
+    usage: &mut Usage,
+) -> Answer
+    ensures usage { MatchOption handle.old.value ((result ≡ plain empty_handle) × (usage.new ≡ usage.old))
+        (λ state. TellsUsage state usage.new result) }
+    ensures stays { handle.new.value ≡ handle.old.value }
+{
+    let Some(state) = take(handle, alloc) else {
+        return Answer::plain(code::EMPTY_HANDLE);
+    };
+    *usage = state.usage();
+    put(handle, state);
+    Answer::plain(code::OK)
+}
+
 /// Returns the latest moment that was given, if there is one. Calls that were answered with lack of
-/// memory or an invalid moment don't count.
+/// memory, a limit that is reached or an invalid moment don't count.
 #[unsafe(no_mangle)]
 pub extern "C" fn fevstunik_acceptor_latest(
     handle: &mut ServiceHandle,
@@ -163,12 +174,21 @@ pub extern "C" fn fevstunik_acceptor_latest(
         (λ state. TellsLatest (latest_of state) latest.old latest.new result) }
     ensures stays { handle.new.value ≡ handle.old.value }
 {
-    let Some(state) = take(handle, alloc) else {
-        return Answer::plain(code::EMPTY_HANDLE);
-    };
-    let answer = state.tell_latest(latest);
-    put(handle, state);
-    answer
+    with_held!(handle, alloc, state => state.tell_latest(latest))
+}
+
+/// Adds a realm to those of which `fevstunik_service_answer` lets clients in. A service that has none
+/// lets in clients of any realm, unless its options say otherwise.
+#[unsafe(no_mangle)]
+pub extern "C" fn fevstunik_acceptor_add_realm(
+    handle: &mut ServiceHandle,
+    alloc: Global,
+    realm: &[u8],
+) -> Answer
+    ensures { Turns handle.old.value handle.new.value (result ≡ plain empty_handle)
+        (λ old new. AddsRealm realm.now old new result) }
+{
+    with_held!(handle, alloc, state => state.add_realm(alloc, realm))
 }
 
 /// Frees what the handle holds.

@@ -1,10 +1,11 @@
 //! What a service is made with: its options, the keys of its keytab and the name that it serves.
 
-ghost use Rattle.std.specs.Prelude.{◌≡◌, ◌*◌, ◌↔◌, Contains, IfErr, IfOk, IsTrue, None, []};
+ghost use Rattle.std.specs.Prelude.{◌≡◌, ◌*◌, ◌↔◌, ◌<◌, ◌≤◌, Contains, IfErr, IfOk, IsTrue, None, Some, []};
+ghost use Rattle.std.specs.Option.{MatchOption};
 ghost use Rattle.krb_ap.specs.History.{StandsFor};
 ghost use Rattle.krb_c.specs.Accepting.{Serves};
 ghost use Rattle.krb_c.specs.Asking.{IsUnnamed};
-ghost use Rattle.krb_c.specs.Options.{IsInvalid, IsLateEnough, IsMade, IsStart, IsStartFault, IsUnmade, IsValid};
+ghost use Rattle.krb_c.specs.Options.{AreTerms, IsInvalid, IsLateEnough, IsMade, IsStart, IsStartFault, IsSubkeyType, IsTermsFault, IsUnmade, IsValid, client_limit_of, limit_of, rule_of, whole};
 ghost use Rattle.krb_c.specs.Renewing.{IsNamed, IsServed, IsUnusable};
 
 use crate::code;
@@ -14,17 +15,24 @@ use crate::service_state::ServiceState;
 use crate::structs::{AcceptorOptions, Answer};
 use krb_ap::Acceptor;
 use krb_keytab::Keytab;
+use krb_login::{Bindings, Realms, Service, Terms};
 use krb_msg::Moment;
-use krb_replay::{Skew, TimedMemory};
+use krb_replay::{LimitedMemory, Skew, TimedMemory};
 use std::alloc::Global;
 
-// The size of the options. A struct of another size belongs to another version of the header.
-const OPTIONS_SIZE: usize = 40;
+// The size of the options, and of those without terms. A struct of another size belongs to another
+// version of the header.
+const OPTIONS_SIZE: usize = 88;
+
+const FIRST_SIZE: usize = 56;
 
 // How repeats are refused across starts. The header has the numbers under the same names.
 const RESTART_STARTED: u32 = 1;
 
 const RESTART_FIRST_LIFE: u32 = 2;
+
+// The most requests that are remembered if the options don't say.
+const DEFAULT_LIMIT: usize = 1_000_000;
 
 // The first second of the year 2020. A time since the machine was started is earlier.
 const YEAR_2020: i64 = 1_577_836_800;
@@ -40,9 +48,14 @@ pub(crate) fn service_of(
     ensures fault { IfErr result (λ answer. IsUnmade options.now service.now keytab.now answer) }
 {
     let (skew, start) = options.setup(service)?;
+    let terms = options.terms(alloc)?;
     let keytab = served(alloc, keytab, service)?;
+    let (limit, limit_for_client) = (options.limit(), options.limit_for_client());
+    let memory = LimitedMemory::new(TimedMemory::new(alloc), limit, limit_for_client);
+    let acceptor = acceptor_of(keytab, skew, memory, start);
     let state = ServiceState {
-        acceptor: acceptor_of(alloc, keytab, skew, start),
+        service: Service { acceptor, terms },
+        subkey_type: options.subkey_type,
         refusal: None,
     };
     match Box::new(alloc, state) {
@@ -53,16 +66,16 @@ pub(crate) fn service_of(
 
 // A service of these entries that has seen nothing.
 fn acceptor_of(
-    alloc: Global,
     keytab: Keytab,
     skew: Skew,
+    memory: LimitedMemory<TimedMemory>,
     start: Option<Moment>,
-) -> Acceptor<TimedMemory>
+) -> Acceptor<LimitedMemory<TimedMemory>>
+    requires { memory.memory ≡ record { stamps = []; latest = None } }
     ensures setup { result.setup ≡ record { entries = keytab; skew = skew; start = start } }
-    ensures memory { result.memory ≡ record { stamps = []; latest = None } }
-    ensures stands { StandsFor result.setup (Contains result.memory.stamps) result.memory.latest [] }
+    ensures memory { result.memory ≡ memory }
+    ensures stands { StandsFor result.setup (Contains result.memory.memory.stamps) result.memory.memory.latest [] }
 {
-    let memory = TimedMemory::new(alloc);
     match start {
         Some(start) => Acceptor::started(keytab, skew, memory, start),
         None => Acceptor::new(keytab, skew, memory),
@@ -70,6 +83,66 @@ fn acceptor_of(
 }
 
 impl AcceptorOptions {
+    /// The options that these stand for: a shorter struct has no terms.
+    pub(crate) fn whole(&self) -> AcceptorOptions
+        ensures { result ≡ whole self.now }
+    {
+        if self.size != FIRST_SIZE {
+            return *self;
+        }
+        AcceptorOptions {
+            size: OPTIONS_SIZE,
+            started: self.started,
+            skew: self.skew,
+            restarts: self.restarts,
+            any_name: self.any_name,
+            any_start: self.any_start,
+            limit: self.limit,
+            limit_for_client: self.limit_for_client,
+            bindings: 0,
+            subkey_type: 0,
+            bindings_hash: [0; 16],
+            anonymous: false,
+            only_realms: false,
+        }
+    }
+
+    /// What a client that is let in must meet.
+    fn terms(&self, alloc: Global) -> Result<Terms, Answer>
+        ensures terms { IfOk result (AreTerms self.now) }
+        ensures fault { IfErr result (IsTermsFault self.now) }
+    {
+        let Some(bindings) = self.rule() else {
+            return Err(Answer::plain(code::BAD_BINDINGS));
+        };
+        if !is_subkey_type(self.subkey_type) {
+            return Err(Answer::plain(code::KEY_TYPE));
+        }
+        let realms = if self.only_realms {
+            Realms::Only(Vec::new(alloc))
+        } else {
+            Realms::Any
+        };
+        Ok(Terms {
+            anonymous: self.anonymous,
+            realms,
+            bindings,
+        })
+    }
+
+    // What becomes of a client's channel bindings.
+    fn rule(&self) -> Option<Bindings>
+        ensures { MatchOption result (2 < self.now.bindings)
+            (λ rule. (rule_of self.now.bindings self.now.bindings_hash ≡ Some rule) × (self.now.bindings ≤ 2)) }
+    {
+        match self.bindings {
+            0 => Some(Bindings::Ignored),
+            1 => Some(Bindings::IfSent(self.bindings_hash)),
+            2 => Some(Bindings::Required(self.bindings_hash)),
+            _ => None,
+        }
+    }
+
     /// The skew and the start, if the options are valid for a service of this name's text.
     fn setup(&self, service: &[u8]) -> Result<(Skew, Option<Moment>), Answer>
         ensures valid { IfOk result (λ setup. IsValid self.now service.now setup.1) }
@@ -108,11 +181,37 @@ impl AcceptorOptions {
         }
     }
 
+    // The most requests that are remembered.
+    fn limit(&self) -> usize
+        ensures { result ≡ limit_of self.now }
+    {
+        if self.limit == 0 {
+            return DEFAULT_LIMIT;
+        }
+        self.limit
+    }
+
+    // The most requests of one client that are remembered.
+    fn limit_for_client(&self) -> usize
+        ensures { result ≡ client_limit_of self.now }
+    {
+        if self.limit_for_client == 0 {
+            return (self.limit() / 10).max(1);
+        }
+        self.limit_for_client
+    }
+
     fn is_late_enough(&self) -> bool
         ensures { IsTrue result ↔ IsLateEnough self.now }
     {
         self.any_start || self.started.seconds >= YEAR_2020
     }
+}
+
+fn is_subkey_type(etype: u32) -> bool
+    ensures { IsTrue result ↔ IsSubkeyType etype }
+{
+    matches!(etype, 0 | 19 | 20)
 }
 
 /// Whether a name is given, or each name of the keytab is to be served.

@@ -1,10 +1,12 @@
 //! What a service's handle holds.
 
-ghost use Rattle.krb_c.specs.Answer.{plain, refused};
-ghost use Rattle.std.specs.Prelude.{None, Some, ◌≡◌};
+ghost use Rattle.krb_c.specs.Answer.{plain};
+ghost use Rattle.std.specs.Prelude.{IsTrue, List, None, Some, Err, ℕ, ◌≡◌, ◌↔◌, ◌⊎◌};
 ghost use Rattle.krb_ap.specs.Setup.{arrival};
-ghost use Rattle.krb_c.specs.Accepting.{Decides, TellsLatest, cleared, latest_of};
+ghost use Rattle.krb_c.specs.Accepting.{Decides, TellsLatest, TellsUsage, cleared, full_of, latest_of, told_of, with_refusal};
 ghost use Rattle.krb_c.specs.Codes.{ok};
+ghost use Rattle.krb_c.specs.Login.{AddsRealm, IsListed};
+ghost use Rattle.krb_login.specs.Terms.{IsOfRealms};
 ghost use Rattle.krb_c.specs.Refusing.{TellsError};
 ghost use Rattle.krb_c.specs.Renewing.{Renews};
 
@@ -13,16 +15,23 @@ use crate::answer::hand_over;
 use crate::code;
 use crate::error::error_of;
 use crate::service_options::{is_named, served};
-use crate::structs::{Answer, Time};
-use krb_ap::{Accepted, Acceptor, Refusal};
+use crate::structs::{Answer, Time, Usage};
+use krb_ap::{Accepted, Refusal};
+use krb_login::{Realms, Service};
 use krb_msg::Moment;
-use krb_replay::{ReplayMemory, TimedMemory};
+use krb_name::Bytes;
+use krb_replay::{LimitedMemory, ReplayMemory, TimedMemory};
 use std::alloc::Global;
+use std::mem::replace;
 
 /// A service that accepts requests, and why it refused the last one, if it did.
 #[derive(Drop)]
 pub struct ServiceState {
-    pub acceptor: Acceptor<TimedMemory>,
+    /// Decides, and has the terms that a login must meet.
+    pub service: Service<LimitedMemory<TimedMemory>>,
+    /// The encryption type of the subkey that a login's reply sends, or 0 for none.
+    pub subkey_type: u32,
+    /// Why the last request was refused that `fevstunik_acceptor_accept` was given.
     pub refusal: Option<Refusal>,
 }
 
@@ -37,14 +46,15 @@ impl ServiceState {
     ) -> Answer
         ensures { Decides self.old self.new (arrival bytes.now now) kept.new.accepted result }
     {
-        match self.acceptor.accept(alloc, bytes, now) {
+        let full = self.service.acceptor.memory().refused();
+        match self.service.acceptor.accept(alloc, bytes, now) {
             Ok(accepted) => self.keep(kept, accepted),
-            Err(refusal) => self.refuse(kept, refusal),
+            Err(refusal) => self.refuse(kept, refusal, full),
         }
     }
 
     fn keep(&mut self, kept: &mut AcceptedState, accepted: Accepted) -> Answer
-        ensures state { self.new ≡ record { acceptor = self.old.acceptor; refusal = None } }
+        ensures state { self.new ≡ with_refusal self.old None }
         ensures kept { kept.new ≡ record { accepted = Some accepted } }
         ensures answer { result ≡ plain ok }
     {
@@ -53,14 +63,20 @@ impl ServiceState {
         Answer::plain(code::OK)
     }
 
-    fn refuse(&mut self, kept: &mut AcceptedState, refusal: Refusal) -> Answer
-        ensures state { self.new ≡ record { acceptor = self.old.acceptor; refusal = Some refusal } }
+    // `full` is how many requests had been refused for a limit before this one.
+    fn refuse(&mut self, kept: &mut AcceptedState, refusal: Refusal, full: u64) -> Answer
+        ensures state { self.new ≡ with_refusal self.old (Some refusal) }
         ensures kept { kept.new ≡ record { accepted = None } }
-        ensures answer { result ≡ refused refusal }
+        ensures answer { result ≡ told_of full (full_of self.old) (Err refusal) }
     {
         kept.accepted = None;
         self.refusal = Some(refusal);
-        Answer::refused(&refusal)
+        match refusal {
+            Refusal::OutOfMemory if self.service.acceptor.memory().refused() != full => {
+                Answer::plain(code::FULL)
+            }
+            _ => Answer::refused(&refusal),
+        }
     }
 
     /// Discards why the last request was refused.
@@ -74,7 +90,7 @@ impl ServiceState {
     pub(crate) fn tell_latest(&self, latest: &mut Time) -> Answer
         ensures { TellsLatest (latest_of self.now) latest.old latest.new result }
     {
-        match self.acceptor.memory().latest() {
+        match self.service.acceptor.memory().latest() {
             Some(moment) => {
                 let (second, micros) = moment.parts();
                 *latest = Time {
@@ -84,6 +100,21 @@ impl ServiceState {
                 Answer::plain(code::OK)
             }
             None => Answer::plain(code::NOTHING_THERE),
+        }
+    }
+
+    /// Returns how much is remembered, and the limits.
+    pub(crate) fn usage(&self) -> Usage
+        ensures { TellsUsage self.now result (plain ok) }
+    {
+        let memory = self.service.acceptor.memory();
+        Usage {
+            remembered: memory.len(),
+            held: memory.memory().held(),
+            bytes: memory.memory().bytes(),
+            limit: memory.limit(),
+            limit_for_client: memory.limit_for_client(),
+            full: memory.refused() as usize,
         }
     }
 
@@ -122,10 +153,48 @@ impl ServiceState {
         }
         match served(alloc, keytab, service) {
             Ok(keytab) => {
-                let _old = self.acceptor.replace_keytab(keytab);
+                let _old = self.service.acceptor.replace_keytab(keytab);
                 Answer::plain(code::OK)
             }
             Err(answer) => answer,
+        }
+    }
+
+    /// Adds a realm to those whose clients are let in.
+    pub(crate) fn add_realm(&mut self, alloc: Global, realm: &[u8]) -> Answer
+        ensures { AddsRealm realm.now self.old self.new result }
+    {
+        let Ok(realm) = Bytes::from_slice(alloc, realm) else {
+            return Answer::plain(code::OUT_OF_MEMORY);
+        };
+        let realms = replace(&mut self.service.terms.realms, Realms::Any);
+        let (realms, is_added) = with_realm(alloc, realms, realm);
+        self.service.terms.realms = realms;
+        if is_added {
+            Answer::plain(code::OK)
+        } else {
+            Answer::plain(code::OUT_OF_MEMORY)
+        }
+    }
+}
+
+// The realms with one more, and whether there was memory for it.
+fn with_realm(alloc: Global, realms: Realms, realm: Bytes) -> (Realms, bool)
+    ensures added { IsTrue result.1
+        → (other : List ℕ) → IsOfRealms result.0 other ↔ ((other ≡ realm) ⊎ IsListed realms other) }
+    ensures no_room { ¬ IsTrue result.1 → (other : List ℕ) → IsOfRealms result.0 other ↔ IsOfRealms realms other }
+{
+    match realms {
+        Realms::Any => {
+            let mut list = Vec::new(alloc);
+            match list.push(realm) {
+                Ok(()) => (Realms::Only(list), true),
+                Err(_) => (Realms::Any, false),
+            }
+        }
+        Realms::Only(mut list) => {
+            let is_added = list.push(realm).is_ok();
+            (Realms::Only(list), is_added)
         }
     }
 }

@@ -12,7 +12,8 @@ ghost use Rattle.krb_c.specs.Accepting.{stamp_told};
 use crate::accepted_state::AcceptedState;
 use crate::answer::hand_over;
 use crate::code;
-use crate::handle::{AcceptedHandle, put, take};
+use crate::handle::with_held;
+use crate::handles::AcceptedHandle;
 use crate::structs::{Answer, Time};
 use krb_ap::Accepted;
 use krb_replay::{Skew, Tuple};
@@ -33,12 +34,7 @@ pub extern "C" fn fevstunik_accepted_stamp(
         (λ kept. TellsStamp kept.accepted skew keep_until.old keep_until.new buffer.old buffer.new result) }
     ensures stays { accepted.new.value ≡ accepted.old.value }
 {
-    let Some(kept) = take(accepted, alloc) else {
-        return Answer::plain(code::EMPTY_HANDLE);
-    };
-    let answer = tell_stamp(&kept, alloc, skew, keep_until, buffer);
-    put(accepted, kept);
-    answer
+    with_held!(accepted, alloc, kept => tell_stamp(&kept, alloc, skew, keep_until, buffer))
 }
 
 fn tell_stamp(
@@ -109,12 +105,7 @@ pub extern "C" fn fevstunik_accepted_start(
         (λ kept. TellsStart kept.accepted start.old start.new result) }
     ensures stays { accepted.new.value ≡ accepted.old.value }
 {
-    let Some(kept) = take(accepted, alloc) else {
-        return Answer::plain(code::EMPTY_HANDLE);
-    };
-    let answer = tell_start(&kept, start);
-    put(accepted, kept);
-    answer
+    with_held!(accepted, alloc, kept => tell_start(&kept, start))
 }
 
 fn tell_start(kept: &AcceptedState, start: &mut Time) -> Answer

@@ -200,10 +200,62 @@ pub struct Owner {
 #[repr(C)]
 #[derive(Clone, Copy)]
 pub struct Wrapped {
-    /// The mechanism by which the token names Kerberos: a fevstunik_mechanism, not NONE.
+    /// The mechanism by which the token names Kerberos: KERBEROS, WINDOWS or DRAFT.
     pub mechanism: u32,
-    /// The mechanism that a negotiation (SPNEGO) names first; NONE if there is no negotiation.
+    /// The mechanism that a negotiation (SPNEGO) names first; NONE if there is no negotiation;
+    /// NAMED in a later token.
     pub negotiated: u32,
+}
+
+/// The service's side of a negotiation: all zero before its first token.
+#[repr(C)]
+#[derive(Clone, Copy)]
+pub struct Negotiation {
+    /// 0 before the first token, 1 if the client was asked for its token, 2 if it is over.
+    pub stage: u32,
+    /// In stage 1: the mechanism that the client named first; else NONE.
+    pub asked: u32,
+}
+
+/// What a service says in a negotiation without a token of Kerberos.
+#[repr(C)]
+#[derive(Clone, Copy)]
+pub struct Verdict {
+    /// A fevstunik_says.
+    pub says: u32,
+    /// The mechanism that it names. COMPLETED names the negotiation's first one in the first answer
+    /// to a client, and none later. INCOMPLETE names one, and REJECTED none: NONE.
+    pub mechanism: u32,
+}
+
+/// What a KRB-ERROR says (RFC 4120, section 5.9.1). The spans are places in the buffer of the call.
+#[repr(C)]
+#[derive(Clone, Copy)]
+pub struct KrbError {
+    /// The service as text, such as host/web@EX.
+    pub service: Span,
+    /// The client as text, if the error has its name and realm.
+    pub client: Span,
+    /// A text for people, if any.
+    pub text: Span,
+    /// More about the error, if any.
+    pub data: Span,
+    /// The service's time.
+    pub stime: Time,
+    /// The client's time in the request, if any: the seconds, and the microseconds or 0.
+    pub ctime: Time,
+    /// What went wrong (RFC 4120, section 7.5.9).
+    pub code: i32,
+    /// The type of the service's name.
+    pub service_type: i32,
+    /// Whether there is a client.
+    pub has_client: bool,
+    /// Whether there is a text.
+    pub has_text: bool,
+    /// Whether there are data.
+    pub has_data: bool,
+    /// Whether there is the client's time.
+    pub has_ctime: bool,
 }
 
 /// What a GSS-API client asks for. The spans are places in the buffer that the call was given.
@@ -234,7 +286,9 @@ pub struct ContextChoice {
     pub bindings: [u8; 16],
 }
 
-/// What a service is made with.
+/// What a service is made with. The fields after `limit_for_client` count for
+/// fevstunik_service_answer alone. A size of 56, that of a struct without them, is valid too: they
+/// are 0 then.
 #[repr(C)]
 #[derive(Clone, Copy)]
 pub struct AcceptorOptions {
@@ -250,4 +304,55 @@ pub struct AcceptorOptions {
     pub any_name: bool,
     /// Whether a start before the year 2020 is meant.
     pub any_start: bool,
+    /// The most requests that it remembers; 0 stands for 1,000,000.
+    pub limit: usize,
+    /// The most of one client; 0 stands for a tenth of the limit, but at least 1.
+    pub limit_for_client: usize,
+    /// A fevstunik_bindings.
+    pub bindings: u32,
+    /// The encryption type of the subkey that a reply sends: 19, 20, or 0 for no subkey.
+    pub subkey_type: u32,
+    /// The MD5 hash of the channel's bindings (RFC 4121, section 4.1.1.2).
+    pub bindings_hash: [u8; 16],
+    /// Whether anonymous clients are let in (RFC 8062).
+    pub anonymous: bool,
+    /// Whether only clients of the realms that fevstunik_acceptor_add_realm adds are let in.
+    pub only_realms: bool,
+}
+
+/// What a request asks for. Nothing of it is sealed, so it proves nothing. The span is a place in
+/// the buffer of the call.
+#[repr(C)]
+#[derive(Clone, Copy)]
+pub struct Asked {
+    /// The service that its ticket is for, as text, such as host/web@EX.
+    pub service: Span,
+    /// The encryption type that the ticket is sealed with.
+    pub etype: i32,
+    /// The version number of the key that it is sealed with, or 0.
+    pub kvno: u32,
+    /// The type of the service's name.
+    pub service_type: i32,
+    /// Whether the ticket has a version number.
+    pub has_kvno: bool,
+    /// Whether the client asks for a reply.
+    pub wants_reply: bool,
+}
+
+/// What a service remembers, and how much it may.
+#[repr(C)]
+#[derive(Clone, Copy)]
+pub struct Usage {
+    /// How many requests are remembered.
+    pub remembered: usize,
+    /// The same, with those that are forgotten and aren't freed yet.
+    pub held: usize,
+    /// About how many bytes they take.
+    pub bytes: usize,
+    /// The most requests that it remembers.
+    pub limit: usize,
+    /// The most of one client.
+    pub limit_for_client: usize,
+    /// How many requests were answered with FEVSTUNIK_FULL.
+    pub full: usize,
 }

@@ -1,11 +1,11 @@
 //! Tokens of GSS-API, in which clients send a request and services answer it.
 
-ghost use Rattle.krb_c.specs.Tokens.{OpensToken, foreign_code, mechanism_number, token_answer, wrapped_of};
+ghost use Rattle.krb_c.specs.Tokens.{OpensToken, foreign_code, later_of, mechanism_number, token_answer, wrapped_of};
 ghost use Rattle.std.specs.Prelude.{IfErr, IfOk, ◌≡◌};
 ghost use Rattle.krb_c.specs.TokenAnswers.{OpensAnswer, says_error};
 ghost use Rattle.krb_gss.specs.Answer.{message_of};
 ghost use Rattle.krb_c.specs.Answer.{Delivers};
-ghost use Rattle.krb_c.specs.Wrapping.{IsNoWrapping, IsWrapFault, WrapsAnswer, WrapsRequest, answer_sizes, as_error, as_reply, request_sizes};
+ghost use Rattle.krb_c.specs.Wrapping.{IsNoLater, IsNoWrapping, IsRequestFault, IsUnanswered, WrapsAnswer, WrapsRequest, as_error, as_reply};
 ghost use Rattle.std.specs.Option.{MatchOption};
 
 use crate::answer::hand_over;
@@ -13,7 +13,7 @@ use crate::code;
 use crate::structs::{Answer, Wrapped};
 use krb_gss::{
     Foreign, Mechanism, Opened, TokenFault, WrapFault, Wrapping, open_answer, open_token,
-    wrap_answer, wrap_request,
+    wrap_answer, wrap_later, wrap_request,
 };
 use std::alloc::Global;
 
@@ -36,7 +36,7 @@ pub extern "C" fn fevstunik_token_open(
     }
 }
 
-fn wrapped_of(opened: &Opened) -> Wrapped
+pub(crate) fn wrapped_of(opened: &Opened) -> Wrapped
     ensures { result ≡ wrapped_of opened.now.wrapping opened.now.mechanism }
 {
     Wrapped {
@@ -48,12 +48,13 @@ fn wrapped_of(opened: &Opened) -> Wrapped
     }
 }
 
-fn number_of(mechanism: Mechanism) -> u32
+pub(crate) fn number_of(mechanism: Mechanism) -> u32
     ensures { result ≡ mechanism_number mechanism }
 {
     match mechanism {
         Mechanism::Kerberos => 1,
         Mechanism::Microsoft => 2,
+        Mechanism::Draft => 3,
     }
 }
 
@@ -95,6 +96,8 @@ pub(crate) fn token_told(fault: TokenFault) -> Answer
         TokenFault::OtherMechanism(foreign, at) => Answer::placed(code_of(foreign), at),
         TokenFault::NoToken(at) => Answer::placed(code::TOKEN_EMPTY, at),
         TokenFault::TokenId(at) => Answer::placed(code::TOKEN_ID, at),
+        TokenFault::Unframed(at) => Answer::placed(code::TOKEN_UNFRAMED, at),
+        TokenFault::Ended => Answer::plain(code::NEGOTIATION_OVER),
     }
 }
 
@@ -117,7 +120,7 @@ pub extern "C" fn fevstunik_token_request(
     request: &[u8],
     buffer: &mut [u8],
 ) -> Answer
-    ensures { Delivers (WrapsRequest wrapped.now request.now) (IsWrapFault wrapped.now (request_sizes request.now)) buffer.old buffer.new result }
+    ensures { Delivers (WrapsRequest wrapped.now request.now) (IsRequestFault wrapped.now request.now) buffer.old buffer.new result }
 {
     match request_wrapped(alloc, wrapped, request) {
         Ok(token) => hand_over(token.as_slice(), buffer),
@@ -127,7 +130,7 @@ pub extern "C" fn fevstunik_token_request(
 
 fn request_wrapped(alloc: Global, wrapped: &Wrapped, request: &[u8]) -> Result<Vec<u8>, Answer>
     ensures token { IfOk result (λ token. WrapsRequest wrapped.now request.now token.items) }
-    ensures fault { IfErr result (IsWrapFault wrapped.now (request_sizes request.now)) }
+    ensures fault { IfErr result (IsRequestFault wrapped.now request.now) }
 {
     let Some((wrapping, mechanism)) = wrapping_of(wrapped) else {
         return Err(Answer::plain(code::BAD_MECHANISM));
@@ -147,7 +150,7 @@ pub extern "C" fn fevstunik_token_reply(
     reply: &[u8],
     buffer: &mut [u8],
 ) -> Answer
-    ensures { Delivers (WrapsAnswer wrapped.now (as_reply reply.now)) (IsWrapFault wrapped.now (answer_sizes (as_reply reply.now))) buffer.old buffer.new result }
+    ensures { Delivers (WrapsAnswer wrapped.now (as_reply reply.now)) (IsUnanswered wrapped.now (as_reply reply.now)) buffer.old buffer.new result }
 {
     match answer_wrapped(alloc, wrapped, krb_gss::Answer::Reply(reply)) {
         Ok(token) => hand_over(token.as_slice(), buffer),
@@ -163,7 +166,7 @@ pub extern "C" fn fevstunik_token_error(
     error: &[u8],
     buffer: &mut [u8],
 ) -> Answer
-    ensures { Delivers (WrapsAnswer wrapped.now (as_error error.now)) (IsWrapFault wrapped.now (answer_sizes (as_error error.now))) buffer.old buffer.new result }
+    ensures { Delivers (WrapsAnswer wrapped.now (as_error error.now)) (IsUnanswered wrapped.now (as_error error.now)) buffer.old buffer.new result }
 {
     match answer_wrapped(alloc, wrapped, krb_gss::Answer::Error(error)) {
         Ok(token) => hand_over(token.as_slice(), buffer),
@@ -177,8 +180,11 @@ fn answer_wrapped(
     answer: krb_gss::Answer<'_>,
 ) -> Result<Vec<u8>, Answer>
     ensures token { IfOk result (λ token. WrapsAnswer wrapped.now (message_of answer.entry) token.items) }
-    ensures fault { IfErr result (IsWrapFault wrapped.now (answer_sizes (message_of answer.entry))) }
+    ensures fault { IfErr result (IsUnanswered wrapped.now (message_of answer.entry)) }
 {
+    if let Some(mechanism) = later_mechanism_of(wrapped) {
+        return later_wrapped(alloc, mechanism, answer);
+    }
     let Some((wrapping, mechanism)) = wrapping_of(wrapped) else {
         return Err(Answer::plain(code::BAD_MECHANISM));
     };
@@ -189,14 +195,43 @@ fn answer_wrapped(
     }
 }
 
-fn mechanism_of(number: u32) -> Option<Mechanism>
+/// The answer to a later token, whose mechanism this is.
+fn later_wrapped(
+    alloc: Global,
+    mechanism: Mechanism,
+    answer: krb_gss::Answer<'_>,
+) -> Result<Vec<u8>, Answer>
+    ensures token { IfOk result (λ token. WrapsAnswer (later_of mechanism) (message_of answer.entry) token.items) }
+    ensures fault { IfErr result (IsUnanswered (later_of mechanism) (message_of answer.entry)) }
+{
+    match wrap_later(alloc, mechanism, answer) {
+        Ok(token) => Ok(token),
+        Err(WrapFault::TooLong) => Err(Answer::plain(code::TOO_LONG)),
+        Err(WrapFault::OutOfMemory) => Err(Answer::plain(code::OUT_OF_MEMORY)),
+    }
+}
+
+pub(crate) fn mechanism_of(number: u32) -> Option<Mechanism>
     ensures { MatchOption result ((mechanism : Mechanism) → number ≡ mechanism_number mechanism → ⊥) (λ mechanism. number ≡ mechanism_number mechanism) }
 {
     match number {
         1 => Some(Mechanism::Kerberos),
         2 => Some(Mechanism::Microsoft),
+        3 => Some(Mechanism::Draft),
         _ => None,
     }
+}
+
+/// The number in place of a mechanism that an earlier answer named.
+pub(crate) const NAMED: u32 = 100;
+
+fn later_mechanism_of(wrapped: &Wrapped) -> Option<Mechanism>
+    ensures { MatchOption result (IsNoLater wrapped.now) (λ mechanism. wrapped.now ≡ later_of mechanism) }
+{
+    if wrapped.negotiated == NAMED {
+        return mechanism_of(wrapped.mechanism);
+    }
+    None
 }
 
 fn wrapping_of(wrapped: &Wrapped) -> Option<(Wrapping, Mechanism)>

@@ -35,7 +35,7 @@ IsSent (Some envelope) answer bytes = WritesAnswer envelope.wrapping envelope.me
 -- that token would be too long
 abbrev pub IsSentTooLong : Option Envelope → Answer → Type 0
 IsSentTooLong None answer = ⊥
-IsSentTooLong (Some envelope) answer = limit < answer_size envelope.wrapping (length (bytes_of answer))
+IsSentTooLong (Some envelope) answer = limit < answer_size envelope.wrapping envelope.mechanism (length (bytes_of answer))
 
 -- the text is what is sent, in hexadecimal
 pub record TellsAnswer (envelope : Option Envelope) (answer : Answer) (text : List ℕ) : Type 0 where

@@ -34,6 +34,8 @@ token_text token.Response = (codes "Response", 0)
 token_text (token.OtherMechanism mechanism at) = (foreign_name mechanism, at)
 token_text (token.NoToken at) = (codes "NoToken", at)
 token_text (token.TokenId at) = (codes "TokenId", at)
+token_text (token.Unframed at) = (codes "Unframed", at)
+token_text token.Ended = (codes "Ended", 0)
 
 -- `bad token FAULT at OFFSET`
 abbrev pub bad_token_line : TokenFault → List ℕ

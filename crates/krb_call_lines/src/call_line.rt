@@ -134,40 +134,25 @@ fn rest_of(alloc: Global, text: &[u8]) -> Result<Option<ToldRest>, AllocError>
     ensures none { result ≡ Ok None → (bytes : List ℕ) (confounder : Option (List ℕ)) → SpellsRest text.now bytes confounder → ⊥ }
 {
     let Some((message, digits)) = cut_at(SPACE, text) else {
-        return message_alone(alloc, text);
+        return message_with(alloc, text, None);
     };
     match confounder_of(digits) {
-        Some(confounder) => message_with(alloc, message, confounder),
+        Some(confounder) => message_with(alloc, message, Some(confounder)),
         None => Ok(None),
     }
 }
 
-fn message_alone(alloc: Global, text: &[u8]) -> Result<Option<ToldRest>, AllocError>
-    ensures found { IfOk result (λ told. IfSome told (λ rest. SpellsMessage text.now rest.bytes.items × (rest.confounder ≡ None))) }
-    ensures none { result ≡ Ok None → (bytes : List ℕ) → SpellsMessage text.now bytes → ⊥ }
-{
-    match message_of(alloc, text)? {
-        Some(bytes) => Ok(Some(ToldRest {
-            bytes,
-            confounder: None,
-        })),
-        None => Ok(None),
-    }
-}
-
+// A message, and the confounder that stands after it.
 fn message_with(
     alloc: Global,
     text: &[u8],
-    confounder: [u8; 16],
+    confounder: Option<[u8; 16]>,
 ) -> Result<Option<ToldRest>, AllocError>
-    ensures found { IfOk result (λ told. IfSome told (λ rest. SpellsMessage text.now rest.bytes.items × (rest.confounder ≡ Some confounder))) }
+    ensures found { IfOk result (λ told. IfSome told (λ rest. SpellsMessage text.now rest.bytes.items × (rest.confounder ≡ confounder))) }
     ensures none { result ≡ Ok None → (bytes : List ℕ) → SpellsMessage text.now bytes → ⊥ }
 {
     match message_of(alloc, text)? {
-        Some(bytes) => Ok(Some(ToldRest {
-            bytes,
-            confounder: Some(confounder),
-        })),
+        Some(bytes) => Ok(Some(ToldRest { bytes, confounder })),
         None => Ok(None),
     }
 }

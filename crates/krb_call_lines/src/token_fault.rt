@@ -26,6 +26,8 @@ fn token_text(fault: &TokenFault) -> (&'static str, usize)
         TokenFault::OtherMechanism(foreign, at) => (foreign_name(*foreign), *at),
         TokenFault::NoToken(at) => ("NoToken", *at),
         TokenFault::TokenId(at) => ("TokenId", *at),
+        TokenFault::Unframed(at) => ("Unframed", *at),
+        TokenFault::Ended => ("Ended", 0),
     }
 }
 

@@ -1,43 +1,17 @@
 //! Causes and faults: their texts, and the errors that tell of them.
 
+use crate::cause_list::{BREACHES, CAUSES, CUT};
 use crate::names::{moment, name};
 use krb_ap::{FinishFault, Refusal, ReplyFault, RequestFault, error_reply};
-use krb_msg::{Fault, FaultKind};
+use krb_login::{Breach, Cause};
 use krb_words::{Answer, Words};
-
-// What is malformed is cut off at the byte 7.
-const CUT: Fault = Fault {
-    kind: FaultKind::Truncated,
-    at: 7,
-};
-
-static CAUSES: [Refusal; 19] = [
-    Refusal::MessageType,
-    Refusal::Malformed(CUT),
-    Refusal::UserToUser,
-    Refusal::TicketEtype,
-    Refusal::NotUs,
-    Refusal::NoKey,
-    Refusal::BadKeyVersion,
-    Refusal::TicketIntegrity,
-    Refusal::SessionKey,
-    Refusal::AuthenticatorIntegrity,
-    Refusal::BadMatch,
-    Refusal::Skew,
-    Refusal::JustStarted,
-    Refusal::Repeat,
-    Refusal::NotYetValid,
-    Refusal::Expired,
-    Refusal::Transited,
-    Refusal::Authorization,
-    Refusal::OutOfMemory,
-];
 
 /// Answers a call that takes a cause or a fault.
 pub(crate) fn answer(first: &str, words: &mut Words, out: &mut Answer) -> Option<()> {
     match first {
         "error" => error(words, out),
         "cause" => show_cause(cause(words)?, out),
+        "breach" => show_breach(breach(words)?, out),
         "fault" => fault(words, out),
         _ => None,
     }
@@ -72,6 +46,25 @@ fn show_cause(cause: &Refusal, out: &mut Answer) -> Option<()> {
     out.shown_or_none(cause.code())?;
     out.word(cause.name())?;
     out.shown(*cause)
+}
+
+// The breach of that name.
+fn breach(words: &mut Words) -> Option<Breach> {
+    let name = words.next()?;
+    for breach in &BREACHES {
+        if breach.name() == name {
+            return Some(*breach);
+        }
+    }
+    None
+}
+
+fn show_breach(breach: Breach, out: &mut Answer) -> Option<()> {
+    let cause = Cause::Breached(breach);
+    out.shown(breach.place())?;
+    out.shown_or_none(cause.code())?;
+    out.word(breach.name())?;
+    out.shown(cause)
 }
 
 fn fault(words: &mut Words, out: &mut Answer) -> Option<()> {

@@ -34,6 +34,7 @@
 //! tuple until NAME NAME TIME SKEW       until when a shared store keeps the tuple, or `none`
 //! skew SECONDS                          its microseconds, or `none`
 //! cause CAUSE                           place, code and name of a cause, and its text
+//! breach BREACH                         the same of a breach
 //! fault request|finish|reply FAULT      the text of a fault
 //! laws                                  calls the laws, which do nothing
 //! ```
@@ -41,9 +42,11 @@
 //! With the arguments `call CALL` it reads no line, but makes one call twice (`twice`), for the tests that refuse memory.
 #![tactic(auto)]
 
+mod cause_list;
 mod causes;
 mod clients;
 mod given;
+mod logins;
 mod memories;
 mod messages;
 mod names;
@@ -52,6 +55,7 @@ mod twice;
 
 use krb_ap::Initiator;
 use krb_words::{Answer, Calls, Words, answer_lines};
+use logins::Logins;
 use memories::Memory;
 use messages::Messages;
 use services::Served;
@@ -65,6 +69,7 @@ struct Kept {
     initiator: Option<Initiator>,
     messages: Messages,
     memory: Option<Memory>,
+    logins: Option<Logins>,
 }
 
 fn main(rt: HostRuntime) -> ExitCode {
@@ -101,6 +106,7 @@ impl Calls for Kept {
             initiator: None,
             messages: Messages::new(alloc),
             memory: None,
+            logins: None,
         }
     }
 
@@ -113,7 +119,12 @@ impl Calls for Kept {
             "cache" | "request" | "initiate" | "finish" => {
                 clients::answer(&mut self.initiator, &mut self.messages, first, words, out)
             }
-            "error" | "cause" | "fault" => causes::answer(first, words, out),
+            "logins" => {
+                self.logins = Some(logins::start(words, out)?);
+                Some(())
+            }
+            "login" | "next" => logins::answer(self.logins.as_mut()?, first, words, out),
+            "error" | "cause" | "breach" | "fault" => causes::answer(first, words, out),
             "laws" => laws(out),
             _ => memories::answer(&mut self.memory, first, words, out),
         }
@@ -132,6 +143,10 @@ fn laws(out: &mut Answer) -> Option<()> {
     krb_ap::laws::a_store_lets_in_once();
     krb_ap::laws::built_is_let_in();
     krb_ap::laws::both_agree();
+    krb_login::laws::only_by_right();
+    krb_login::laws::answers_that();
+    krb_login::laws::shows_what_is_open();
+    krb_login::laws::completed_if_let_in();
     krb_replay::laws::a_set_has_one_size();
     krb_replay::laws::bytes_are_the_stamps();
     out.word("laws")

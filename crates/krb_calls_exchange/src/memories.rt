@@ -2,15 +2,16 @@
 
 use crate::names::{moment, name};
 use krb_msg::Moment;
-use krb_replay::{ListMemory, ReplayMemory, Skew, TimedMemory, Tuple};
+use krb_replay::{LimitedMemory, ListMemory, ReplayMemory, Skew, TimedMemory, Tuple};
 use krb_words::{Answer, Words};
 use std::alloc::Global;
 
-/// Either memory.
+/// Either memory, or one with limits.
 #[derive(Drop)]
 pub(crate) enum Memory {
     List(ListMemory),
     Timed(TimedMemory),
+    Limited(LimitedMemory<TimedMemory>),
 }
 
 /// Answers a call of the memory, or of its parts.
@@ -23,23 +24,52 @@ pub(crate) fn answer(
     match first {
         "memory" => {
             *memory = None;
-            *memory = Some(new_memory(words.alloc, words.next()?)?);
+            *memory = Some(new_memory(words)?);
             out.word("memory")
         }
         "tuple" => of_tuple(words, out),
         "skew" => out.shown_or_none(Skew::new(words.uint32()?).map(Skew::micros)),
         _ => match memory.as_mut()? {
             Memory::List(memory) => call(memory, first, words, out),
-            Memory::Timed(memory) => call(memory, first, words, out),
+            Memory::Timed(memory) => match first {
+                "taken" => out.shown(memory.held()),
+                "bytes" => out.shown(memory.bytes()),
+                _ => call(memory, first, words, out),
+            },
+            Memory::Limited(memory) => call_limited(memory, first, words, out),
         },
     }
 }
 
-fn new_memory(alloc: Global, kind: &str) -> Option<Memory> {
-    match kind {
+fn new_memory(words: &mut Words) -> Option<Memory> {
+    let alloc: Global = words.alloc;
+    match words.next()? {
         "list" => Some(Memory::List(ListMemory::new(alloc))),
         "timed" => Some(Memory::Timed(TimedMemory::new(alloc))),
+        "limited" => {
+            let (limit, of_client) = (words.uint32()? as usize, words.uint32()? as usize);
+            let memory = LimitedMemory::new(TimedMemory::new(alloc), limit, of_client);
+            Some(Memory::Limited(memory))
+        }
         _ => None,
+    }
+}
+
+fn call_limited(
+    memory: &mut LimitedMemory<TimedMemory>,
+    first: &str,
+    words: &mut Words,
+    out: &mut Answer,
+) -> Option<()> {
+    match first {
+        "limits" => {
+            out.shown(memory.limit())?;
+            out.shown(memory.limit_for_client())
+        }
+        "refused" => out.shown(memory.refused()),
+        "full" => out.truth(memory.is_full(&tuple(words)?)),
+        "taken" => out.shown(memory.memory().held()),
+        _ => call(memory, first, words, out),
     }
 }
 
@@ -60,10 +90,28 @@ fn call<M: ReplayMemory>(
             memory.advance(moment, Skew::new(words.uint32()?)?);
             out.word("ok")
         }
+        "expect" => {
+            let moment = moment(words)?;
+            memory.expect(moment, Skew::new(words.uint32()?)?);
+            out.word("ok")
+        }
+        "at-least" => out.truth(memory.has_at_least(
+            None,
+            words.uint32()? as usize,
+            micros(words)?,
+        )),
+        "at-least-of" => {
+            let (count, oldest) = (words.uint32()? as usize, micros(words)?);
+            out.truth(memory.has_at_least(Some(&tuple(words)?), count, oldest))
+        }
         "len" => out.shown(memory.len()),
         "latest" => show_latest(memory.latest(), out),
         _ => None,
     }
+}
+
+fn micros(words: &mut Words) -> Option<i64> {
+    Some(moment(words)?.micros())
 }
 
 fn show_latest(latest: Option<Moment>, out: &mut Answer) -> Option<()> {

@@ -111,7 +111,8 @@ pub(crate) fn show_raw_key(key: &Option<RawKey>, out: &mut Answer) -> Option<()>
     }
 }
 
-fn show_pair(kind: i32, bytes: &[u8], out: &mut Answer) -> Option<()> {
+/// Shows bytes after the number of their type.
+pub(crate) fn show_pair(kind: i32, bytes: &[u8], out: &mut Answer) -> Option<()> {
     out.shown(kind)?;
     out.put("/")?;
     out.put_bytes(bytes)

@@ -2,7 +2,9 @@
 
 use crate::memories::show_memory;
 use crate::messages::Messages;
-use crate::names::{key_or_none, moment, show_key, show_list, show_name, show_raw_key, show_typed};
+use crate::names::{
+    key_or_none, moment, show_key, show_list, show_name, show_pair, show_raw_key, show_typed,
+};
 use krb_ap::{Accepted, Acceptor, Call, Outcome, Refusal, ReplyOptions};
 use krb_keytab::Keytab;
 use krb_msg::{Moment, Seconds};
@@ -168,6 +170,7 @@ fn show_accepted(accepted: &Accepted, out: &mut Answer) -> Option<()> {
 fn show_of_ticket(accepted: &Accepted, out: &mut Answer) -> Option<()> {
     show_key(&accepted.session_key, out)?;
     out.shown(accepted.flags.bits())?;
+    show_pair(accepted.transited.kind, &accepted.transited.bytes, out)?;
     out.shown(accepted.authtime.get())?;
     out.shown_or_none(accepted.starttime.map(Seconds::get))?;
     out.shown(accepted.endtime.get())?;

@@ -1,6 +1,6 @@
 //! Elements of DER: reading, writing, and the values that they hold.
 
-use crate::{cursors, own_types, shapes, values, writers};
+use crate::{cursors, shapes, values, writers};
 use krb_words::{Answer, Words};
 
 /// ```text
@@ -8,8 +8,6 @@ use krb_words::{Answer, Words};
 /// der cursor BYTES STEP..        what each step answers (`cursors`)
 /// der write STEP..               the bytes that the steps write (`writers`)
 /// der encoded KIND VALUE..       the bytes of a value, or the fault (`writers`)
-/// der sample BYTES               the fields of a message whose type is this program's, and its bytes as they are written again
-/// der name BYTES                 the fields of a message whose list is this program's
 /// der seconds|microseconds|flags|flag|has|fault|encode-fault|shown ..       (`values`)
 /// ```
 pub(crate) fn answer(words: &mut Words, out: &mut Answer) -> Option<()> {
@@ -18,8 +16,6 @@ pub(crate) fn answer(words: &mut Words, out: &mut Answer) -> Option<()> {
         "cursor" => cursors::walk(words, out),
         "write" => writers::write(words, out),
         "encoded" => writers::encoded_value(words, out),
-        "sample" => own_types::answer_sample(words, out),
-        "name" => own_types::answer_name(words, out),
         call => values::answer(call, words, out),
     }
 }

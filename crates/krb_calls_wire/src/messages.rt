@@ -4,12 +4,13 @@ ghost use Rattle.std.specs.Prelude.{◌≡◌, ◌↔◌, ◌/◌, ◌%◌, ◌^
 ghost use Rattle.krb_msg.specs.Fields.{reply_fields};
 ghost use Rattle.krb_msg.specs.Owned.{owned_enc_ap_rep_part_of};
 
+use crate::field_words::{show_components, show_list_or_none};
+use crate::taken::enc_ap_rep;
+use crate::types::{self, Type, type_of};
 use crate::writers::show;
-use crate::{fields, views};
 use krb_msg::{
-    ApRepRef, ApReqRef, AuthenticatorRef, EncApRepPart, EncApRepRef, EncTicketRef, EncodeFault,
-    Flags, INVALID, KrbErrorRef, MUTUAL_REQUIRED, Microseconds, Moment, Seconds,
-    TRANSITED_POLICY_CHECKED, TicketRef, USE_SESSION_KEY, laws,
+    AuthenticatorRef, EncApRepPart, EncodeFault, Flags, INVALID, MUTUAL_REQUIRED, Microseconds,
+    Moment, Seconds, TRANSITED_POLICY_CHECKED, TicketRef, USE_SESSION_KEY, laws,
 };
 use krb_words::{Answer, Words};
 use std::alloc::Global;
@@ -30,12 +31,12 @@ use std::cmp::Ordering;
 pub(crate) fn answer(words: &mut Words, out: &mut Answer) -> Option<()> {
     match words.next()? {
         "parse" => {
-            let kind = words.next()?;
-            parse(kind, &words.bytes()?, out)
+            let of = type_of(words)?;
+            types::parse(of, &words.bytes()?, out)
         }
         "again" => {
-            let kind = words.next()?;
-            again(words.alloc, kind, &words.bytes()?, out)
+            let of = type_of(words)?;
+            types::again(words.alloc, of, &words.bytes()?, out)
         }
         "write" => write(words, out),
         "walk" => walk(words, out),
@@ -48,145 +49,15 @@ pub(crate) fn answer(words: &mut Words, out: &mut Answer) -> Option<()> {
     }
 }
 
-fn parse(kind: &str, bytes: &[u8], out: &mut Answer) -> Option<()> {
-    match kind {
-        "ticket" => match TicketRef::parse(bytes) {
-            Ok(view) => views::ticket(&view, out),
-            Err(fault) => out.shown(fault),
-        },
-        "enc-ticket" => match EncTicketRef::parse(bytes) {
-            Ok(view) => views::enc_ticket(&view, out),
-            Err(fault) => out.shown(fault),
-        },
-        "ap-req" => match ApReqRef::parse(bytes) {
-            Ok(view) => views::ap_req(&view, out),
-            Err(fault) => out.shown(fault),
-        },
-        "authenticator" => match AuthenticatorRef::parse(bytes) {
-            Ok(view) => views::authenticator(&view, out),
-            Err(fault) => out.shown(fault),
-        },
-        _ => parse_other(kind, bytes, out),
-    }
-}
-
-fn parse_other(kind: &str, bytes: &[u8], out: &mut Answer) -> Option<()> {
-    match kind {
-        "ap-rep" => match ApRepRef::parse(bytes) {
-            Ok(view) => views::ap_rep(&view, out),
-            Err(fault) => out.shown(fault),
-        },
-        "enc-ap-rep" => match EncApRepRef::parse(bytes) {
-            Ok(view) => views::enc_ap_rep(&view, out),
-            Err(fault) => out.shown(fault),
-        },
-        "krb-error" => match KrbErrorRef::parse(bytes) {
-            Ok(view) => views::krb_error(&view, out),
-            Err(fault) => out.shown(fault),
-        },
-        _ => None,
-    }
-}
-
-fn again(alloc: Global, kind: &str, bytes: &[u8], out: &mut Answer) -> Option<()> {
-    match kind {
-        "ticket" => again_ticket(alloc, bytes, out),
-        "enc-ticket" => again_enc_ticket(alloc, bytes, out),
-        "ap-req" => again_ap_req(alloc, bytes, out),
-        "authenticator" => again_authenticator(alloc, bytes, out),
-        "ap-rep" => again_ap_rep(alloc, bytes, out),
-        "enc-ap-rep" => again_enc_ap_rep(alloc, bytes, out),
-        "krb-error" => again_krb_error(alloc, bytes, out),
-        _ => None,
-    }
-}
-
-fn again_ticket(alloc: Global, bytes: &[u8], out: &mut Answer) -> Option<()> {
-    match TicketRef::parse(bytes) {
-        Ok(view) => match view.to_owned(alloc) {
-            Ok(copy) => show(copy.encode(alloc), out),
-            Err(_) => out.word("OutOfMemory"),
-        },
-        Err(fault) => out.shown(fault),
-    }
-}
-
-fn again_enc_ticket(alloc: Global, bytes: &[u8], out: &mut Answer) -> Option<()> {
-    match EncTicketRef::parse(bytes) {
-        Ok(view) => match view.to_owned(alloc) {
-            Ok(copy) => show(copy.encode(alloc), out),
-            Err(_) => out.word("OutOfMemory"),
-        },
-        Err(fault) => out.shown(fault),
-    }
-}
-
-fn again_ap_req(alloc: Global, bytes: &[u8], out: &mut Answer) -> Option<()> {
-    match ApReqRef::parse(bytes) {
-        Ok(view) => match view.to_owned(alloc) {
-            Ok(copy) => show(copy.encode(alloc), out),
-            Err(_) => out.word("OutOfMemory"),
-        },
-        Err(fault) => out.shown(fault),
-    }
-}
-
-fn again_authenticator(alloc: Global, bytes: &[u8], out: &mut Answer) -> Option<()> {
-    match AuthenticatorRef::parse(bytes) {
-        Ok(view) => match view.to_owned(alloc) {
-            Ok(copy) => show(copy.encode(alloc), out),
-            Err(_) => out.word("OutOfMemory"),
-        },
-        Err(fault) => out.shown(fault),
-    }
-}
-
-fn again_ap_rep(alloc: Global, bytes: &[u8], out: &mut Answer) -> Option<()> {
-    match ApRepRef::parse(bytes) {
-        Ok(view) => match view.to_owned(alloc) {
-            Ok(copy) => show(copy.encode(alloc), out),
-            Err(_) => out.word("OutOfMemory"),
-        },
-        Err(fault) => out.shown(fault),
-    }
-}
-
-fn again_enc_ap_rep(alloc: Global, bytes: &[u8], out: &mut Answer) -> Option<()> {
-    match EncApRepRef::parse(bytes) {
-        Ok(view) => match view.to_owned(alloc) {
-            Ok(copy) => show(copy.encode(alloc), out),
-            Err(_) => out.word("OutOfMemory"),
-        },
-        Err(fault) => out.shown(fault),
-    }
-}
-
-fn again_krb_error(alloc: Global, bytes: &[u8], out: &mut Answer) -> Option<()> {
-    match KrbErrorRef::parse(bytes) {
-        Ok(view) => match view.to_owned(alloc) {
-            Ok(copy) => show(copy.encode(alloc), out),
-            Err(_) => out.word("OutOfMemory"),
-        },
-        Err(fault) => out.shown(fault),
-    }
-}
-
 fn write(words: &mut Words, out: &mut Answer) -> Option<()> {
-    let alloc = words.alloc;
-    match words.next()? {
-        "ticket" => show(fields::ticket(words)?.encode(alloc), out),
-        "enc-ticket" => show(fields::enc_ticket(words)?.encode(alloc), out),
-        "ap-req" => show(fields::ap_req(words)?.encode(alloc), out),
-        "authenticator" => show(fields::authenticator(words)?.encode(alloc), out),
-        "ap-rep" => show(fields::ap_rep(words)?.encode(alloc), out),
-        "enc-ap-rep" => write_reply(words, out),
-        "krb-error" => show(fields::krb_error(words)?.encode(alloc), out),
-        _ => None,
+    match type_of(words)? {
+        Type::EncApRep => write_reply(words, out),
+        of => types::write(of, words, out),
     }
 }
 
 fn write_reply(words: &mut Words, out: &mut Answer) -> Option<()> {
-    let mut part = fields::enc_ap_rep(words)?;
+    let mut part = enc_ap_rep(words)?;
     match part.subkey.take() {
         Some(key) => {
             part.subkey = Some(key);
@@ -230,14 +101,14 @@ fn walk(words: &mut Words, out: &mut Answer) -> Option<()> {
         "ticket" => {
             let bytes = words.bytes()?;
             let view = TicketRef::parse(&bytes).ok()?;
-            views::components(&view.sname, out)?;
-            views::components(&view.sname, out)
+            show_components(&view.sname, out)?;
+            show_components(&view.sname, out)
         }
         "authenticator" => {
             let bytes = words.bytes()?;
             let view = AuthenticatorRef::parse(&bytes).ok()?;
-            views::list(&view.authorization, out)?;
-            views::list(&view.authorization, out)
+            show_list_or_none(&view.authorization, out)?;
+            show_list_or_none(&view.authorization, out)
         }
         _ => None,
     }

@@ -157,14 +157,14 @@ fn options<'a>(cursor: &mut Cursor<'a>, out: &mut Answer) -> Option<bool> {
     }
 }
 
-pub(crate) fn show_number(number: Option<i64>, out: &mut Answer) -> Option<()> {
+fn show_number(number: Option<i64>, out: &mut Answer) -> Option<()> {
     match number {
         Some(number) => out.shown(number),
         None => out.word("none"),
     }
 }
 
-pub(crate) fn show_octets(octets: Option<Octets>, out: &mut Answer) -> Option<()> {
+fn show_octets(octets: Option<Octets>, out: &mut Answer) -> Option<()> {
     match octets {
         Some(octets) => out.bytes(octets.0),
         None => out.word("none"),

@@ -1,8 +1,9 @@
 //! Tokens of the GSS-API.
 
 use krb_gss::{
-    Answer as ServiceAnswer, Answered, Checksum, ContextFlag, ContextFlags, Mechanism, Opened,
-    Wrapping, open_answer, open_token, wrap_answer, wrap_request,
+    Answer as ServiceAnswer, Answered, Checksum, ContextFlag, ContextFlags, Mechanism, Negotiation,
+    Opened, Taken, Verdict, Wrapping, open_answer, open_token, read_verdict, wrap_answer,
+    wrap_later, wrap_request, wrap_verdict,
 };
 use krb_words::{Answer, Words, bytes_of};
 use std::fmt::Display;
@@ -16,7 +17,7 @@ const FLAGS: [ContextFlag; 6] = [
     ContextFlag::Integrity,
 ];
 
-/// A NAME of Kerberos is `Kerberos` or `Microsoft`. A call that fails is answered `refused` and the fault's text.
+/// A NAME of Kerberos is `Kerberos`, `Microsoft` or `Draft`. A call that fails is answered `refused` and the fault's text.
 ///
 /// ```text
 /// gss open BYTES       the first token of a client: `bare NAME REQUEST`, or `negotiated NAME NAME REQUEST`, first the name in the list
@@ -26,6 +27,13 @@ const FLAGS: [ContextFlag; 6] = [
 /// gss answer IN NAME (reply|error) BYTES
 ///                      the service's answer, likewise
 /// gss answered BYTES   what such an answer holds: `bare NAME` or `negotiated NAME NAME`, then `reply` or `error`, and the message
+/// gss take BYTES ..    what a negotiation does with the client's tokens, in order: for each `first` and what `open` answers, `asks NAME`,
+///                      `later NAME REQUEST` or `refused` and the fault's text; after a comma the next
+/// gss later NAME (reply|error) BYTES
+///                      the service's answer to a later token
+/// gss said (completed [NAME]|incomplete NAME|rejected)
+///                      the service's answer without a token
+/// gss verdict BYTES    what such an answer says: `completed`, `incomplete` or `rejected`, and the NAME if there is one; or `none`
 /// gss checksum BYTES   an authenticator's checksum: `FLAGS BINDINGS DELEGATION EXTENSIONS` and the names of the flags that are set; the
 ///                      delegation is `none` if there is none
 /// gss encode FLAGS BINDINGS DELEGATION EXTENSIONS
@@ -40,6 +48,10 @@ pub(crate) fn answer(words: &mut Words, out: &mut Answer) -> Option<()> {
         "request" => request(words, out),
         "answer" => answer_of_service(words, out),
         "answered" => answered(words, out),
+        "take" => take(words, out),
+        "later" => later(words, out),
+        "said" => said(words, out),
+        "verdict" => verdict(words, out),
         "checksum" => checksum(words, out),
         "encode" => encode(words, out),
         "bindings" => bindings(words, out),
@@ -55,6 +67,7 @@ fn mechanism_of(name: &str) -> Option<Mechanism> {
     match name {
         "Kerberos" => Some(Mechanism::Kerberos),
         "Microsoft" => Some(Mechanism::Microsoft),
+        "Draft" => Some(Mechanism::Draft),
         _ => None,
     }
 }
@@ -124,6 +137,80 @@ fn answer_of_service(words: &mut Words, out: &mut Answer) -> Option<()> {
     let bytes = words.bytes()?;
     let answer = service_answer(kind, &bytes)?;
     show_token(wrap_answer(words.alloc, wrapping, mechanism, answer), out)
+}
+
+fn take(words: &mut Words, out: &mut Answer) -> Option<()> {
+    let mut negotiation = Negotiation::Begun;
+    for _ in 0..u64::MAX {
+        let Some(word) = words.next() else {
+            break;
+        };
+        let bytes = bytes_of(words.alloc, word)?;
+        match negotiation.take(&bytes) {
+            Ok(taken) => show_taken(taken, out)?,
+            Err(fault) => refused(fault, out)?,
+        }
+    }
+    Some(())
+}
+
+fn show_taken(taken: Taken, out: &mut Answer) -> Option<()> {
+    match taken {
+        Taken::First(opened) => {
+            out.word("first")?;
+            show_opened(opened, out)
+        }
+        Taken::Asks(first) => {
+            out.word("asks")?;
+            out.named(first)
+        }
+        Taken::Later(later) => {
+            out.word("later")?;
+            out.named(later.mechanism)?;
+            out.bytes(later.request)
+        }
+    }
+}
+
+fn later(words: &mut Words, out: &mut Answer) -> Option<()> {
+    let mechanism = mechanism(words)?;
+    let kind = words.next()?;
+    let bytes = words.bytes()?;
+    let answer = service_answer(kind, &bytes)?;
+    show_token(wrap_later(words.alloc, mechanism, answer), out)
+}
+
+fn said(words: &mut Words, out: &mut Answer) -> Option<()> {
+    let verdict = match words.next()? {
+        "completed" => Verdict::Completed(match words.next() {
+            Some(name) => Some(mechanism_of(name)?),
+            None => None,
+        }),
+        "incomplete" => Verdict::Incomplete(mechanism(words)?),
+        "rejected" => Verdict::Rejected,
+        _ => return None,
+    };
+    match wrap_verdict(words.alloc, verdict) {
+        Ok(token) => out.bytes(&token),
+        Err(_) => out.word("memory"),
+    }
+}
+
+fn verdict(words: &mut Words, out: &mut Answer) -> Option<()> {
+    match read_verdict(&words.bytes()?) {
+        Some(Verdict::Completed(name)) => show_said("completed", name, out),
+        Some(Verdict::Incomplete(name)) => show_said("incomplete", Some(name), out),
+        Some(Verdict::Rejected) => out.word("rejected"),
+        None => out.word("none"),
+    }
+}
+
+fn show_said(word: &str, name: Option<Mechanism>, out: &mut Answer) -> Option<()> {
+    out.word(word)?;
+    match name {
+        Some(name) => out.named(name),
+        None => Some(()),
+    }
 }
 
 fn service_answer<'a>(kind: &str, bytes: &'a [u8]) -> Option<ServiceAnswer<'a>> {

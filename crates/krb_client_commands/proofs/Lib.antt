@@ -1,2 +1,2 @@
-pub mod FaultLaws
 pub mod RequestLaws
+pub mod FinishLaws

@@ -1,12 +1,12 @@
 -- What the program prints of a fault of a client's command: its name, and its offset in bytes if it has one.
-use Rattle.std.specs.Prelude.{Some, None, codes}
+use Rattle.std.specs.Prelude.{ℕ, List, Some, None, codes}
 use Rattle.krb_ap.specs.declared.request_fault.RequestFault.{RequestFault}
 use Rattle.krb_ap.specs.declared.request_fault.RequestFault.TheVariants as request
 use Rattle.krb_ap.specs.declared.finish_fault.FinishFault.{FinishFault}
 use Rattle.krb_ap.specs.declared.finish_fault.FinishFault.TheVariants as finish
 use Rattle.krb_file_commands.specs.FaultText.{FaultText, cache_text}
 use Rattle.krb_client_commands.specs.declared.fault.ClientFault.{ClientFault}
-use Rattle.krb_client_commands.specs.declared.fault.ClientFault.TheVariants.{Cache, Request, Finish, Write, OutOfMemory}
+use Rattle.krb_client_commands.specs.declared.fault.ClientFault.TheVariants.{Cache, Request, Finish, OutOfMemory}
 
 abbrev pub request_text : RequestFault → FaultText
 request_text request.NoCredential = (codes "NoCredential", None)
@@ -27,5 +27,11 @@ abbrev pub text_of : ClientFault → FaultText
 text_of (Cache fault) = cache_text fault
 text_of (Request fault) = request_text fault
 text_of (Finish fault) = finish_text fault
-text_of Write = (codes "Write", None)
 text_of OutOfMemory = (codes "OutOfMemory", None)
+
+-- what a fault is of, by the names of a file and of a command
+abbrev pub subject_of : ClientFault → List ℕ → List ℕ → List ℕ
+subject_of (Cache _) file command = file
+subject_of (Request _) file command = codes "request"
+subject_of (Finish _) file command = codes "finish"
+subject_of OutOfMemory file command = command

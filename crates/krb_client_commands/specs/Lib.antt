@@ -1,5 +1,5 @@
 pub mod Status
-pub mod Engine
 pub mod FaultText
 pub mod Requesting
 pub mod Finishing
+pub mod Words

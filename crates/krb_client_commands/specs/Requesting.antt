@@ -1,18 +1,22 @@
 -- What `request` prints: a request, or a token of GSS-API that holds it.
-use Rattle.std.specs.Prelude.{◌≡◌, ◌<◌, ℕ, Bool, List, [], ◌∷◌, ◌++◌, Option, Some, None, codes, length, replicate}
+use Rattle.std.specs.Prelude.{◌≡◌, ◌<◌, ⊤, ℕ, Bool, List, [], ◌∷◌, ◌++◌, Option, Some, None, codes, length, replicate}
 use Rattle.hex.specs.Hex.{encode_lower}
+use Rattle.krb_ccache.specs.Format.{IsCache, IsFaultOf}
 use Rattle.krb_ccache.specs.Value.{Cache}
 use Rattle.krb_der.specs.Spells.{limit}
 use Rattle.krb_gss.specs.Token.{IsToken}
 use Rattle.krb_gss.specs.Wrapping.{WritesRequest, request_size}
-use Rattle.krb_gss.specs.declared.mechanism.Mechanism.TheVariants.{Kerberos, Microsoft}
+use Rattle.krb_gss.specs.declared.mechanism.Mechanism.TheVariants.{Kerberos, Microsoft, Draft}
 use Rattle.krb_gss.specs.declared.opening.Wrapping.{Wrapping}
 use Rattle.krb_gss.specs.declared.opening.Wrapping.TheVariants.{Bare, Negotiated}
-use Rattle.krb_ap.specs.Request.{Awaited, IsRequest, Prevents}
+use Rattle.krb_ap.specs.Request.{Awaited, HasGoodTicket, IsRequest, Prevents}
 use Rattle.krb_ap.specs.declared.request.ContextRequest.{ContextRequest}
 use Rattle.krb_ap.specs.declared.request.RequestOptions.{RequestOptions}
 use Rattle.krb_ap.specs.declared.request_fault.RequestFault.{RequestFault}
-use Rattle.krb_ap.specs.declared.request_fault.RequestFault.TheVariants.{TooLong}
+use Rattle.krb_ap.specs.declared.request_fault.RequestFault.TheVariants.{OutOfMemory, TooLong}
+use Rattle.krb_file_commands.specs.Engine.{OfFile}
+use Rattle.krb_client_commands.specs.declared.fault.ClientFault.{ClientFault}
+use Rattle.krb_client_commands.specs.declared.fault.ClientFault.TheVariants as of
 use Rattle.krb_client_commands.specs.declared.request.Asked.{Asked}
 
 -- what the program chooses: whether a reply is asked for, and neither a subkey nor a sequence number
@@ -70,8 +74,28 @@ pub data IsUnprinted (cache : Cache) (asked : Asked) (fault : RequestFault) : Ty
 abbrev pub request_line : List ℕ → List ℕ
 request_line bytes = encode_lower bytes ++ 10 ∷ []
 
+-- the line is made of the cache
+pub record IsRequestLine (cache : Cache) (asked : Asked) (line : List ℕ) : Type 0 where
+  pub bytes : List ℕ
+  pub asked_for : IsAskedFor cache asked bytes
+  pub line_is : line ≡ request_line bytes
+
+-- why nothing is made of a file with these bytes
+abbrev pub IsUnrequested : Asked → List ℕ → ClientFault → Type 0
+IsUnrequested asked given (of.Cache fault) = IsFaultOf given fault
+IsUnrequested asked given (of.Request fault) = (cache : Cache) × (IsCache given cache × IsUnprinted cache asked fault)
+IsUnrequested asked given _ = ⊥
+
+-- memory for the request or its token is asked for only once a credential is chosen and its ticket was read, and for the line once they are made
+abbrev pub AllowsUnrequested : Asked → Option (List ℕ) → ClientFault → Type 0
+AllowsUnrequested asked from (of.Cache fault) = ⊤
+AllowsUnrequested asked from (of.Request fault) = fault ≡ OutOfMemory → OfFile IsCache from (λ cache. HasGoodTicket cache asked.service asked.at)
+AllowsUnrequested asked from (of.Finish fault) = ⊥
+AllowsUnrequested asked from of.OutOfMemory = OfFile IsCache from (λ cache. (bytes : List ℕ) × IsAskedFor cache asked bytes)
+
 -- the word for a token: one of Kerberos alone, or in a negotiation that names Kerberos
 abbrev pub IsTokenWord : List ℕ → Wrapping → Type 0
 IsTokenWord word Bare = word ≡ codes "gss"
 IsTokenWord word (Negotiated Kerberos) = word ≡ codes "spnego"
 IsTokenWord word (Negotiated Microsoft) = ⊥
+IsTokenWord word (Negotiated Draft) = ⊥

@@ -1,14 +1,13 @@
 //! Why a client's command ended early, what the program says of it, and its exit status.
 
 ghost use Rattle.std.specs.Prelude.{◌≡◌};
-ghost use Rattle.krb_client_commands.specs.FaultText.{request_text, finish_text, text_of};
+ghost use Rattle.krb_client_commands.specs.FaultText.{request_text, finish_text, subject_of, text_of};
 ghost use Rattle.krb_client_commands.specs.Status.{status_of};
-ghost use Rattle.krb_client_commands.specs.declared.fault.ClientFault.TheVariants.{Cache, Request, Finish, Write, OutOfMemory};
+ghost use Rattle.krb_client_commands.specs.declared.fault.ClientFault.TheVariants.{Cache, Request, Finish, OutOfMemory};
 
 use krb_ap::{FinishFault, RequestFault};
 use krb_ccache::CacheFault;
-use krb_file_commands::{FAILED, Failure, FailureText, FileFault, REFUSED};
-use krb_name::SinkFailed;
+use krb_file_commands::{FAILED, Failure, FailureText, REFUSED};
 use std::alloc::AllocError;
 
 /// Why a client's command ended early.
@@ -18,11 +17,9 @@ pub enum ClientFault {
     Cache(CacheFault),
     /// No request is built with the credential cache, or memory ran out for it.
     Request(RequestFault),
-    /// The reply is refused, or there was no room for it.
+    /// The reply is refused, or memory ran out for it.
     Finish(FinishFault),
-    /// The sink couldn't be written.
-    Write,
-    /// There was no room, other than for the credential cache, the request or the reply.
+    /// There is no memory for the line.
     OutOfMemory,
 }
 
@@ -50,14 +47,6 @@ impl From<FinishFault> for ClientFault {
     }
 }
 
-impl From<SinkFailed> for ClientFault {
-    ghost from_gives = { λ _ fault. fault ≡ Write };
-
-    fn from(_: SinkFailed) -> ClientFault {
-        ClientFault::Write
-    }
-}
-
 impl From<AllocError> for ClientFault {
     ghost from_gives = { λ _ fault. fault ≡ OutOfMemory };
 
@@ -71,23 +60,24 @@ impl Failure for ClientFault {
 
     ghost exit_status = { status_of };
 
+    ghost subject = { subject_of };
+
     fn text(&self) -> FailureText {
         match self {
-            ClientFault::Cache(fault) => FileFault::Cache(*fault).text(),
+            ClientFault::Cache(fault) => fault.text(),
             ClientFault::Request(fault) => request_text(fault),
             ClientFault::Finish(fault) => finish_text(fault),
-            ClientFault::Write => ("Write", None),
             ClientFault::OutOfMemory => ("OutOfMemory", None),
         }
     }
 
     fn status(&self) -> u8 {
         match self {
-            ClientFault::Cache(fault) => FileFault::Cache(*fault).status(),
+            ClientFault::Cache(fault) => fault.status(),
             ClientFault::Request(RequestFault::OutOfMemory) => FAILED,
             ClientFault::Finish(FinishFault::OutOfMemory) => FAILED,
             ClientFault::Request(_) | ClientFault::Finish(_) => REFUSED,
-            ClientFault::Write | ClientFault::OutOfMemory => FAILED,
+            ClientFault::OutOfMemory => FAILED,
         }
     }
 
@@ -96,7 +86,6 @@ impl Failure for ClientFault {
             ClientFault::Cache(_) => file,
             ClientFault::Request(_) => "request",
             ClientFault::Finish(_) => "finish",
-            ClientFault::Write => "output",
             ClientFault::OutOfMemory => command,
         }
     }

@@ -1,31 +1,26 @@
 //! The engine of `request`, and the words that it reads.
 
-ghost use Rattle.std.specs.Prelude.{◌≡◌, ◌≢◌, ◌⊎◌, ◌+◌, ◌-◌, ◌^◌, ◌<◌, ℕ, List, Some, None, Err, length, IfOk, IfErr, IfSome, IsErrOf, OnOk, OnErr, string_bytes};
-ghost use Rattle.std.specs.Io.KnownBytes.{Appends, Keeps};
-ghost use Rattle.krb_name.specs.File.{TakesFile};
-ghost use Rattle.krb_name.specs.Flow.{AppendsBeginning};
-ghost use Rattle.krb_ccache.specs.Format.{IsCache, IsFaultOf};
-ghost use Rattle.krb_ccache.specs.Value.{Cache};
-ghost use Rattle.krb_ccache.specs.declared.fault.CacheFault.{CacheFault};
+ghost use Rattle.std.specs.Prelude.{◌≡◌, ◌≢◌, ◌<◌, ◌≤◌, ℕ, List, None, length, IfOk, IfErr, IfSome, IsErrOf, OnOk, string_bytes};
+ghost use Rattle.krb_ccache.specs.Format.{IsCache};
 ghost use Rattle.krb_der.specs.Spells.{limit};
 ghost use Rattle.krb_gss.specs.Wrapping.{request_size};
 ghost use Rattle.krb_gss.specs.declared.opening.Wrapping.{Wrapping};
 ghost use Rattle.krb_ap.specs.Request.{HasGoodTicket};
-ghost use Rattle.krb_ap.specs.declared.request_fault.RequestFault.{RequestFault};
 ghost use Rattle.krb_ap.specs.declared.request_fault.RequestFault.TheVariants.{OutOfMemory};
 ghost use Rattle.krb_call_lines.specs.CallLine.{SpellsConfounder};
 ghost use Rattle.krb_file_commands.specs.Engine.{OfFile};
-ghost use Rattle.krb_client_commands.specs.Engine.{IsOfRequest, cache_fault, request_fault, FailsWithCache, failed_reads, failed_writes};
-ghost use Rattle.krb_client_commands.specs.Requesting.{IsAskedFor, IsRequested, IsTokenOf, IsTokenWord, IsUnprinted, PreventsAsked, chosen_options, plain_context, request_line};
+ghost use Rattle.krb_client_commands.specs.Requesting.{AllowsUnrequested, IsAskedFor, IsRequested, IsRequestLine, IsTokenOf, IsTokenTooLong, IsTokenWord, IsUnprinted, IsUnrequested, PreventsAsked, chosen_options, plain_context, request_line};
+ghost use Rattle.krb_client_commands.specs.Status.{client_reads};
 
 use crate::fault::ClientFault;
 use krb_ap::laws::built_or_prevented;
 use krb_ap::{ContextRequest, RequestFault, RequestOptions, make_request};
 use krb_call_lines::confounder_of;
 use krb_ccache::CCache;
+use krb_file_commands::Product;
 use krb_gss::{Mechanism, WrapFault, Wrapping, wrap_request};
 use krb_msg::Moment;
-use krb_name::{Principal, Sink, Source, write_all};
+use krb_name::{Principal, Source};
 use std::alloc::{AllocError, Global};
 
 /// Reads a confounder: 16 bytes in hexadecimal. `None` unless there are 32 digits, of either case, and nothing else.
@@ -50,6 +45,11 @@ pub fn read_wrapping(word: &str) -> Option<Wrapping>
 }
 
 /// What is asked of a credential cache.
+///
+/// `request` makes a request with the cache, as `make_request` does, or the token that holds it, as a line of lower-case hexadecimal
+/// digits. The request has no subkey. In a token it has the sequence number 0 and the checksum that GSS-API asks for (RFC 4121, section
+/// 4.1.1), with the flag of a reply if one is asked for; otherwise it has neither. The token is that of `wrap_request`, and gives
+/// Kerberos its own name.
 #[derive(Drop)]
 pub struct Asked {
     /// The service that the request is for.
@@ -64,101 +64,35 @@ pub struct Asked {
     pub wrapping: Option<Wrapping>,
 }
 
-/// Builds a request with a credential cache, as `make_request` does, and writes it, or the token that holds it, as a line of lower-case
-/// hexadecimal digits.
-///
-/// The request has no subkey. In a token it has the sequence number 0 and the checksum that GSS-API asks for (RFC 4121, section 4.1.1), with
-/// the flag of a reply if one is asked for; otherwise it has neither. The token is that of `wrap_request`, and gives Kerberos its own name. The whole
-/// source is read and the request built before anything is written, so a fault of the content leaves the sink as it was.
-///
-/// # Errors
-/// - `Cache`: what was read is no credential cache, or couldn't be read, or there was no room for it.
-/// - `Request`: no request is built with it, the token would have more than 1,048,576 bytes, or there was no room for them.
-/// - `Write`: the sink failed; it took a beginning of the line.
-/// - `OutOfMemory`: there was no room for the line.
-///
-/// Condition: fewer than 18,446,744,073,709,551,615 reads and writes have failed so far.
-pub fn request_line<S: Source, T: Sink>(
-    alloc: Global,
-    source: &mut S,
-    sink: &mut T,
-    asked: &Asked,
-) -> Result<(), ClientFault>
-    requires source { S.failure_count source.old < 2 ^ 64 - 1 }
-    requires sink { T.failure_count sink.old < 2 ^ 64 - 1 }
-    ensures requested { OnOk result (OfFile IsCache (S.remaining source.old) (λ cache.
-        (bytes : List ℕ) × (IsAskedFor cache asked.now bytes
-        × Appends (T.taken sink.old) (T.taken sink.new) (request_line bytes)))) }
+impl Product for Asked {
+    type Fault = ClientFault;
 
-    // A fault of the content is the file's own, and is answered wherever the file has it; or it says why nothing is printed, and nothing
-    // is requested wherever something prevents the request.
-    ensures fault { IfErr result (λ e. IfSome (cache_fault e) (λ fault.
-        IfSome (S.remaining source.old) (λ bytes. IsFaultOf bytes fault))) }
-    ensures faulty { (bytes : List ℕ) (fault : CacheFault)
-        → S.remaining source.old ≡ Some bytes → IsFaultOf bytes fault → FailsWithCache result fault }
-    ensures prevented { IfErr result (λ e. IfSome (request_fault e) (λ fault.
-        OfFile IsCache (S.remaining source.old) (λ cache. IsUnprinted cache asked.now fault))) }
-    ensures none { (bytes : List ℕ) (cache : Cache) (fault : RequestFault)
-        → S.remaining source.old ≡ Some bytes → IsCache bytes cache
-        → PreventsAsked cache asked.now fault → OnOk result ⊥ }
+    ghost makes = { λ asked from line. OfFile IsCache from (λ cache. IsRequestLine cache asked line) };
 
-    // Memory for the request or its token is asked for only once a credential is chosen and its ticket was read.
-    ensures memory { result ≡ Err (ClientFault.Request OutOfMemory) → OfFile IsCache (S.remaining source.old) (λ cache.
-        HasGoodTicket cache asked.now.service asked.now.at) }
+    ghost faults = { IsUnrequested };
 
-    // If there is no request, the sink is unchanged; after any other fault it took a prefix of the line.
-    ensures unread { (fault : CacheFault) → result ≡ Err (ClientFault.Cache fault)
-        → Keeps (T.taken sink.old) (T.taken sink.new) }
-    ensures unmade { (fault : RequestFault) → result ≡ Err (ClientFault.Request fault)
-        → Keeps (T.taken sink.old) (T.taken sink.new) }
-    ensures begun { (result ≡ Err ClientFault.Write) ⊎ (result ≡ Err ClientFault.OutOfMemory)
-        → OfFile IsCache (S.remaining source.old) (λ cache.
-        (bytes : List ℕ) × (IsAskedFor cache asked.now bytes
-        × AppendsBeginning (T.taken sink.old) (T.taken sink.new) (request_line bytes))) }
-    ensures kind { IfErr result IsOfRequest }
-    ensures reads { S.failure_count source.new ≡ S.failure_count source.old + failed_reads result }
-    ensures taken { TakesFile (S.remaining source.old) (S.remaining source.new) }
-    ensures writes { T.failure_count sink.new ≡ T.failure_count sink.old + failed_writes result }
-{
-    let cache = CCache::read(alloc, source)?;
-    write_request(alloc, &cache, sink, asked)
-}
+    ghost allows = { AllowsUnrequested };
 
-fn write_request<T: Sink>(
-    alloc: Global,
-    cache: &CCache,
-    sink: &mut T,
-    asked: &Asked,
-) -> Result<(), ClientFault>
-    requires { T.failure_count sink.old < 2 ^ 64 - 1 }
-    ensures requested { OnOk result ((bytes : List ℕ) × (IsAskedFor cache.now asked.now bytes
-        × Appends (T.taken sink.old) (T.taken sink.new) (request_line bytes))) }
-    ensures prevented { IfErr result (λ e. IfSome (request_fault e) (λ fault. IsUnprinted cache.now asked.now fault)) }
-    ensures none { (fault : RequestFault) → PreventsAsked cache.now asked.now fault → OnOk result ⊥ }
-    ensures memory { result ≡ Err (ClientFault.Request OutOfMemory) → HasGoodTicket cache.now asked.now.service asked.now.at }
-    ensures unmade { (fault : RequestFault) → result ≡ Err (ClientFault.Request fault)
-        → Keeps (T.taken sink.old) (T.taken sink.new) }
-    ensures begun { (result ≡ Err ClientFault.Write) ⊎ (result ≡ Err ClientFault.OutOfMemory)
-        → (bytes : List ℕ) × (IsAskedFor cache.now asked.now bytes
-        × AppendsBeginning (T.taken sink.old) (T.taken sink.new) (request_line bytes)) }
-    ensures kind { IfErr result (λ e. (fault : CacheFault) → e ≡ ClientFault.Cache fault → ⊥) }
-    ensures reads { failed_reads result ≡ 0 }
-    ensures which { IfErr result IsOfRequest }
-    ensures writes { T.failure_count sink.new ≡ T.failure_count sink.old + failed_writes result }
-{
-    built_or_prevented();
-    let bytes = printed_bytes(alloc, cache, asked)?;
-    let line = line_of(alloc, &bytes)?;
-    write_all(sink, line.as_bytes())?;
-    Ok(())
+    ghost failed_reads = { client_reads };
+
+    fn make<S: Source>(&self, alloc: Global, source: &mut S) -> Result<Vec<u8>, ClientFault> {
+        krb_ccache::laws::each_file_has_one_answer();
+        built_or_prevented();
+        let cache = CCache::read(alloc, source)?;
+        let bytes = printed_bytes(alloc, &cache, self)?;
+        let line = line_of(alloc, &bytes)?;
+        Ok(line.into_bytes())
+    }
 }
 
 // The bytes that are printed: the request, or the token that holds it.
 fn printed_bytes(alloc: Global, cache: &CCache, asked: &Asked) -> Result<Vec<u8>, RequestFault>
     ensures bytes { IfOk result (λ bytes. IsAskedFor cache.now asked.now bytes.items) }
+    ensures fits { OnOk result (IsTokenTooLong cache.now asked.now → ⊥) }
     ensures fault { IfErr result (λ fault. fault ≢ OutOfMemory → IsUnprinted cache.now asked.now fault) }
     ensures memory { IsErrOf result OutOfMemory → HasGoodTicket cache.now asked.now.service asked.now.at }
 {
+    built_or_prevented();
     let request = requested(alloc, cache, asked)?;
     match asked.wrapping {
         Some(wrapping) => token_of(alloc, wrapping, &request),
@@ -217,6 +151,7 @@ fn plain_context() -> ContextRequest
 // The token that holds the request.
 fn token_of(alloc: Global, wrapping: Wrapping, request: &[u8]) -> Result<Vec<u8>, RequestFault>
     ensures token { IfOk result (λ token. IsTokenOf wrapping request.now token.items) }
+    ensures fits { OnOk result (request_size wrapping (length request.now) ≤ limit) }
     ensures fault { IfErr result (λ fault. fault ≢ OutOfMemory
         → (fault ≡ RequestFault.TooLong) × (limit < request_size wrapping (length request.now))) }
 {

@@ -1,17 +1,17 @@
 -- What clap's definition of a simple command asks of krbtool, what an argument is that needs another, and how the rows of a
 -- table are taken one by one.
-use Rattle.std.proofs.Common.{◌≡◌, ◌&&◌, ◌||◌, ◌<◌, ◌+◌, ℕ, Bool, true, false, not, List, [], ◌∷◌, ◌++◌, Result, Ok, Err, drop, fold, get_or, length, map, refl, ap, sym, ◌∙◌, arith}
+use Rattle.std.proofs.Common.{◌≡◌, ◌&&◌, ◌<◌, ◌+◌, ℕ, Bool, true, false, not, List, [], ◌∷◌, ◌++◌, Result, Ok, Err, drop, fold, get_or, length, map, refl, ap, sym, ◌∙◌, arith}
 use Rattle.std.specs.Prelude.{IfOk}
 use Rattle.std.specs.Borrow.{Bor}
 use Rattle.std.proofs.lemmas.Bool.{ne_eqb}
 use Rattle.std.proofs.lemmas.List.{at_drop_more, length-append}
 use Rattle.clap.specs.Adds.{AddsRequirements}
 use Rattle.clap.specs.Walk.{is_empty}
-use Rattle.clap.specs.Words.{App, app_of, is_simple, rule_of}
+use Rattle.clap.specs.Words.{is_simple, rule_of}
 use Rattle.clap.specs.declared.builder.arg.Arg.{Arg}
 use Rattle.clap.specs.declared.builder.arg.ArgPredicate.{ArgPredicate}
-use Rattle.clap.specs.declared.builder.command.Command.{Command}
-use Rattle.krb_command_line.specs.CommandLine.{bare, commands, krbtool, needing_another, with_command}
+use Rattle.krb_command_line.specs.Arguments.{needing_another}
+use Rattle.krb_command_line.specs.CommandLine.{krbtool}
 
 pub krbtool_is_simple : is_simple krbtool ≡ true
 unfolding krbtool
@@ -41,14 +41,3 @@ pub one_more : {A B C : Type 0} (f : B → A → B) (g : C → A) (rows : List C
 one_more {A} {B} {C} f g rows i d old new inside is =
     ap (λ (b : B). fold f b (map g (drop (i + 1) rows))) is
     ∙ sym (at_drop_more (λ (rest : List C). fold f old (map g rest)) rows i d inside)
-
-pub none_global : (new old arg : Bool) → new ≡ (old || arg) → old ≡ false → arg ≡ false → new ≡ false
-none_global new old arg is no_old no_arg = is ∙ ap (λ (b : Bool). b || arg) no_old ∙ no_arg
-
--- with every row it is krbtool
-pub is_krbtool : {E : Type 0} (result : Result Command E) (top : App) (rows : List App) → top ≡ bare → rows ≡ commands
-    → IfOk result (λ c. app_of c ≡ fold with_command top rows) → IfOk result (λ c. app_of c ≡ krbtool)
-unfolding krbtool
-is_krbtool (Ok c) top rows is_bare all is =
-    is ∙ ap (λ (app : App). fold with_command app rows) is_bare ∙ ap (λ (apps : List App). fold with_command bare apps) all
-is_krbtool (Err e) top rows is_bare all is = tt

@@ -2,39 +2,41 @@
 
 ghost use Rattle.std.specs.Prelude.{◌≡◌, false, IfOk};
 ghost use Rattle.clap.specs.Words.{rule_of};
-ghost use Rattle.krb_command_line.specs.CommandLine.{flag, free_number, free_option, needed_number, needed_option, needing_another, number_operand, number_option, operand};
-ghost use Rattle.krb_command_line.specs.Inner.Commands.{rule_for};
+ghost use Rattle.krb_command_line.specs.Arguments.{needing_another};
+ghost use Rattle.krb_command_line.specs.Inner.Commands.{ranged, rule_for, rule_of_kind};
 
 use clap::builder::ValueParser;
 use clap::{Arg, ArgAction};
 use std::alloc::{AllocError, Global};
 
-/// An operand or an option of a command: its name, which of an option is the word after `--` too, what is given with it, and
-/// what help says of it.
+/// An operand or an option of a command.
 #[derive(Clone, Copy)]
-pub(crate) struct Argument<'a>(pub(crate) &'a str, pub(crate) Kind<'a>, pub(crate) &'a str);
+pub(crate) struct Argument<'a> {
+    /// Its name, which of an option is the word after `--` too.
+    pub(crate) name: &'a str,
+    /// What is given with it.
+    pub(crate) kind: Kind<'a>,
+    /// The greatest value, if that is a whole number from 0 on, and not any text.
+    pub(crate) greatest: Option<u64>,
+    /// What help says of it.
+    pub(crate) help: &'a str,
+}
 
-/// What is given with an argument. A number is whole, from 0 to some greatest one.
+/// What is given with an argument.
 #[derive(Clone, Copy)]
 pub(crate) enum Kind<'a> {
     /// An operand, which has to be there.
     Operand,
-    /// An operand with a number.
-    NumberOperand(u64),
     /// An option without a value.
     Flag,
-    /// An option that has to be there.
+    /// An option with a value, which has to be there.
     Needed,
-    /// An option with a number, which has to be there.
-    NeededNumber(u64),
-    /// An option that may be left out.
+    /// One that may be left out.
     Free,
-    /// An option with a number, which may be left out.
-    FreeNumber(u64),
-    /// One that is refused unless the other is given.
-    FreeNumberWith(u64, &'a str),
-    /// An option with a number, and its value if it is left out.
-    DefaultNumber(u64, &'a str),
+    /// One that is refused unless this one is given.
+    With(&'a str),
+    /// One that has this value if it is left out.
+    Defaulted(&'a str),
 }
 
 /// Builds the argument.
@@ -42,95 +44,42 @@ pub(crate) fn arg_of<'a>(alloc: Global, argument: &Argument<'a>) -> Result<Arg<'
     ensures rule { IfOk result (λ r. rule_of r ≡ rule_for argument.now) }
     ensures local { IfOk result (λ r. r.global ≡ false) }
 {
-    let Argument(name, kind, help) = *argument;
-    match kind {
-        Kind::Operand => Ok(operand(alloc, name, help)),
-        Kind::NumberOperand(greatest) => Ok(number_operand(alloc, name, greatest, help)),
-        Kind::Flag => Ok(flag(alloc, name, help)),
-        Kind::Needed => Ok(needed(alloc, name, help)),
-        Kind::NeededNumber(greatest) => Ok(needed_number(alloc, name, greatest, help)),
-        Kind::Free => Ok(free(alloc, name, help)),
-        Kind::FreeNumber(greatest) => Ok(free_number(alloc, name, greatest, help)),
-        Kind::FreeNumberWith(greatest, other) => {
-            needing_another(free_number(alloc, name, greatest, help), other)
-        }
-        Kind::DefaultNumber(greatest, default) => {
-            Ok(default_number(alloc, name, greatest, default, help))
-        }
+    let arg = arg_of_kind(alloc, argument)?;
+    Ok(with_range(arg, argument.greatest))
+}
+
+// The argument, with any value.
+fn arg_of_kind<'a>(alloc: Global, argument: &Argument<'a>) -> Result<Arg<'a>, AllocError>
+    ensures rule { IfOk result (λ r. rule_of r ≡ rule_of_kind argument.now.name.now argument.now.kind) }
+    ensures local { IfOk result (λ r. r.global ≡ false) }
+{
+    let name = argument.name;
+    let arg = Arg::new(alloc, name).help(argument.help);
+    match argument.kind {
+        Kind::Operand => Ok(arg.required(true)),
+        Kind::Flag => Ok(arg.long(name).action(ArgAction::SetTrue)),
+        Kind::Needed => Ok(arg.long(name).required(true)),
+        Kind::Free => Ok(arg.long(name)),
+        Kind::With(other) => with_another(arg.long(name), other),
+        Kind::Defaulted(value) => Ok(arg.long(name).default_value(value)),
     }
 }
 
-fn operand<'a>(alloc: Global, name: &'a str, help: &'a str) -> Arg<'a>
-    ensures rule { rule_of result ≡ operand name.entry.now }
-    ensures local { result.global ≡ false }
+// The argument, whose value is a number up to this one, if there is one.
+fn with_range<'a>(arg: Arg<'a>, greatest: Option<u64>) -> Arg<'a>
+    ensures rule { rule_of result ≡ ranged greatest (rule_of arg.entry) }
+    ensures local { result.global ≡ arg.entry.global }
 {
-    Arg::new(alloc, name).required(true).help(help)
-}
-
-fn number_operand<'a>(alloc: Global, name: &'a str, greatest: u64, help: &'a str) -> Arg<'a>
-    ensures rule { rule_of result ≡ number_operand name.entry.now greatest }
-    ensures local { result.global ≡ false }
-{
-    operand(alloc, name, help).value_parser(ValueParser::unsigned(0, greatest))
-}
-
-fn flag<'a>(alloc: Global, name: &'a str, help: &'a str) -> Arg<'a>
-    ensures rule { rule_of result ≡ flag name.entry.now }
-    ensures local { result.global ≡ false }
-{
-    free(alloc, name, help).action(ArgAction::SetTrue)
-}
-
-fn needed<'a>(alloc: Global, name: &'a str, help: &'a str) -> Arg<'a>
-    ensures rule { rule_of result ≡ needed_option name.entry.now }
-    ensures local { result.global ≡ false }
-{
-    free(alloc, name, help).required(true)
-}
-
-fn needed_number<'a>(alloc: Global, name: &'a str, greatest: u64, help: &'a str) -> Arg<'a>
-    ensures rule { rule_of result ≡ needed_number name.entry.now greatest }
-    ensures local { result.global ≡ false }
-{
-    needed(alloc, name, help).value_parser(ValueParser::unsigned(0, greatest))
-}
-
-fn free<'a>(alloc: Global, name: &'a str, help: &'a str) -> Arg<'a>
-    ensures rule { rule_of result ≡ free_option name.entry.now }
-    ensures local { result.global ≡ false }
-{
-    Arg::new(alloc, name).long(name).help(help)
-}
-
-fn free_number<'a>(alloc: Global, name: &'a str, greatest: u64, help: &'a str) -> Arg<'a>
-    ensures rule { rule_of result ≡ free_number name.entry.now greatest }
-    ensures local { result.global ≡ false }
-{
-    free(alloc, name, help).value_parser(ValueParser::unsigned(0, greatest))
+    match greatest {
+        Some(greatest) => arg.value_parser(ValueParser::unsigned(0, greatest)),
+        None => arg,
+    }
 }
 
 // The argument, which is refused unless the other is given.
-fn needing_another<'a>(arg: Arg<'a>, other: &'a str) -> Result<Arg<'a>, AllocError>
+fn with_another<'a>(arg: Arg<'a>, other: &'a str) -> Result<Arg<'a>, AllocError>
     ensures rule { IfOk result (λ r. rule_of r ≡ needing_another (rule_of arg.entry)) }
     ensures local { IfOk result (λ r. r.global ≡ arg.entry.global) }
 {
     arg.requires_arg(other)
-}
-
-// An option with a number, which has the value `default` if it is left out.
-fn default_number<'a>(
-    alloc: Global,
-    name: &'a str,
-    greatest: u64,
-    default: &'a str,
-    help: &'a str,
-) -> Arg<'a>
-    ensures rule { rule_of result ≡ number_option name.entry.now greatest default.entry.now }
-    ensures local { result.global ≡ false }
-{
-    Arg::new(alloc, name)
-        .long(name)
-        .value_parser(ValueParser::unsigned(0, greatest))
-        .default_value(default)
-        .help(help)
 }

@@ -1,57 +1,82 @@
+// Made from commands.toml by `make generate`. Don't edit this file.
+
+//! The commands, with the words that they are asked for by.
+
 /// What a command line asks for.
 #[derive(Clone, Copy)]
 pub enum Command<'a> {
-    /// `list-keytab [--readable] FILE`: a line for each entry of a keytab, or a table for people.
+    /// `list-keytab [--readable] FILE`: lists a keytab: key version number, encryption type,
+    /// timestamp and principal of each entry.
     ListKeytab {
-        /// The keytab's path.
-        file: &'a str,
-        /// Whether it is listed as a table.
+        /// `--readable`: Prints a table for people, with names in place of numbers and times in
+        /// UTC.
         readable: bool,
+        /// `FILE`: The keytab.
+        file: &'a str,
     },
-    /// `list-ccache [--readable [--now SECONDS]] FILE`: a line for each credential of a cache, after what the cache says of itself, or a
-    /// table for people.
+    /// `list-ccache [--readable [--now SECONDS]] FILE`: lists a credential cache: its principal,
+    /// clock offset, configuration entries and tickets.
     ListCcache {
-        /// The cache's path.
-        file: &'a str,
-        /// How it is listed.
+        /// How `list-ccache` lists a cache.
         form: CacheForm<'a>,
+        /// `FILE`: The credential cache.
+        file: &'a str,
     },
-    /// `check-keytab FILE`: how many entries a keytab has.
+    /// `check-keytab FILE`: checks a keytab, and prints how many entries it has, or where the fault
+    /// is.
     CheckKeytab {
-        /// The keytab's path.
+        /// `FILE`: The keytab.
         file: &'a str,
     },
-    /// `check-ccache FILE`: how many credentials a cache has.
+    /// `check-ccache FILE`: checks a credential cache, and prints how many credentials it has, or
+    /// where the fault is.
     CheckCcache {
-        /// The cache's path.
+        /// `FILE`: The credential cache.
         file: &'a str,
     },
-    /// `convert-keytab FILE OUT`: a keytab written again.
+    /// `convert-keytab FILE OUT [--replace]`: writes a copy of a keytab, without the holes that
+    /// removed entries left, and without what follows a record length of 0.
     ConvertKeytab {
-        /// The keytab's path.
+        /// `FILE`: The keytab.
         file: &'a str,
-        /// The path of what is written.
+        /// `OUT`: The file to write. Without --replace it is emptied before FILE is read, so it
+        /// must not be FILE; a new file has mode 0600.
         out: &'a str,
+        /// `--replace`: Writes a new file, and renames it to OUT once it is whole: OUT may be FILE,
+        /// and stays as it was if the command fails.
+        replace: bool,
     },
-    /// `convert-ccache FILE OUT`: a cache written again.
+    /// `convert-ccache FILE OUT [--replace]`: writes a copy of a credential cache, in version
+    /// 0x0504.
     ConvertCcache {
-        /// The cache's path.
+        /// `FILE`: The credential cache.
         file: &'a str,
-        /// The path of what is written.
+        /// `OUT`: The file to write. Without --replace it is emptied before FILE is read, so it
+        /// must not be FILE; a new file has mode 0600.
         out: &'a str,
+        /// `--replace`: Writes a new file, and renames it to OUT once it is whole: OUT may be FILE,
+        /// and stays as it was if the command fails.
+        replace: bool,
     },
-    /// `request FILE SERVICE --time S --usec U --confounder H [--mutual] [--token KIND]`: a request in hexadecimal.
+    /// `request FILE SERVICE --time SECONDS --usec MICROSECONDS --confounder HEX [--mutual] [--token KIND]`:
+    /// builds a request for a service with a ticket of a credential cache, and prints it in
+    /// hexadecimal.
     Request(RequestWords<'a>),
-    /// `accept KEYTAB [--skew SECONDS] [--started SECONDS] [--service NAME] [--only NAME] [--tokens]`: the lines of standard input answered by
-    /// a service.
+    /// `accept KEYTAB [--skew SECONDS] [--started SECONDS] [--service NAME] [--only NAME] [--tokens]`:
+    /// acts as a service: reads lines SECONDS MICROS HEX [CONFOUNDER] and says for each whether the
+    /// request is accepted.
     Accept(AcceptWords<'a>),
-    /// `finish FILE SERVICE --time S --usec U --reply HEX`: what is agreed by the reply to a request.
+    /// `finish FILE SERVICE --time SECONDS --usec MICROSECONDS --reply HEX`: reads the reply to a
+    /// request that was built with a credential cache, and says what client and service agree on.
     Finish(FinishWords<'a>),
-    /// `pick-key KEYTAB NAME ETYPE [--kvno N]`: the entry of a keytab whose key would open a ticket.
+    /// `pick-key KEYTAB NAME ETYPE [--kvno NUMBER]`: prints the entry of a keytab whose key would
+    /// open a ticket.
     PickKey(PickWords<'a>),
-    /// `remove-key KEYTAB OUT INDEX`: a keytab with a hole in place of an entry.
+    /// `remove-key KEYTAB INDEX [--out OUT]`: removes an entry from a keytab, and leaves a hole in
+    /// its place.
     RemoveKey(RemoveWords<'a>),
-    /// `add-keys KEYTAB FROM OUT`: a keytab with the keys of another.
+    /// `add-keys KEYTAB FROM [--out OUT]`: adds to a keytab the keys of another that it doesn't
+    /// have yet.
     AddKeys(AddWords<'a>),
 }
 
@@ -62,7 +87,8 @@ pub enum CacheForm<'a> {
     Lines,
     /// As a table for people.
     Table {
-        /// When tickets are looked at, if that is known: seconds since 1970-01-01, in decimal: 0 to 253402300799.
+        /// `--now SECONDS`: Marks the tickets that ended before this time, in seconds since
+        /// 1970-01-01: 0 to 253402300799. Needs --readable.
         now: Option<&'a str>,
     },
 }
@@ -70,85 +96,95 @@ pub enum CacheForm<'a> {
 /// The words of `accept`.
 #[derive(Clone, Copy)]
 pub struct AcceptWords<'a> {
-    /// The keytab's path.
+    /// `KEYTAB`: The service's keytab.
     pub keytab: &'a str,
-    /// By how many seconds clocks may differ, in decimal: 0 to 86400.
+    /// `--skew SECONDS`: By how many seconds clocks may differ: 0 to 86400.
     pub skew: &'a str,
-    /// When the service was started again, if it had an earlier life: seconds since 1970-01-01, in decimal: 0 to 253402300799.
+    /// `--started SECONDS`: When the service was started again, in seconds since 1970-01-01 (0 to
+    /// 253402300799), rounded up. Requests are refused as `JustStarted` until its clock and the
+    /// client's are both later than this by more than the skew. Omit it only if every key in the
+    /// keytab is new: otherwise recorded logins can be replayed.
     pub started: Option<&'a str>,
-    /// The name that errors carry, if they are asked for.
+    /// `--service NAME`: The service's name for the KRB-ERRORs that answer refused requests;
+    /// without it, none are printed. It doesn't affect which requests are accepted (see --only).
     pub service: Option<&'a str>,
-    /// The one name for which requests are accepted; of any name of the keytab if absent.
+    /// `--only NAME`: The one name for which requests are accepted; those for other names of the
+    /// keytab are refused as `NotUs`.
     pub only: Option<&'a str>,
-    /// Whether the lines hold tokens of GSS-API.
+    /// `--tokens`: Takes tokens of GSS-API or SPNEGO in place of requests, and answers with tokens.
     pub tokens: bool,
 }
 
 /// The words of `add-keys`.
 #[derive(Clone, Copy)]
 pub struct AddWords<'a> {
-    /// The keytab's path.
+    /// `KEYTAB`: The keytab.
     pub keytab: &'a str,
-    /// The path of the keytab whose keys are added.
+    /// `FROM`: The keytab whose keys are added.
     pub from: &'a str,
-    /// The path of what is written.
-    pub out: &'a str,
+    /// `--out OUT`: The file to write, in place of KEYTAB; a new file has mode 0600.
+    pub out: Option<&'a str>,
 }
 
 /// The words of `finish`.
 #[derive(Clone, Copy)]
 pub struct FinishWords<'a> {
-    /// The cache's path.
+    /// `FILE`: The credential cache.
     pub file: &'a str,
-    /// The service's name.
+    /// `SERVICE`: The service's name, such as host/web@EXAMPLE.COM.
     pub service: &'a str,
-    /// The request's moment: seconds since 1970-01-01, in decimal: 0 to 253402300799.
+    /// `--time SECONDS`: The request's time by the client's clock, in seconds since 1970-01-01: 0
+    /// to 253402300799.
     pub time: &'a str,
-    /// The microseconds of that second, in decimal: 0 to 999999.
+    /// `--usec MICROSECONDS`: The microseconds of that second: 0 to 999999.
     pub usec: &'a str,
-    /// The reply, in hexadecimal.
+    /// `--reply HEX`: The service's reply, in hexadecimal.
     pub reply: &'a str,
 }
 
 /// The words of `pick-key`.
 #[derive(Clone, Copy)]
 pub struct PickWords<'a> {
-    /// The keytab's path.
+    /// `KEYTAB`: The keytab.
     pub keytab: &'a str,
-    /// The name of the service.
+    /// `NAME`: The service's name, such as host/web@EXAMPLE.COM.
     pub name: &'a str,
-    /// The encryption type, in decimal: 0 to 2147483647.
+    /// `ETYPE`: The number of the encryption type that the ticket is sealed with: 19 or 20. In
+    /// decimal: 0 to 2147483647.
     pub etype: &'a str,
-    /// The version number, in decimal: 0 to 4294967295; any if absent.
+    /// `--kvno NUMBER`: The version number of the key that the ticket is sealed with (0 to
+    /// 4294967295); the highest one if left out.
     pub kvno: Option<&'a str>,
 }
 
 /// The words of `remove-key`.
 #[derive(Clone, Copy)]
 pub struct RemoveWords<'a> {
-    /// The keytab's path.
+    /// `KEYTAB`: The keytab.
     pub keytab: &'a str,
-    /// The path of what is written.
-    pub out: &'a str,
-    /// The index of the entry, in decimal: 0 to 4294967295.
+    /// `INDEX`: Which entry to remove, in the order of list-keytab: 0 is the first. In decimal: 0
+    /// to 4294967295.
     pub index: &'a str,
+    /// `--out OUT`: The file to write, in place of KEYTAB; a new file has mode 0600.
+    pub out: Option<&'a str>,
 }
 
 /// The words of `request`.
 #[derive(Clone, Copy)]
 pub struct RequestWords<'a> {
-    /// The cache's path.
+    /// `FILE`: The credential cache.
     pub file: &'a str,
-    /// The service's name.
+    /// `SERVICE`: The service's name, such as host/web@EXAMPLE.COM.
     pub service: &'a str,
-    /// The client's clock: seconds since 1970-01-01, in decimal: 0 to 253402300799.
+    /// `--time SECONDS`: The request's time by the client's clock, in seconds since 1970-01-01: 0
+    /// to 253402300799.
     pub time: &'a str,
-    /// The microseconds of that second, in decimal: 0 to 999999.
+    /// `--usec MICROSECONDS`: The microseconds of that second: 0 to 999999.
     pub usec: &'a str,
-    /// The confounder, in hexadecimal.
+    /// `--confounder HEX`: 16 random bytes, new for each request, as 32 hexadecimal digits.
     pub confounder: &'a str,
-    /// Whether a reply is asked for.
+    /// `--mutual`: Asks the service for a reply.
     pub mutual: bool,
-    /// The kind of token that holds the request: `gss` or `spnego`; no token if absent.
+    /// `--token KIND`: Prints a token that holds the request: gss or spnego.
     pub token: Option<&'a str>,
 }

@@ -64,7 +64,7 @@ encodes_leaf {written = written} {r = r} {start = start} {old = old} {mid = mid}
     (on_err_weaker written (λ same. ap (take start) same ∙ take_all start old (omega (arith, at))) w.kept) l n
 
 -- ---- an element round what was written
-wrapped-appends : (tag start : ℕ) (Part : List ℕ → Type 0) (old mid new : List ℕ) → start ≡ length old → Appends Part old mid → Wraps tag start mid new → Appends (IsElement tag Part) old new
+pub wrapped-appends : (tag start : ℕ) (Part : List ℕ → Type 0) (old mid new : List ℕ) → start ≡ length old → Appends Part old mid → Wraps tag start mid new → Appends (IsElement tag Part) old new
 wrapped-appends tag start Part old mid new at a w =
     let front : take start mid ≡ old = before_appended Part start old mid at a in
     let rest : drop start mid ≡ a.bytes = ap (drop start) a.whole ∙ drop_at old a.bytes start (sym at) in

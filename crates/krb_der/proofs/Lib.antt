@@ -13,6 +13,10 @@ pub mod HeadLaws
 pub mod ShortestLaws
 pub mod Messages
 pub mod EncodeLaws
+pub mod Steps
+pub mod Repeats
+pub mod PartsLaws
+pub mod PartsWritten
 pub mod Lists
 pub mod Offsets
 pub mod ListWrites

@@ -14,22 +14,11 @@ use Rattle.krb_der.specs.Computed.Read.{each_from, enter_at, element_at, fields_
 use Rattle.krb_der.proofs.LengthLaws.{no_value}
 use Rattle.krb_der.proofs.ElementSteps.{answer, bind_ok, bind_at, same_ok, element_some}
 use Rattle.krb_der.proofs.Reading.{element_at_found}
-
-bind_same : {A B E : Type 0} (r : Result A E) (f g : A → Result B E) → ((x : A) → r ≡ Ok x → f x ≡ g x) → (r >>= f) ≡ (r >>= g)
-bind_same (Ok x) f g h = h x refl
-bind_same (Err d) f g h = refl
-
-checked_more : {V : Type 0} (v : V) (r : Result (List V) Fault) → checked (r >>= λ xs. Ok (v ∷ xs)) ≡ checked r
-checked_more v (Ok xs) = refl
-checked_more v (Err f) = refl
+use Rattle.krb_der.proofs.Repeats.{checked_more, all_nil, all_more}
 
 none_or_more : (l : List ℕ) → (l ≡ []) ⊎ (l ≢ [])
 none_or_more [] = inl refl
 none_or_more (b ∷ bytes) = inr (λ e. cc)
-
-is_more : (l : List ℕ) → l ≢ [] → (b : ℕ) × (bytes : List ℕ) × (l ≡ b ∷ bytes)
-is_more [] some = absurd (some refl)
-is_more (b ∷ bytes) some = (b, bytes, refl)
 
 module _ (k : Kind) where
   -- each takes at least a byte
@@ -38,29 +27,13 @@ module _ (k : Kind) where
       let s = element_at_found k v p q e in
       omega (arith, ap length s.whole, length-append s.front q.rest, element_some (tag_of k) (SpellsContent Elementary k v) s.front s.spelled)
 
-  -- more fuel than bytes makes no difference
-  each_fuel : (n m : ℕ) (p : Place) (bytes : List ℕ) → p.rest ≡ bytes → length bytes ≤ n → length bytes ≤ m
-      → each_from (element_at k) n p bytes ≡ each_from (element_at k) m p bytes
-  each_fuel n m p [] w a c = refl
-  each_fuel zero m p (b ∷ bytes) w a c = absurd (omega (arith, a))
-  each_fuel (suc n) zero p (b ∷ bytes) w a c = absurd (omega (arith, c))
-  each_fuel (suc n) (suc m) p (b ∷ bytes) w a c =
-      bind_same (element_at k p) _ _ (λ x e. ap (λ (r : Result (List (ValueOf k)) Fault). r >>= λ xs. Ok (x.0 ∷ xs))
-      (each_fuel n m x.1 x.1.rest refl
-      (omega (arith, a, element_at_shrinks p x.0 x.1 e, ap length w)) (omega (arith, c, element_at_shrinks p x.0 x.1 e, ap length w))))
-
   list_nil : (p : Place) → p.rest ≡ [] → fields_at (each k) p ≡ Ok []
   unfolding fields_at
-  list_nil p w = ap (λ (l : List ℕ). each_from (element_at k) (length l) p l) w
+  list_nil p w = all_nil (element_at k) element_at_shrinks p w
 
   list_more : (p : Place) → p.rest ≢ [] → fields_at (each k) p ≡ (element_at k p >>= λ x. fields_at (each k) x.1 >>= λ xs. Ok (x.0 ∷ xs))
   unfolding fields_at
-  list_more p some =
-      let m = is_more p.rest some in
-      ap (λ (l : List ℕ). each_from (element_at k) (length l) p l) m.2
-      ∙ bind_same (element_at k p) _ _ (λ x e. ap (λ (r : Result (List (ValueOf k)) Fault). r >>= λ xs. Ok (x.0 ∷ xs))
-      (each_fuel (length m.1) (length x.1.rest) x.1 x.1.rest refl
-      (omega (arith, element_at_shrinks p x.0 x.1 e, ap length m.2)) (le_refl (length x.1.rest))))
+  list_more p some = all_more (element_at k) element_at_shrinks p some
 
   pub list_step : (p : Place) (v : ValueOf k) (q : Place) → element_at k p ≡ Ok (v, q) → checked (fields_at (each k) q) ≡ checked (fields_at (each k) p)
   list_step p v q e =

@@ -6,3 +6,4 @@ pub mod Whole
 pub mod Read
 pub mod Gives
 pub mod Listed
+pub mod Parts

@@ -6,6 +6,8 @@ pub mod Spells
 pub mod Size
 pub mod Place
 pub mod Fault
+pub mod Parts
+pub mod PartsFault
 pub mod Reading
 pub mod Writing
 pub mod Clear

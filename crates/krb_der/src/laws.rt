@@ -13,7 +13,10 @@ ghost use Rattle.krb_der.specs.Fault.{IsFault, IsFaulty, IsElementFault, IsHeadF
 ghost use Rattle.krb_der.specs.Flags.{HasBit};
 ghost use Rattle.krb_der.specs.Clear.{is_clear, are_clear};
 ghost use Rattle.krb_der.specs.Numbers.{numbers_in, HasHigh, SpellsNegative};
+ghost use Rattle.krb_der.specs.Parts.{Parts, PlacesOf, Stand};
+ghost use Rattle.krb_der.specs.PartsFault.{PartsFault};
 ghost use Rattle.krb_der.specs.Computed.Read.{element_at, fields_at, message_of};
+ghost use Rattle.krb_der.specs.Computed.Parts.{parts_at};
 
 /// A spelling has only one value.
 pub fn one_value()
@@ -139,4 +142,18 @@ pub fn list_next()
     ensures { (k : Kind) (here : Place) (vs : List (ValueOf k)) → fields_at (each k) here ≡ Ok vs
         → ((here.rest ≡ []) × (vs ≡ [])) ⊎ ((v : ValueOf k) × (after : Place) × (ws : List (ValueOf k))
         × (vs ≡ v ∷ ws) × (element_at k here ≡ Ok (v, after)) × (fields_at (each k) after ≡ Ok ws)) }
+{}
+
+/// Finding the parts of a message in place, as `specs::Computed` has it, gives places exactly if the parts
+/// stand there.
+#[tactic(auto, using(crate::proofs::PartsLaws::found_exactly))]
+pub fn parts_found()
+    ensures { (ps : Parts) (v : PlacesOf ps) (here : Place) → (parts_at ps here ≡ Ok v) ↔ Stand ps v here }
+{}
+
+/// Otherwise it gives a fault by the rules.
+#[tactic(auto, using(crate::proofs::PartsLaws::refused_rightly))]
+pub fn parts_refused()
+    ensures { (ps : Parts) (here : Place) (fault : Fault)
+        → parts_at ps here ≡ Err fault → PartsFault ps here fault }
 {}

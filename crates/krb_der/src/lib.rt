@@ -18,6 +18,11 @@
 //!   passes such a row to [`write_sequence`], [`encoded`] writes it. A field that is an `i32` goes
 //!   into that row as `Field(&self.number)`. An optional field goes there as
 //!   `MaybeRef(&self.field)`.
+//! - As parts that are found in place, where not all bytes are DER, or what stands in an element isn't
+//!   looked at, as in the tokens of GSS-API. A type with [`Placed`] names its parts, and its `find`
+//!   asks `cursor.parts()` for a row, as above. What is found are cursors, which know their offsets. A
+//!   row with [`EncodeParts`] is written by [`encoded_parts`]. `specs::Parts` says where the parts
+//!   stand, and `specs::PartsFault` what is wrong with other bytes.
 //! - A SEQUENCE OF is read by `cursor.list::<T>()` as a cursor over its content, and that cursor is
 //!   read by `next::<T>()`. A slice or a vector is written as a SEQUENCE OF. Texts of types of
 //!   other crates are written as [`TextList`].
@@ -29,8 +34,8 @@
 //!
 //! The files by what they do. Reading: `head`, `length` and `tag` (an element's first bytes),
 //! `cursor`, `contents`, `leaf` and `whole` (elements without parts), `element`, `parts` and `row`
-//! (those with parts), `message`, `fault`. Writing: `writer`, `encoding`, `encoding_rows`. Both:
-//! `list`, `value`.
+//! (those with parts), `placed` (parts in place), `message`, `fault`. Writing: `writer`, `encoding`,
+//! `encoding_rows`, `encoding_parts`. Both: `list`, `value`.
 //!
 //! `specs::Size` says how many bytes are written for a value, and so which values are too long for
 //! a message. `specs::Flags` says which bit of flags is which.
@@ -47,6 +52,7 @@ mod contents;
 mod cursor;
 mod element;
 mod encoding;
+mod encoding_parts;
 mod encoding_rows;
 mod fault;
 mod head;
@@ -56,6 +62,7 @@ mod length;
 mod list;
 mod message;
 mod parts;
+mod placed;
 mod row;
 mod tag;
 mod value;
@@ -65,11 +72,13 @@ mod writer;
 pub use cursor::Cursor;
 pub use element::Element;
 pub use encoding::{Encode, encoded};
+pub use encoding_parts::{EncodeParts, encoded_parts};
 pub use encoding_rows::{EncodeRow, write_application, write_sequence};
 pub use fault::{EncodeFault, Fault, FaultKind};
 pub use krb_time::{Microseconds, Seconds};
 pub use list::TextList;
 pub use message::{Message, parse};
+pub use placed::{Each, Last, Placed, Unknown};
 pub use row::{Field, Maybe, MaybeRef, Row};
 pub use value::{Constant, Flags, Octets, SeqNumber, Text};
 pub use writer::Writer;

@@ -3,7 +3,9 @@
 use anyhow::{Context, Result};
 use krb_ap::{Acceptor, Agreed, Pending, ReplyOptions, RequestOptions, error_reply, make_request};
 use krb_ccache::CCache;
+use krb_gss::Negotiation;
 use krb_keytab::Keytab;
+use krb_login::{Decision, Given, LetIn, Service};
 use krb_msg::Moment;
 use krb_name::Principal;
 use krb_replay::{ReplayMemory, Skew, TimedMemory, Tuple};
@@ -68,4 +70,36 @@ pub fn agree(alloc: Global, pending: Pending, reply: Vec<u8>) -> Result<Agreed> 
     let agreed = pending.finish(alloc, &reply)?;
 
     Ok(agreed)
+}
+
+/// Answers what a client sent, and logs who came in or why not.
+pub fn login<M: ReplayMemory>(
+    alloc: Global,
+    service: &mut Service<M>,
+    bytes: &[u8],
+    now: Moment,
+    confounder: [u8; 16],
+    choice: ReplyOptions,
+    log: &mut String,
+) -> Result<Option<Vec<u8>>> {
+    let mut negotiation = Negotiation::Begun;
+    let given = Given {
+        bytes,
+        now,
+        confounder: &confounder,
+        choice,
+    };
+    let answer = match service.answer(alloc, &mut negotiation, given) {
+        Decision::LetIn(LetIn { accepted, answer }) => {
+            accepted.client.write_text(log)?;
+            answer
+        }
+        Decision::GoOn(bytes) => Some(bytes),
+        Decision::Refused(refused) => {
+            write!(log, "refused: {}", refused.cause)?;
+            refused.answer
+        }
+    };
+
+    Ok(answer)
 }

@@ -6,3 +6,4 @@ pub mod Opening
 pub mod Written
 pub mod KeyLaws
 pub mod Compared
+pub mod InPlace

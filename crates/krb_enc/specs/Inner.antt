@@ -1,2 +1,3 @@
+pub mod BaseKey
 pub mod KeyBytes
-pub mod Refused
+pub mod NotSealed

@@ -2,7 +2,7 @@
 
 ghost use Rattle.std.specs.Prelude.{◌≡◌};
 ghost use Rattle.krb_enc.specs.declared.fault.OpenFault.TheVariants.{OutOfMemory};
-ghost use Rattle.krb_enc.specs.Inner.Refused.{fault_of, slice_fault_of};
+ghost use Rattle.krb_enc.specs.Inner.NotSealed.{fault_of, slice_fault_of};
 
 use std::alloc::AllocError;
 use thiserror::Error;
@@ -57,31 +57,35 @@ pub struct ShortSlice {
     pub needed: usize,
 }
 
-// Why a text has no body that can be decrypted.
-#[derive(Clone, Copy)]
-pub(crate) enum Refused {
+/// Why a text isn't a sealed one.
+#[derive(Clone, Copy, Debug, PartialEq, Eq, Error)]
+pub enum NotSealed {
+    /// The text is shorter than a sealed empty text: 32 bytes (type 19) or 40 (type 20).
+    #[error("the sealed text is too short")]
     Short,
+    /// The last bytes aren't the tag of the rest.
+    #[error("the tag is wrong")]
     Integrity,
 }
 
-impl From<Refused> for OpenFault {
-    ghost from_gives = { λ refused fault. fault ≡ fault_of refused };
+impl From<NotSealed> for OpenFault {
+    ghost from_gives = { λ not_sealed fault. fault ≡ fault_of not_sealed };
 
-    fn from(refused: Refused) -> OpenFault {
-        match refused {
-            Refused::Short => OpenFault::Short,
-            Refused::Integrity => OpenFault::Integrity,
+    fn from(not_sealed: NotSealed) -> OpenFault {
+        match not_sealed {
+            NotSealed::Short => OpenFault::Short,
+            NotSealed::Integrity => OpenFault::Integrity,
         }
     }
 }
 
-impl From<Refused> for OpenToFault {
-    ghost from_gives = { λ refused fault. fault ≡ slice_fault_of refused };
+impl From<NotSealed> for OpenToFault {
+    ghost from_gives = { λ not_sealed fault. fault ≡ slice_fault_of not_sealed };
 
-    fn from(refused: Refused) -> OpenToFault {
-        match refused {
-            Refused::Short => OpenToFault::Short,
-            Refused::Integrity => OpenToFault::Integrity,
+    fn from(not_sealed: NotSealed) -> OpenToFault {
+        match not_sealed {
+            NotSealed::Short => OpenToFault::Short,
+            NotSealed::Integrity => OpenToFault::Integrity,
         }
     }
 }

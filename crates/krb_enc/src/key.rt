@@ -2,6 +2,7 @@
 
 ghost use Rattle.std.specs.Prelude.{◌≡◌, ◌↔◌, ◌⊎◌, ◌≤◌, ◌<◌, ◌+◌, ℕ, List, length, vec_len, Some, IsTrue, IfOk, IsOk, IsErrOf, MatchResult};
 
+use crate::checksum_key::ChecksumKey;
 use crate::enctype::Enctype;
 use crate::etype::{AES128_CTS_HMAC_SHA256_128, AES256_CTS_HMAC_SHA384_192};
 use crate::fault::{KeyFault, OpenFault};
@@ -13,6 +14,13 @@ use std::alloc::{AllocError, Global};
 use std::fmt;
 use std::marker::Model;
 
+// The bytes of a base key.
+#[derive(Drop)]
+enum BaseKey {
+    Short([u8; 16]),
+    Long([u8; 32]),
+}
+
 // The bytes of a base key, and a key of HMAC with its type's hash function, made ready.
 #[derive(Drop)]
 pub(crate) enum KeyBytes {
@@ -21,24 +29,24 @@ pub(crate) enum KeyBytes {
 }
 
 /// A base key of one of the two encryption types: 16 bytes of type 19 (aes128-cts-hmac-sha256-128)
-/// or 32 bytes of type 20 (aes256-cts-hmac-sha384-192). The bytes are held in place. The keys of
-/// its usages can be derived from it at once.
+/// or 32 bytes of type 20 (aes256-cts-hmac-sha384-192). The bytes are held in place, and nothing
+/// else, so that a key is quickly moved.
 ///
 /// Its `Debug` shows the type's number and no byte, so no log shows a key.
 #[derive(Drop)]
 pub struct Key {
-    bytes: KeyBytes,
+    bytes: BaseKey,
 }
 
 impl Model for Key {
-    ghost use Rattle.krb_enc.specs.Key.{KeyValue};
-    ghost use Rattle.krb_enc.specs.Inner.KeyBytes.{value_of, IsReady};
+    ghost use Rattle.krb_enc.specs.Key.{KeyValue, IsUsable};
+    ghost use Rattle.krb_enc.specs.Inner.BaseKey.{base_of};
 
     ghost Value = { KeyValue };
 
-    ghost view = { λ k. value_of k.bytes };
+    ghost view = { λ k. base_of k.bytes };
 
-    ghost invariant = { λ k. IsReady k.bytes };
+    ghost invariant = { λ k. IsUsable (base_of k.bytes) };
 }
 
 impl Key {
@@ -62,14 +70,12 @@ impl Key {
             ↔ (IsKnown etype × (IsUsable (record { etype = etype; bytes = bytes.now }) → ⊥)) }
     {
         let bytes = match etype {
-            AES128_CTS_HMAC_SHA256_128 => KeyBytes::Short(
-                bytes.try_into().map_err(|_| KeyFault::WrongLength)?,
-                HmacSha256::new(bytes),
-            ),
-            AES256_CTS_HMAC_SHA384_192 => KeyBytes::Long(
-                bytes.try_into().map_err(|_| KeyFault::WrongLength)?,
-                HmacSha384::new(bytes),
-            ),
+            AES128_CTS_HMAC_SHA256_128 => {
+                BaseKey::Short(bytes.try_into().map_err(|_| KeyFault::WrongLength)?)
+            }
+            AES256_CTS_HMAC_SHA384_192 => {
+                BaseKey::Long(bytes.try_into().map_err(|_| KeyFault::WrongLength)?)
+            }
             _ => return Err(KeyFault::UnknownEtype),
         };
         Ok(Key { bytes })
@@ -91,8 +97,8 @@ impl Key {
         ensures { result ≡ self.now }
     {
         let bytes = match &self.bytes {
-            KeyBytes::Short(bytes, base) => KeyBytes::Short(*bytes, base.copy()),
-            KeyBytes::Long(bytes, base) => KeyBytes::Long(*bytes, base.copy()),
+            BaseKey::Short(bytes) => BaseKey::Short(*bytes),
+            BaseKey::Long(bytes) => BaseKey::Long(*bytes),
         };
         Key { bytes }
     }
@@ -103,8 +109,8 @@ impl Key {
         ensures usable { IsUsable self.now }
     {
         match &self.bytes {
-            KeyBytes::Short(..) => Sha256Aes128::ETYPE,
-            KeyBytes::Long(..) => Sha384Aes256::ETYPE,
+            BaseKey::Short(_) => Sha256Aes128::ETYPE,
+            BaseKey::Long(_) => Sha384Aes256::ETYPE,
         }
     }
 
@@ -114,8 +120,8 @@ impl Key {
         ensures usable { IsUsable self.now }
     {
         match &self.bytes {
-            KeyBytes::Short(bytes, _) => bytes,
-            KeyBytes::Long(bytes, _) => bytes,
+            BaseKey::Short(bytes) => bytes,
+            BaseKey::Long(bytes) => bytes,
         }
     }
 
@@ -126,9 +132,29 @@ impl Key {
         ensures { result ≡ record { key = self.now; usage = usage } }
     {
         match &self.bytes {
-            KeyBytes::Short(bytes, base) => UsageKey::new_19(bytes, base, usage),
-            KeyBytes::Long(bytes, base) => UsageKey::new_20(bytes, base, usage),
+            BaseKey::Short(bytes) => UsageKey::new_19(bytes, &HmacSha256::new(bytes), usage),
+            BaseKey::Long(bytes) => UsageKey::new_20(bytes, &HmacSha384::new(bytes), usage),
         }
+    }
+
+    /// Prepares the key of checksums of `usage`, for many texts.
+    ///
+    /// Source: RFC 8009, section 6.
+    #[tactic(auto, unfolding(krb_kdf::specs::Kdf::kdf, krb_kdf::specs::Kdf::kdf_of, krb_kdf::specs::Hmac::hmac))]
+    pub fn for_checksums(&self, usage: u32) -> ChecksumKey
+        ensures { result ≡ record { key = self.now; usage = usage } }
+    {
+        let bytes = match &self.bytes {
+            BaseKey::Short(bytes) => {
+                let checksum_key = HmacSha256::new(bytes).derive_19(usage, Purpose::Kc);
+                KeyBytes::Short(*bytes, HmacSha256::new(&checksum_key))
+            }
+            BaseKey::Long(bytes) => {
+                let checksum_key = HmacSha384::new(bytes).derive_20(usage, MacPurpose::Kc);
+                KeyBytes::Long(*bytes, HmacSha384::new(&checksum_key))
+            }
+        };
+        ChecksumKey::new(bytes, usage)
     }
 
     /// Seals `plain` under this key for `usage`: encrypts the confounder and the plain text, and
@@ -199,12 +225,12 @@ impl Key {
         ensures { result ≡ checksum_of (profile_of self.now) self.now.bytes usage text.now }
     {
         match &self.bytes {
-            KeyBytes::Short(_, base) => {
-                let checksum_key = base.derive_19(usage, Purpose::Kc);
+            BaseKey::Short(bytes) => {
+                let checksum_key = HmacSha256::new(bytes).derive_19(usage, Purpose::Kc);
                 Tag::new(&hmac_sha256(&checksum_key, &[text])[..16])
             }
-            KeyBytes::Long(_, base) => {
-                let checksum_key = base.derive_20(usage, MacPurpose::Kc);
+            BaseKey::Long(bytes) => {
+                let checksum_key = HmacSha384::new(bytes).derive_20(usage, MacPurpose::Kc);
                 Tag::new(&hmac_sha384(&checksum_key, &[text])[..24])
             }
         }

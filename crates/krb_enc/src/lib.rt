@@ -15,6 +15,13 @@
 //! // Into slices, without allocating memory.
 //! let sealed_len = tickets.seal_to(&confounder, b"plain", &mut text)?;
 //! let plain_len = tickets.open_to(&text[..sealed_len], &mut buffer)?;
+//!
+//! // In place: 16 bytes before the plain text and a tag after it.
+//! tickets.seal_in_place(&confounder, &mut text[..sealed_len])?;
+//! tickets.open_in_place(&mut text[..sealed_len])?;
+//!
+//! // Checksums of one usage, of texts in parts.
+//! let tag = key.for_checksums(6).checksum(&[header, body]);
 //! ```
 //!
 //! The number before the confounder or the text is the key usage (RFC 4120, section 7.5.1). The
@@ -26,6 +33,7 @@
 //! texts. `Debug` prints no key.
 #![tactic(auto)]
 
+mod checksum_key;
 mod enctype;
 pub mod etype;
 mod fault;
@@ -36,8 +44,9 @@ mod tag;
 mod texts;
 mod usage_key;
 
+pub use checksum_key::ChecksumKey;
 pub use enctype::Enctype;
-pub use fault::{KeyFault, OpenFault, OpenToFault, ShortSlice};
+pub use fault::{KeyFault, NotSealed, OpenFault, OpenToFault, ShortSlice};
 pub use key::Key;
 pub use profiles::{Sha256Aes128, Sha384Aes256};
 pub use tag::Tag;

@@ -1,16 +1,16 @@
 //! Keys of one usage.
 
-ghost use Rattle.std.specs.Prelude.{◌≡◌, ◌↔◌, ◌⊎◌, ◌≤◌, ◌<◌, ◌+◌, ℕ, List, length, take, drop, vec_len, pos, IfOk, IfErr, IsErrOf, IsTrue, MatchResult};
+ghost use Rattle.std.specs.Prelude.{◌≡◌, ◌↔◌, ◌⊎◌, ◌≤◌, ◌<◌, ◌+◌, ℕ, List, length, take, drop, vec_len, pos, IfOk, IfErr, IsErr, IsErrOf, IsTrue, MatchResult};
 ghost use Rattle.krb_kdf.specs.Hmac.{sha256_hash, sha384_hash, block_key};
 ghost use Rattle.krb_enc.specs.Key.{KeyValue, UsageKeyValue, profile_of};
 ghost use Rattle.krb_enc.specs.Sealed.{encryption_key, tag_of, sealed};
-ghost use Rattle.krb_enc.specs.Opens.{IsShort, HasTag, Opens, OpensOnlyTo, OpensToNothing};
+ghost use Rattle.krb_enc.specs.Opens.{IsShort, HasTag, Opens, OpensOnlyTo, OpensToNothing, body_of};
 ghost use Rattle.krb_cts.specs.Undo.{undo};
 ghost use Rattle.krb_enc.specs.Written.{IsWritten};
 ghost use Rattle.krb_enc.specs.Inner.KeyBytes.{value_of, IsReadyFor};
 
 use crate::etype::{AES128_CTS_HMAC_SHA256_128, AES256_CTS_HMAC_SHA384_192};
-use crate::fault::{OpenFault, OpenToFault, Refused, ShortSlice};
+use crate::fault::{NotSealed, OpenFault, OpenToFault, ShortSlice};
 use crate::key::KeyBytes;
 use crate::tag::{Tag, are_same};
 use crate::texts::{CONFOUNDER_LEN, INITIAL_VECTOR, decrypted, encrypt_to, encrypted};
@@ -216,8 +216,69 @@ impl UsageKey {
         Ok(needed)
     }
 
+    /// Seals a plain text in place: what stands in `text` after the first 16 bytes and before the
+    /// last 16 (type 19) or 24 (type 20). The confounder takes the first bytes and the tag the last.
+    /// Allocates no memory.
+    ///
+    /// # Errors
+    /// `ShortSlice`: there are fewer bytes than a sealed empty text has. `text` is unchanged.
+    ///
+    /// Source: RFC 8009, section 5.
+    pub fn seal_in_place(&self, confounder: &[u8; 16], text: &mut [u8]) -> Result<(), ShortSlice>
+        ensures sealed { IfOk result (λ _. text.new
+            ≡ sealed (profile_of self.now.key) self.now.key.bytes self.now.usage confounder.now
+            (drop 16 (body_of (profile_of self.now.key) text.old))) }
+        ensures length { length text.new ≡ length text.old }
+        ensures short { IsErr result ↔ IsShort (profile_of self.now.key) text.old }
+        ensures needed { IfErr result (λ short. short.needed ≡ 16 + (profile_of self.now.key).tag_len) }
+        ensures unchanged { IfErr result (λ _. text.new ≡ text.old) }
+    {
+        let tag_len = self.tag_len();
+        let needed = CONFOUNDER_LEN + tag_len;
+        if text.len() < needed {
+            return Err(ShortSlice { needed });
+        }
+        let body_len = text.len() - tag_len;
+        let (body, end) = text.split_at_mut(body_len);
+        body[..CONFOUNDER_LEN].copy_from_slice(confounder);
+        krb_cts::encrypt(self.schedule(), body);
+        end.copy_from_slice(self.tag(body).as_slice());
+        Ok(())
+    }
+
+    /// Opens a text in place: leaves the plain text after the first 16 bytes and before the last 16
+    /// (type 19) or 24 (type 20). The first bytes are the confounder then, and the last still the
+    /// tag. Allocates no memory.
+    ///
+    /// # Errors
+    /// The first that applies. In each case `text` is unchanged, and nothing is decrypted.
+    /// - `Short`: there are fewer than 32 bytes (type 19) or 40 (type 20).
+    /// - `Integrity`: the last 16 or 24 bytes aren't the tag of the rest.
+    ///
+    /// Source: RFC 8009, section 5.
+    pub fn open_in_place(&self, text: &mut [u8]) -> Result<(), NotSealed>
+        ensures opened { IfOk result (λ _.
+            Opens (profile_of self.now.key) self.now.key.bytes self.now.usage text.old
+            (drop 16 (body_of (profile_of self.now.key) text.new))) }
+        ensures length { length text.new ≡ length text.old }
+        // An error is returned exactly if nothing opens.
+        ensures refused { IsErr result
+            ↔ OpensToNothing (profile_of self.now.key) self.now.key.bytes self.now.usage text.old }
+        ensures short { IsErrOf result NotSealed.Short ↔ IsShort (profile_of self.now.key) text.old }
+        ensures integrity { IsErrOf result NotSealed.Integrity
+            ↔ ((16 + (profile_of self.now.key).tag_len ≤ length text.old)
+            × (HasTag (profile_of self.now.key) self.now.key.bytes self.now.usage text.old → ⊥)) }
+        ensures unchanged { IfErr result (λ _. text.new ≡ text.old) }
+    {
+        let _ = self.body(text)?;
+        let body_len = text.len() - self.tag_len();
+        krb_cts::decrypt(self.schedule(), &mut text[..body_len]);
+        Ok(())
+    }
+
     // What comes before the tag of a text that has its tag.
-    fn body<'t>(&self, text: &'t [u8]) -> Result<&'t [u8], Refused>
+    fn body<'t>(&self, text: &'t [u8]) -> Result<&'t [u8], NotSealed>
+        ensures is { IfOk result (λ body. body.now ≡ body_of (profile_of self.now.key) text.now) }
         ensures opens { IfOk result (λ body.
             Opens (profile_of self.now.key) self.now.key.bytes self.now.usage text.now
             (drop 16 (undo (encryption_key (profile_of self.now.key) self.now.key.bytes self.now.usage) body.now))) }
@@ -227,20 +288,20 @@ impl UsageKey {
             HasTag (profile_of self.now.key) self.now.key.bytes self.now.usage text.now) }
         ensures refused { IfErr result (λ _.
             OpensToNothing (profile_of self.now.key) self.now.key.bytes self.now.usage text.now) }
-        ensures short { IsErrOf result Refused.Short ↔ IsShort (profile_of self.now.key) text.now }
-        ensures integrity { IsErrOf result Refused.Integrity
+        ensures short { IsErrOf result NotSealed.Short ↔ IsShort (profile_of self.now.key) text.now }
+        ensures integrity { IsErrOf result NotSealed.Integrity
             ↔ ((16 + (profile_of self.now.key).tag_len ≤ length text.now)
             × (HasTag (profile_of self.now.key) self.now.key.bytes self.now.usage text.now → ⊥)) }
     {
         let tag_len = self.tag_len();
         if text.len() < CONFOUNDER_LEN + tag_len {
-            return Err(Refused::Short);
+            return Err(NotSealed::Short);
         }
         let (body, end) = text.split_at(text.len() - tag_len);
         if self.tag(body).is(end) {
             Ok(body)
         } else {
-            Err(Refused::Integrity)
+            Err(NotSealed::Integrity)
         }
     }
 
@@ -251,7 +312,8 @@ impl UsageKey {
         &self.schedule
     }
 
-    fn tag_len(&self) -> usize
+    /// Returns the length of a tag: 16 bytes (type 19) or 24 (type 20).
+    pub fn tag_len(&self) -> usize
         ensures value { result ≡ (profile_of self.now.key).tag_len }
         ensures most { result ≤ 24 }
     {

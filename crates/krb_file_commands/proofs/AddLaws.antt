@@ -11,9 +11,9 @@ use Rattle.krb_keytab.specs.Format.{IsAnswerOf, IsFaultOf, IsKeytab}
 use Rattle.krb_keytab.specs.SameKey.{HasKeyOf}
 use Rattle.krb_keytab.specs.declared.fault.KeytabFault.{KeytabFault}
 use Rattle.krb_keytab.specs.declared.fault.KeytabFault.TheVariants.{Version, Truncated, BadEntry, TooLong, NoSuchEntry, Read, OutOfMemory}
-use Rattle.krb_file_commands.specs.declared.fault.FileFault.TheVariants.{Keytab}
-use Rattle.krb_file_commands.specs.Adding.{AddsEach, AreLacking, IsExtended, PassesLimit}
-use Rattle.krb_file_commands.specs.Engine.{keytab_fault, OfFile}
+use Rattle.krb_file_commands.specs.declared.fault.AddFault.TheVariants.{Keytab}
+use Rattle.krb_file_commands.specs.Adding.{AddsEach, AreLacking, Extends, IsExtended, IsUnextended, PassesLimit}
+use Rattle.krb_file_commands.specs.Status.{keytab_reads, of_keytab}
 use Rattle.krb_file_commands.specs.Inner.Adding.{IsAddedSoFar, TakesEntry}
 use Rattle.krb_file_commands.proofs.FileLaws.{of_file}
 
@@ -76,12 +76,6 @@ so_far_more old held before next entry new so_far takes = elim takes [
     added = adds_more old so_far.lacking next entry new so_far.added lacks.1;
   }
 ]
-
--- a key among two lists is in one of them
-pub key_before : (one other : List KeytabEntry) (entry : KeytabEntry) → HasKeyOf one entry → HasKeyOf (one ++ other) entry
-key_before one other entry has =
-    let at : has.0 < length (one ++ other) = omega (arith, length-append one other, has.2) in
-    (has.0, has.1, at, get_or-append one other has.1 has.0 has.2 ∙ has.3, has.4)
 
 pub key_after : (one other : List KeytabEntry) (entry : KeytabEntry) → HasKeyOf other entry → HasKeyOf (one ++ other) entry
 key_after one other entry has =
@@ -190,48 +184,37 @@ not_added old held entries at entry next fault keytab within is so_far which = e
 
 -- what holds of the bytes and entries that were read holds of both files
 passes_known : (from other : Option (List ℕ)) (file : List ℕ) (entries : List KeytabEntry) → IfSome from (λ whole. whole ≡ file)
-    → IfSome other (λ bytes. IsKeytab bytes entries) → PassesLimit file entries
-    → IfSome from (λ bytes. IsFaultOf bytes TooLong ⊎ ((TooLong ≡ TooLong) × OfFile IsKeytab other (PassesLimit bytes)))
+    → IfSome other (λ bytes. IsKeytab bytes entries) → PassesLimit file entries → IsUnextended from other (Keytab TooLong)
 passes_known None other file entries whole read passes = tt
 passes_known (Some bytes) other file entries whole read passes =
-    inr (refl, of_file IsKeytab other entries (PassesLimit bytes) read (subst (λ (l : List ℕ). PassesLimit l entries) (sym whole) passes))
+    let here : PassesLimit bytes entries = subst (λ (l : List ℕ). PassesLimit l entries) (sym whole) passes in
+    inr (refl, ((here.held, here.old_is), of_file IsKeytab other entries (PassesLimit bytes) read here))
 
 pub too_long_known : (from other : Option (List ℕ)) (file : List ℕ) (entries : List KeytabEntry) (met : KeytabFault) → IfSome from (λ whole. whole ≡ file)
     → IfSome other (λ bytes. IsKeytab bytes entries) → (met ≡ OutOfMemory) ⊎ ((met ≡ TooLong) × PassesLimit file entries)
-    → IfSome (keytab_fault (Keytab met)) (λ fault. IfSome from (λ bytes. IsFaultOf bytes fault ⊎ ((fault ≡ TooLong) × OfFile IsKeytab other (PassesLimit bytes))))
-too_long_known from other file entries met whole read which =
-    let Known : KeytabFault → Type 0 = λ f. IfSome (keytab_fault (Keytab f)) (λ fault. IfSome from (λ bytes.
-    IsFaultOf bytes fault ⊎ ((fault ≡ TooLong) × OfFile IsKeytab other (PassesLimit bytes)))) in
-    elim which [
-      | inl memory ↦ subst Known (sym memory) tt
-      | inr long ↦ subst Known (sym long.0) (passes_known from other file entries whole read long.1)
-    ]
+    → of_keytab met ≢ 3 → IsUnextended from other (Keytab met)
+too_long_known from other file entries met whole read which content = elim which [
+  | inl memory ↦ absurd (content (ap of_keytab memory))
+  | inr long ↦ subst (λ (f : KeytabFault). IsUnextended from other (Keytab f)) (sym long.0) (passes_known from other file entries whole read long.1)
+]
 
-extended_holds : (old : List ℕ) (entries : List KeytabEntry) (file : List ℕ) (Holds : List ℕ → Type 0)
-    → IsExtended old entries (λ new. file ≡ new) → Holds file → IsExtended old entries Holds
-extended_holds old entries file Holds is holds = record {
-  held = is.held;
-  lacking = is.lacking;
-  new = is.new;
-  old_is = is.old_is;
-  lacking_are = is.lacking_are;
-  added = is.added;
-  holds = subst Holds is.holds holds;
-}
+-- then no read failed
+pub unadded_reads : {P : Type 0} (met : KeytabFault) → (met ≡ OutOfMemory) ⊎ ((met ≡ TooLong) × P) → keytab_reads met ≡ 0
+unadded_reads met which = elim which [ inl memory ↦ ap keytab_reads memory | inr long ↦ ap keytab_reads long.0 ]
 
-pub extended_known : (from other : Option (List ℕ)) (file : List ℕ) (entries : List KeytabEntry) (Holds : List ℕ → Type 0)
-    → IfSome from (λ whole. whole ≡ file) → IfSome other (λ bytes. IsKeytab bytes entries) → IsExtended file entries Holds
-    → IfSome from (λ bytes. OfFile IsKeytab other (λ those. IsExtended bytes those Holds))
-extended_known None other file entries Holds whole read is = tt
-extended_known (Some bytes) other file entries Holds whole read is =
-    of_file IsKeytab other entries (λ (those : List KeytabEntry). IsExtended bytes those Holds) read
-    (subst (λ (l : List ℕ). IsExtended l entries Holds) (sym whole) is)
+pub extended_known : (from other : Option (List ℕ)) (file : List ℕ) (entries : List KeytabEntry) (new : List ℕ)
+    → IfSome from (λ whole. whole ≡ file) → IfSome other (λ bytes. IsKeytab bytes entries) → IsExtended file entries new → Extends from other new
+extended_known None other file entries new whole read is = tt
+extended_known (Some bytes) other file entries new whole read is =
+    of_file IsKeytab other entries (λ (those : List KeytabEntry). IsExtended bytes those new) read
+    (subst (λ (l : List ℕ). IsExtended l entries new) (sym whole) is)
 
--- and what holds of the new bytes is said of them
-pub extended_so : (from other : Option (List ℕ)) (file : List ℕ) (Holds : List ℕ → Type 0)
-    → IfSome from (λ bytes. OfFile IsKeytab other (λ those. IsExtended bytes those (λ new. file ≡ new))) → Holds file
-    → IfSome from (λ bytes. OfFile IsKeytab other (λ those. IsExtended bytes those Holds))
-extended_so None other file Holds is holds = tt
-extended_so (Some bytes) None file Holds is holds = tt
-extended_so (Some bytes) (Some others) file Holds is holds =
-    (is.0, (is.1.0, extended_holds bytes is.0 file Holds is.1.1 holds))
+-- what is found of bytes that hold a keytab is no failed read
+pub parsed_reads : (met : KeytabFault) (bytes : List ℕ) → (met ≢ OutOfMemory → IsFaultOf bytes met) → keytab_reads met ≡ 0
+parsed_reads Version bytes is = refl
+parsed_reads (Truncated at) bytes is = refl
+parsed_reads (BadEntry at) bytes is = refl
+parsed_reads TooLong bytes is = refl
+parsed_reads NoSuchEntry bytes is = refl
+parsed_reads Read bytes is = absurd (is (λ e. cc))
+parsed_reads OutOfMemory bytes is = refl

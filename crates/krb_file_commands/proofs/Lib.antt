@@ -1,10 +1,10 @@
-pub mod LineLaws
 pub mod FaultLaws
-pub mod FormatLaws
 pub mod FileLaws
 pub mod ReadingLaws
 pub mod WalkLaws
+pub mod ConvertLaws
 pub mod PickLaws
-pub mod RemoveLaws
 pub mod WholeLaws
+pub mod RemoveLaws
 pub mod AddLaws
+pub mod ReplaceLaws

@@ -1,15 +1,16 @@
 -- A keytab that is edited: what was taken of it, and why it isn't changed.
-use Rattle.std.proofs.Common.{◌≡◌, ℕ, ◌<◌, List, length, Option, Some, None, Result, Ok, Err, refl, sym, subst, arith, inl, inr}
+use Rattle.std.proofs.Common.{◌≡◌, ℕ, ◌<◌, List, length, Option, Some, None, Result, Ok, Err, ◌⊎◌, ◌∙◌, refl, sym, ap, subst, arith, inl, inr}
 use Rattle.std.specs.Prelude.{◌≢◌, ◌↔◌, IfSome}
 use Rattle.krb_name.specs.File.{file_limit}
 use Rattle.krb_keytab.specs.Edit.{MakesHole, LosesEntry, LacksEntry}
-use Rattle.krb_keytab.specs.Fault.{failed_reads}
 use Rattle.krb_keytab.specs.Format.{IsFaultOf}
 use Rattle.krb_keytab.specs.declared.fault.KeytabFault.{KeytabFault}
 use Rattle.krb_keytab.specs.declared.fault.KeytabFault.TheVariants.{Version, Truncated, BadEntry, TooLong, NoSuchEntry, Read, OutOfMemory}
 use Rattle.krb_file_commands.specs.Removing.{IsRemoved, IsUnremoved}
 use Rattle.krb_file_commands.specs.Inner.Whole.{HoldsFile}
-use Rattle.krb_file_commands.proofs.FaultLaws.{same_err}
+use Rattle.krb_file_commands.specs.Status.{keytab_reads, of_keytab}
+use Rattle.krb_file_commands.proofs.FaultLaws.{no_ok}
+use Rattle.krb_file_commands.proofs.WholeLaws.{taken_of}
 
 -- a fault of too many bytes
 long_unremoved : (bytes more : List ℕ) (index : ℕ) (fault : KeytabFault) → file_limit < length bytes → file_limit < length more
@@ -53,20 +54,34 @@ answer_means result bytes index NoSuchEntry missing faults = missing
 answer_means result bytes index Read missing faults = faults Read (λ e. cc)
 answer_means result bytes index OutOfMemory missing faults = faults OutOfMemory (λ e. cc)
 
--- and then no read failed
-pub no_failed_read : {X : Type 0} (result : Result X KeytabFault) (met : KeytabFault) (bytes : List ℕ) (index : ℕ) → result ≡ Err met
-    → IsUnremoved bytes index met → failed_reads result ≡ 0
-no_failed_read (Ok value) met bytes index is unremoved = refl
-no_failed_read (Err Version) met bytes index is unremoved = refl
-no_failed_read (Err (Truncated at)) met bytes index is unremoved = refl
-no_failed_read (Err (BadEntry at)) met bytes index is unremoved = refl
-no_failed_read (Err TooLong) met bytes index is unremoved = refl
-no_failed_read (Err NoSuchEntry) met bytes index is unremoved = refl
-no_failed_read (Err Read) met bytes index is unremoved = absurd (subst (λ (f : KeytabFault). IsUnremoved bytes index f) (sym (same_err Read met is)) unremoved)
-no_failed_read (Err OutOfMemory) met bytes index is unremoved = refl
+-- a read that wasn't made or memory that ran out is of status 3
+pub unread_exits : (fault : KeytabFault) → (fault ≡ OutOfMemory) ⊎ (fault ≡ Read) → of_keytab fault ≡ 3
+unread_exits fault which = elim which [ inl memory ↦ ap of_keytab memory | inr read ↦ ap of_keytab read ]
+
+-- if the file isn't edited, no read failed
+pub no_failed_read : (met : KeytabFault) (bytes : List ℕ) (index : ℕ) → IsUnremoved bytes index met → keytab_reads met ≡ 0
+no_failed_read Version bytes index unremoved = refl
+no_failed_read (Truncated at) bytes index unremoved = refl
+no_failed_read (BadEntry at) bytes index unremoved = refl
+no_failed_read TooLong bytes index unremoved = refl
+no_failed_read NoSuchEntry bytes index unremoved = refl
+no_failed_read Read bytes index unremoved = absurd unremoved
+no_failed_read OutOfMemory bytes index unremoved = refl
 
 -- the new bytes are those of the file without the entry
-pub removed_known : (from : Option (List ℕ)) (new : List ℕ) (index : ℕ) (Holds : List ℕ → Type 0) → IfSome from (λ bytes. MakesHole bytes index new)
-    → IfSome from (λ bytes. LosesEntry bytes index new) → Holds new → IfSome from (λ bytes. IsRemoved bytes index Holds)
-removed_known None new index Holds hole list holds = tt
-removed_known (Some bytes) new index Holds hole list holds = record { new = new; hole = hole; list = list; holds = holds }
+pub removed_known : (from : Option (List ℕ)) (file new : List ℕ) (index : ℕ) → IfSome from (λ whole. HoldsFile whole file) → MakesHole file index new → LosesEntry file index new
+    → IfSome from (λ bytes. IsRemoved bytes index new)
+removed_known None file new index holds hole list = tt
+removed_known (Some whole) file new index holds hole list = elim holds [
+  | inl same ↦ record {
+    hole = subst (λ (t : List ℕ). MakesHole t index new) (sym same) hole;
+    list = subst (λ (t : List ℕ). LosesEntry t index new) (sym same) list;
+  }
+  | inr long ↦ let limit = list.old_list.limit in absurd (omega (arith, long.0))
+]
+
+-- an edited file has no fault
+pub none_unremoved : {X : Type 0} (from : Option (List ℕ)) (file : List ℕ) (index : ℕ) (answer : Result X KeytabFault) (value : X) → answer ≡ Ok value → IfSome from (λ whole. HoldsFile whole file)
+    → ((fault : KeytabFault) → (answer ≡ Err fault) ↔ IsUnremoved file index fault) → (given : List ℕ) (fault : KeytabFault) → from ≡ Some given → IsUnremoved given index fault → ⊥
+none_unremoved from file index answer value is holds means given fault tells has =
+    no_ok value fault (sym is ∙ (means fault).1 (of_whole given file index fault (taken_of from given file holds tells) has))

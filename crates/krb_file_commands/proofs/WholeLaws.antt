@@ -1,5 +1,5 @@
 -- The bytes of a whole keytab that were taken from a source: what they are, and their fault.
-use Rattle.std.proofs.Common.{◌≡◌, ◌⊎◌, ◌<◌, ◌≤◌, ◌+◌, ℕ, Bool, true, false, List, length, Option, Some, None, Result, Ok, Err, sym, subst, arith, inl, inr}
+use Rattle.std.proofs.Common.{◌≡◌, ◌<◌, ◌≤◌, ◌+◌, ℕ, Bool, true, false, List, length, Option, Some, None, Result, Ok, Err, sym, subst, arith, inl, inr}
 use Rattle.std.specs.Prelude.{IfSome}
 use Rattle.krb_name.specs.File.{file_limit, TakesFile}
 use Rattle.krb_name.specs.Window.{AtHand, CameOf, Fills}
@@ -62,8 +62,3 @@ whole_taken (Some whole) bytes entries holds is = elim holds [
 
 pub taken_of : (from : Option (List ℕ)) (whole bytes : List ℕ) → IfSome from (λ it. HoldsFile it bytes) → from ≡ Some whole → HoldsFile whole bytes
 taken_of from whole bytes holds tells = rw tells at holds
-
--- the answer to bytes is one of three, of which two aren't theirs
-pub one_of_three : {X F : Type 0} (read : Result X F) (fault memory source : F) → (read ≡ Err fault) ⊎ (read ≡ Err memory)
-    → (read ≡ Err fault) ⊎ ((read ≡ Err memory) ⊎ (read ≡ Err source))
-one_of_three read fault memory source which = elim which [ inl e ↦ inl e | inr e ↦ inr (inl e) ]

@@ -7,10 +7,12 @@ use Rattle.krb_ccache.specs.declared.fault.CacheFault.{CacheFault}
 use Rattle.krb_ccache.specs.declared.fault.CacheFault.TheVariants as cache
 use Rattle.krb_name.specs.declared.text_fault.TextFault.{TextFault}
 use Rattle.krb_name.specs.declared.text_fault.TextFault.TheVariants as text
+use Rattle.krb_file_commands.specs.declared.engine.Ended.{Ended}
+use Rattle.krb_file_commands.specs.declared.engine.Ended.TheVariants as ended
+use Rattle.krb_file_commands.specs.declared.fault.AddFault.{AddFault}
+use Rattle.krb_file_commands.specs.declared.fault.AddFault.TheVariants as add
 use Rattle.krb_file_commands.specs.declared.fault.PickFault.{PickFault}
 use Rattle.krb_file_commands.specs.declared.fault.PickFault.TheVariants as pick
-use Rattle.krb_file_commands.specs.declared.fault.FileFault.{FileFault}
-use Rattle.krb_file_commands.specs.declared.fault.FileFault.TheVariants.{Keytab, Added, Cache, Pick, Write, OutOfMemory}
 
 -- what is printed of a fault: its name, and its offset in bytes if it has one
 abbrev pub FaultText : Type 0
@@ -34,17 +36,19 @@ cache_text cache.Read = (codes "Read", None)
 cache_text cache.OutOfMemory = (codes "OutOfMemory", None)
 
 abbrev pub pick_text : PickFault → FaultText
+pick_text (pick.Keytab fault) = keytab_text fault
 pick_text pick.NoName = (codes "NoName", None)
 pick_text pick.NoKey = (codes "NoKey", None)
 pick_text pick.NoVersion = (codes "NoVersion", None)
+pick_text pick.OutOfMemory = (codes "OutOfMemory", None)
 
-abbrev pub text_of : FileFault → FaultText
-text_of (Keytab fault) = keytab_text fault
-text_of (Added fault) = keytab_text fault
-text_of (Cache fault) = cache_text fault
-text_of (Pick fault) = pick_text fault
-text_of Write = (codes "Write", None)
-text_of OutOfMemory = (codes "OutOfMemory", None)
+abbrev pub add_text : AddFault → FaultText
+add_text (add.Keytab fault) = keytab_text fault
+add_text (add.Added fault) = keytab_text fault
+
+abbrev pub ended_text : {E : Type 0} → (E → FaultText) → Ended E → FaultText
+ended_text text_of (ended.Unmade fault) = text_of fault
+ended_text text_of ended.Write = (codes "Write", None)
 
 -- of a service's name
 abbrev pub name_text : TextFault → FaultText
@@ -56,3 +60,17 @@ name_text text.OutOfMemory = (codes "OutOfMemory", None)
 abbrev pub line_of : List ℕ → FaultText → List ℕ
 line_of name (fault, None) = codes "krbtool: " ++ (name ++ (codes ": " ++ fault))
 line_of name (fault, Some at) = codes "krbtool: " ++ (name ++ (codes ": " ++ (fault ++ (codes " at " ++ decimal at))))
+
+-- ---- what a fault is of, by the names of a file and of a command
+
+abbrev pub keytab_subject : KeytabFault → List ℕ → List ℕ → List ℕ
+keytab_subject keytab.NoSuchEntry file command = command
+keytab_subject _ file command = file
+
+abbrev pub pick_subject : PickFault → List ℕ → List ℕ → List ℕ
+pick_subject (pick.Keytab _) file command = file
+pick_subject _ file command = command
+
+abbrev pub ended_subject : {E : Type 0} → (E → List ℕ → List ℕ → List ℕ) → Ended E → List ℕ → List ℕ → List ℕ
+ended_subject subject (ended.Unmade fault) file command = subject fault file command
+ended_subject subject ended.Write file command = codes "output"

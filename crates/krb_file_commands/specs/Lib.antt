@@ -2,7 +2,10 @@ pub mod Lines
 pub mod Status
 pub mod Engine
 pub mod FaultText
+pub mod Converting
 pub mod Picking
 pub mod Removing
 pub mod Adding
+pub mod Replacing
+pub mod Words
 pub mod Inner

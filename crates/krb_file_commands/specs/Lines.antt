@@ -12,6 +12,9 @@ use Rattle.krb_keytab.specs.Entry.{KeytabEntry}
 use Rattle.krb_ccache.specs.Offset.{clock_offset}
 use Rattle.krb_ccache.specs.Value.{Cache}
 use Rattle.krb_ccache.specs.declared.credential.Credential.{Credential}
+use Rattle.krb_readable.specs.Readable.{cache_table, keytab_table}
+use Rattle.krb_file_commands.specs.declared.listing.CacheListing.{CacheListing}
+use Rattle.krb_file_commands.specs.declared.listing.CacheListing.TheVariants.{Lines, Table}
 
 -- key version number, enctype, timestamp and principal
 abbrev pub keytab_line : KeytabEntry → List ℕ
@@ -21,6 +24,10 @@ keytab_line entry =
 -- what list-keytab prints: a line for each entry, in their order
 abbrev pub keytab_lines : List KeytabEntry → List ℕ
 keytab_lines entries = flat_map keytab_line entries
+
+-- or a table for people
+abbrev pub keytab_listing : Bool → List KeytabEntry → List ℕ
+keytab_listing readable entries = if readable then keytab_table entries else keytab_lines entries
 
 -- what a check prints of so many entries or credentials
 abbrev pub ok_line : ℕ → List ℕ
@@ -65,3 +72,8 @@ head_lines name (Some offset) =
 -- what list-ccache prints: these, with the KDC's clock offset that the header holds, and a line for each credential, in their order
 abbrev pub cache_lines : Cache → List ℕ
 cache_lines cache = head_lines cache.default_principal (clock_offset cache.header) ++ flat_map credential_line cache.credentials
+
+-- these lines, or a table for people
+abbrev pub cache_listing : CacheListing → Cache → List ℕ
+cache_listing Lines cache = cache_lines cache
+cache_listing (Table now) cache = cache_table now cache

@@ -1,24 +1,33 @@
 -- What `pick-key` prints: the entry of a keytab whose key would open a ticket, or why there is none.
-use Rattle.std.specs.Prelude.{ℕ, ℤ, List, Option}
-use Rattle.krb_name.specs.declared.principal.Principal.{Principal}
+use Rattle.std.specs.Prelude.{◌≡◌, ℕ, List, Option}
 use Rattle.krb_keytab.specs.Entry.{KeytabEntry}
-use Rattle.krb_keytab.specs.Pick.{Choice, IsChoice, IsChosen, no_name, no_key, no_version}
+use Rattle.krb_keytab.specs.Format.{IsFaultOf, IsKeytab}
+use Rattle.krb_keytab.specs.Pick.{IsChoice, IsChosen, no_name, no_key, no_version}
+use Rattle.krb_file_commands.specs.Engine.{OfFile}
 use Rattle.krb_file_commands.specs.Lines.{keytab_line}
 use Rattle.krb_file_commands.specs.declared.fault.PickFault.{PickFault}
-use Rattle.krb_file_commands.specs.declared.fault.PickFault.TheVariants.{NoName, NoKey, NoVersion}
+use Rattle.krb_file_commands.specs.declared.fault.PickFault.TheVariants.{Keytab, NoName, NoKey, NoVersion, OutOfMemory}
+use Rattle.krb_file_commands.specs.declared.pick.PickKey.{PickKey}
 
--- the choice that a fault reports
-abbrev pub want_of : PickFault → Choice
-want_of NoName = no_name
-want_of NoKey = no_key
-want_of NoVersion = no_version
-
--- no entry is picked, for this reason
-abbrev pub IsUnpicked : List KeytabEntry → Principal → ℤ → Option ℕ → PickFault → Type 0
-IsUnpicked entries name etype kvno fault = IsChoice entries name etype kvno (want_of fault)
-
--- the line is that of the entry that is picked, as list-keytab prints it
-pub record IsPickedLine (entries : List KeytabEntry) (name : Principal) (etype : ℤ) (kvno : Option ℕ) (Holds : List ℕ → Type 0) : Type 0 where
+-- the bytes are the line of the entry that is picked, as list-keytab prints it
+pub record IsPickedLine (wanted : PickKey) (entries : List KeytabEntry) (bytes : List ℕ) : Type 0 where
   pub entry : KeytabEntry
-  pub chosen : IsChosen entries name etype kvno entry
-  pub line : Holds (keytab_line entry)
+  pub chosen : IsChosen entries wanted.name wanted.etype wanted.kvno entry
+  pub line : bytes ≡ keytab_line entry
+
+-- why no entry of these is picked
+abbrev pub IsUnmet : PickKey → List KeytabEntry → PickFault → Type 0
+IsUnmet wanted entries NoName = IsChoice entries wanted.name wanted.etype wanted.kvno no_name
+IsUnmet wanted entries NoKey = IsChoice entries wanted.name wanted.etype wanted.kvno no_key
+IsUnmet wanted entries NoVersion = IsChoice entries wanted.name wanted.etype wanted.kvno no_version
+IsUnmet wanted entries _ = ⊥
+
+-- why nothing is made of a file with these bytes
+abbrev pub IsUnpicked : PickKey → List ℕ → PickFault → Type 0
+IsUnpicked wanted given (Keytab fault) = IsFaultOf given fault
+IsUnpicked wanted given fault = (entries : List KeytabEntry) × (IsKeytab given entries × IsUnmet wanted entries fault)
+
+-- memory for the line is asked for only once an entry is picked
+abbrev pub AllowsUnpicked : PickKey → Option (List ℕ) → PickFault → Type 0
+AllowsUnpicked wanted from OutOfMemory = OfFile IsKeytab from (λ entries. (entry : KeytabEntry) × IsChosen entries wanted.name wanted.etype wanted.kvno entry)
+AllowsUnpicked wanted from _ = Unit {0}

@@ -5,12 +5,10 @@ use Rattle.krb_keytab.specs.Format.{IsFaultOf}
 use Rattle.krb_keytab.specs.declared.fault.KeytabFault.{KeytabFault}
 use Rattle.krb_keytab.specs.declared.fault.KeytabFault.TheVariants.{NoSuchEntry}
 
--- the keytab with a hole in place of the entry of this index, and this holds of its bytes
-pub record IsRemoved (old : List ℕ) (index : ℕ) (Holds : List ℕ → Type 0) : Type 0 where
-  pub new : List ℕ
+-- the bytes are the keytab with a hole in place of the entry of this index
+pub record IsRemoved (old : List ℕ) (index : ℕ) (new : List ℕ) : Type 0 where
   pub hole : MakesHole old index new
   pub list : LosesEntry old index new
-  pub holds : Holds new
 
 -- why no entry is removed: the bytes aren't a keytab, or it has no entry of this index
 abbrev pub IsUnremoved : List ℕ → ℕ → KeytabFault → Type 0

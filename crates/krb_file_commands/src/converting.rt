@@ -1,63 +1,59 @@
-//! The engine of `convert-keytab` and `convert-ccache`.
+//! What `convert-keytab` and `convert-ccache` make: the file, written again.
 
-ghost use Rattle.std.specs.Prelude.{◌≡◌, ◌⊎◌, ◌+◌, ◌-◌, ◌^◌, ◌<◌, ℕ, List, Some, Err, IfOk, IfErr, IfSome, length};
-ghost use Rattle.std.specs.Io.KnownBytes.{Appends, Keeps};
-ghost use Rattle.krb_name.specs.File.{TakesFile, file_limit};
-ghost use Rattle.krb_name.specs.Flow.{AppendsBeginning};
-ghost use Rattle.krb_file_commands.specs.Engine.{FailsBy, IsContent, IsOfFile, OfFile, ReportsAlways, failed_reads, failed_writes};
+ghost use Rattle.std.specs.Prelude.{◌≡◌};
+ghost use Rattle.krb_ccache.specs.Format as in_cache;
+ghost use Rattle.krb_ccache.specs.declared.fault.CacheFault.TheVariants.{TooLong as LongCache};
+ghost use Rattle.krb_keytab.specs.Format as in_keytab;
+ghost use Rattle.krb_keytab.specs.Written.{written};
+ghost use Rattle.krb_keytab.specs.declared.fault.KeytabFault.TheVariants.{TooLong as LongKeytab};
+ghost use Rattle.krb_file_commands.specs.Converting.{IsUnwritten};
+ghost use Rattle.krb_file_commands.specs.Engine.{OfFile};
+ghost use Rattle.krb_file_commands.specs.Status.{cache_reads, keytab_reads};
 
-use crate::fault::FileFault;
-use crate::format::FileFormat;
-use crate::whole::write_bytes;
-use krb_name::{Sink, Source};
+use crate::engine::Product;
+use krb_ccache::{CCache, CacheFault};
+use krb_keytab::{Keytab, KeytabFault};
+use krb_name::Source;
 use std::alloc::Global;
 
-/// Writes a keytab or a credential cache again, and returns how many bytes that took.
-///
-/// A keytab is written without holes and without what follows its entries; the entries and their order
-/// stay. A cache is written as one of version 0x0504: nothing of its value is lost, and if it was of
-/// that version, these are the bytes that were read.
-///
-/// The whole source is read before a byte is written, so a fault of the content leaves the sink as it
-/// was.
-///
-/// # Errors
-/// - `Keytab` or `Cache`: what was read isn't such a file, or couldn't be read, or there was no room for it
-///   or for what is written; `TooLong` also if that would have more than 16,777,216 bytes.
-/// - `Write`: the sink failed; it took a beginning of the bytes.
-///
-/// Condition: fewer than 18,446,744,073,709,551,615 reads and writes have failed so far.
-pub fn convert<F: FileFormat, S: Source, T: Sink>(
-    alloc: Global,
-    source: &mut S,
-    sink: &mut T,
-) -> Result<usize, FileFault>
-    requires source { S.failure_count source.old < 2 ^ 64 - 1 }
-    requires sink { T.failure_count sink.old < 2 ^ 64 - 1 }
-    ensures converted { IfOk result (λ count. OfFile F.is_file (S.remaining source.old) (λ value.
-        Appends (T.taken sink.old) (T.taken sink.new) (F.bytes value) × (count ≡ length (F.bytes value)))) }
+/// `convert-keytab` makes the keytab's bytes, without holes and without what follows its entries. The entries and their order
+/// stay.
+#[derive(Clone, Copy)]
+pub struct ConvertKeytab;
 
-    // A fault of the content is the file's own, or that what is to be written passes the limit; and each is
-    // returned wherever it is there.
-    ensures fault { IfErr result (λ e. IsContent e → IfSome (S.remaining source.old) (λ bytes. F.is_fault_of bytes e
-        ⊎ ((e ≡ F.too_long) × ((value : F) × (F.is_file bytes value × (file_limit < length (F.bytes value))))))) }
-    ensures faulty { ReportsAlways F.is_fault_of (S.remaining source.old) result }
-    ensures grown { (bytes : List ℕ) (value : F)
-        → S.remaining source.old ≡ Some bytes → F.is_file bytes value → file_limit < length (F.bytes value)
-        → FailsBy result F.too_long }
+impl Product for ConvertKeytab {
+    type Fault = KeytabFault;
 
-    // If there is nothing to write, the sink is unchanged; if it fails, it took a beginning.
-    ensures unread { (e : FileFault) → result ≡ Err e → IsOfFile e → Keeps (T.taken sink.old) (T.taken sink.new) }
-    ensures begun { result ≡ Err FileFault.Write
-        → OfFile F.is_file (S.remaining source.old) (λ value.
-        AppendsBeginning (T.taken sink.old) (T.taken sink.new) (F.bytes value)) }
-    ensures memory { result ≡ Err FileFault.OutOfMemory → ⊥ }
-    ensures kind { IfErr result (λ e. F.is_of e ⊎ (e ≡ FileFault.Write)) }
-    ensures reads { S.failure_count source.new ≡ S.failure_count source.old + failed_reads result }
-    ensures taken { TakesFile (S.remaining source.old) (S.remaining source.new) }
-    ensures writes { T.failure_count sink.new ≡ T.failure_count sink.old + failed_writes result }
-{
-    let value = F::read_file(alloc, source)?;
-    let bytes = value.file_bytes(alloc)?;
-    write_bytes(sink, &bytes)
+    ghost makes = { λ _ from bytes. OfFile in_keytab.IsKeytab from (λ entries. bytes ≡ written entries) };
+
+    ghost faults = { λ _ given fault. IsUnwritten in_keytab.IsKeytab in_keytab.IsFaultOf LongKeytab written given fault };
+
+    ghost failed_reads = { keytab_reads };
+
+    fn make<S: Source>(&self, alloc: Global, source: &mut S) -> Result<Vec<u8>, KeytabFault> {
+        krb_keytab::laws::each_file_has_one_answer();
+        let keytab = Keytab::read(alloc, source)?;
+        keytab.to_bytes(alloc)
+    }
+}
+
+/// `convert-ccache` makes the bytes of a cache of version 0x0504. Nothing of its value is lost; if it was of that version, they
+/// are the bytes that were read.
+#[derive(Clone, Copy)]
+pub struct ConvertCcache;
+
+impl Product for ConvertCcache {
+    type Fault = CacheFault;
+
+    ghost makes = { λ _ from bytes. OfFile in_cache.IsCache from (λ cache. bytes ≡ in_cache.written cache) };
+
+    ghost faults = { λ _ given fault. IsUnwritten in_cache.IsCache in_cache.IsFaultOf LongCache in_cache.written given fault };
+
+    ghost failed_reads = { cache_reads };
+
+    fn make<S: Source>(&self, alloc: Global, source: &mut S) -> Result<Vec<u8>, CacheFault> {
+        krb_ccache::laws::each_file_has_one_answer();
+        let cache = CCache::read(alloc, source)?;
+        cache.to_bytes(alloc)
+    }
 }

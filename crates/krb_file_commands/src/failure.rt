@@ -1,6 +1,6 @@
 //! What the program says of a command that failed, and its exit status.
 
-ghost use Rattle.std.specs.Prelude.{◌≡◌, ℕ};
+ghost use Rattle.std.specs.Prelude.{◌≡◌, ◌≤◌, ℕ, List};
 ghost use Rattle.krb_file_commands.specs.FaultText.{FaultText};
 
 /// What is printed of a fault: its name, and its offset in bytes if it has one.
@@ -14,6 +14,9 @@ pub trait Failure: Copy {
     // The exit status that it leads to.
     ghost exit_status: { Self → ℕ };
 
+    // What it is of, by the names of a file and of a command.
+    ghost subject: { Self → List ℕ → List ℕ → List ℕ };
+
     /// Returns what is printed of the fault.
     fn text(&self) -> FailureText
         ensures { (result.0.now, result.1) ≡ printed self.now };
@@ -21,10 +24,13 @@ pub trait Failure: Copy {
     /// Returns the exit status for the fault: 3 if a file, an input, an output or memory failed, 1 if content is
     /// refused.
     fn status(&self) -> u8
-        ensures { result ≡ exit_status self.now };
+        ensures status { result ≡ exit_status self.now }
+        ensures failed { 1 ≤ result }
+        ensures known { result ≤ 3 };
 
     /// Returns what the fault is of: the file, the command, or a stream.
-    fn named<'a>(&self, file: &'a str, command: &'a str) -> &'a str;
+    fn named<'a>(&self, file: &'a str, command: &'a str) -> &'a str
+        ensures { result.now ≡ subject self.now file.entry.now command.entry.now };
 }
 
 /// The command line is wrong.

@@ -54,11 +54,7 @@ pub fn fault_line<'a, F: Failure>(name: &'a str, fault: &F) -> FaultLine<'a>
 pub fn file_line(name: &str) -> FaultLine<'_>
     ensures { result ≡ line_of name.entry.now (codes "File", None) }
 {
-    FaultLine {
-        name,
-        fault: "File",
-        at: None,
-    }
+    plain(name, "File")
 }
 
 /// Gives the line for an argument of this name that isn't the name of a service. It takes no memory.
@@ -87,20 +83,36 @@ fn name_text(fault: &TextFault) -> FailureText
 pub fn word_line(argument: &str) -> FaultLine<'_>
     ensures { result ≡ line_of argument.entry.now (codes "BadWord", None) }
 {
-    FaultLine {
-        name: argument,
-        fault: "BadWord",
-        at: None,
-    }
+    plain(argument, "BadWord")
 }
 
 /// Gives the line for an argument of this name that isn't in hexadecimal, or not of the right length. It takes no memory.
 pub fn hex_line(argument: &str) -> FaultLine<'_>
     ensures { result ≡ line_of argument.entry.now (codes "BadHex", None) }
 {
+    plain(argument, "BadHex")
+}
+
+/// Gives the line for what memory ran out for. It takes no memory.
+pub fn memory_line(name: &str) -> FaultLine<'_>
+    ensures { result ≡ line_of name.entry.now (codes "OutOfMemory", None) }
+{
+    plain(name, "OutOfMemory")
+}
+
+/// Gives the line for standard output that can't be written. It takes no memory.
+pub fn write_line() -> FaultLine<'static>
+    ensures { result ≡ line_of (codes "output") (codes "Write", None) }
+{
+    plain("output", "Write")
+}
+
+fn plain<'a>(name: &'a str, fault: &'static str) -> FaultLine<'a>
+    ensures { result ≡ line_of name.entry.now (fault.now, None) }
+{
     FaultLine {
-        name: argument,
-        fault: "BadHex",
+        name,
+        fault,
         at: None,
     }
 }

@@ -1,47 +1,51 @@
 //! The commands of krbtool that work on files alone: listing, checking and writing again keytabs and credential
 //! caches, and picking, removing and adding keys.
 //!
-//! What a command answers is said by the contract of its engine over a source and a sink: [`list`], [`check`],
-//! [`convert`], [`pick_key`], [`remove_key`] and [`add_keys`]. A function whose name begins with `run_` opens the
-//! files, runs the engine, prints a fault's line on standard error and returns the exit status; no contract covers
-//! that. [`Failure`] and [`Engine`] serve the commands of other crates too.
+//! What a command makes of the file that it reads is said by its [`Product`], and what is written of that by
+//! [`produce`], the engine. [`add_keys`] makes a keytab of two. A keytab that is changed is written by [`replace`],
+//! so that it is either as it was or whole. A function whose name begins with `run_` opens the files, runs the
+//! engine, prints a fault's line on standard error and returns the exit status. [`Failure`], [`Product`] and
+//! [`run_product`] serve the commands of other crates too.
 #![tactic(auto)]
 
 mod add;
 mod checking;
+mod commands;
 mod converting;
 mod count;
+mod engine;
 mod failure;
 mod fault;
 mod fault_lines;
-mod format;
-mod line;
 mod lines;
 mod listing;
+mod new_file;
 mod pick;
 mod remove;
+mod replacing;
 mod run;
-mod run_look;
-mod run_picking;
-mod run_rewrite;
 mod service;
-mod table;
+mod store;
+mod target;
 mod walk;
 mod whole;
 
 pub use add::add_keys;
-pub use checking::check;
-pub use converting::convert;
+pub use checking::{CheckCcache, CheckKeytab};
+pub use commands::{
+    run_add, run_check_ccache, run_check_keytab, run_convert_ccache, run_convert_keytab,
+    run_list_ccache, run_list_keytab, run_pick, run_remove,
+};
+pub use converting::{ConvertCcache, ConvertKeytab};
+pub use engine::{Ended, Product, produce};
 pub use failure::{FAILED, Failure, FailureText, REFUSED, WRONG_WORDS};
-pub use fault::{FileFault, PickFault, service_status};
-pub use fault_lines::{FaultLine, fault_line, file_line, hex_line, name_line, word_line};
-pub use format::FileFormat;
-pub use listing::{Lines, Listing, list};
-pub use pick::pick_key;
-pub use remove::remove_key;
-pub use run::{Engine, complain, complain_of, print_of_file, source_of};
-pub use run_look::{run_check_ccache, run_check_keytab, run_list_ccache, run_list_keytab};
-pub use run_picking::run_pick;
-pub use run_rewrite::{run_add, run_convert_ccache, run_convert_keytab, run_remove};
-pub use service::read_service;
-pub use table::{CacheTable, KeytabTable};
+pub use fault::{AddFault, PickFault, service_status};
+pub use fault_lines::{
+    FaultLine, fault_line, file_line, hex_line, memory_line, name_line, word_line, write_line,
+};
+pub use listing::{CacheListing, ListKeytab};
+pub use pick::PickKey;
+pub use remove::RemoveKey;
+pub use replacing::{Replacement, StepFailed, Unreplaced, replace};
+pub use run::{complain, complain_of, open_file, run_product, source_of};
+pub use service::{read_service, service_of};

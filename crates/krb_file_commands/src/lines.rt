@@ -1,46 +1,61 @@
-//! The lines of a keytab and of a cache.
+//! The lines of a keytab and of a cache, for programs.
 
-ghost use Rattle.std.specs.Prelude.{◌≡◌, IfOk, string_bytes};
-ghost use Rattle.krb_file_commands.specs.Lines.{keytab_lines, head_lines, cache_lines};
+ghost use Rattle.std.specs.Prelude.{◌≡◌, ◌++◌, ◌∷◌, [], IfOk, OnOk, string_bytes};
+ghost use Rattle.krb_file_commands.specs.Lines.{keytab_line, keytab_lines, head_lines, cache_lines, credential_line, config_line, ticket_line, times_of, names_of};
 
-use crate::line::Line;
 use crate::walk::{FromCredentials, FromEntries};
-use krb_ccache::{CacheFault, CredentialReader};
-use krb_keytab::{EntryReader, KeytabFault};
+use krb_ccache::{CCache, CacheFault, Credential, CredentialReader};
+use krb_keytab::{Entry, EntryReader, KeytabFault};
 use krb_name::{Principal, Source};
 use std::alloc::{AllocError, Global};
+use std::fmt::Write;
 
-impl FromEntries for String {
-    ghost is_of = { λ lines entries. string_bytes lines ≡ keytab_lines entries };
+/// Makes the lines.
+pub(crate) struct Lines;
+
+impl FromEntries for Lines {
+    ghost of_entries = { keytab_lines };
 
     fn from_entries<S: Source>(
         alloc: Global,
         reader: &mut EntryReader<S>,
-    ) -> Result<String, KeytabFault> {
+    ) -> Result<Vec<u8>, KeytabFault> {
         krb_keytab::laws::each_file_has_one_answer();
         krb_keytab::laws::a_reader_tells_the_file();
         let mut lines = String::new(alloc);
         while let Some(entry) = reader.next(alloc)? {
-            entry.write_line(alloc, &mut lines)?;
+            write_entry(&entry, &mut lines)?;
         }
-        Ok(lines)
+        Ok(lines.into_bytes())
     }
 }
 
-impl FromCredentials for String {
-    ghost is_of = { λ lines cache. string_bytes lines ≡ cache_lines cache };
+/// Writes the line of an entry after a text.
+pub(crate) fn write_entry(entry: &Entry, text: &mut String) -> Result<(), AllocError>
+    ensures { OnOk result (string_bytes text.new ≡ string_bytes text.old ++ keytab_line entry.now) }
+{
+    let kvno = entry.kvno();
+    let etype = entry.etype();
+    let timestamp = entry.timestamp();
+    write!(text, "{kvno} {etype} {timestamp} ")?;
+    entry.principal().write_text(text)?;
+    text.push('\n')
+}
+
+impl FromCredentials for Lines {
+    ghost of_cache = { cache_lines };
 
     fn from_credentials<S: Source>(
         alloc: Global,
         reader: &mut CredentialReader<S>,
-    ) -> Result<String, CacheFault> {
+    ) -> Result<Vec<u8>, CacheFault> {
         krb_ccache::laws::each_file_has_one_answer();
         krb_ccache::laws::a_source_tells_its_file();
         let mut lines = head_lines(alloc, reader.default_principal(), reader.kdc_offset())?;
         while let Some(credential) = reader.next(alloc)? {
-            credential.write_line(alloc, &mut lines)?;
+            write_credential(alloc, &credential, &mut lines)?;
         }
-        Ok(lines)
+        Ok(lines.into_bytes())
     }
 }
 
@@ -58,4 +73,56 @@ fn head_lines(
         }
         None => format!(in alloc; "default {name}\n"),
     }
+}
+
+fn write_credential(
+    alloc: Global,
+    credential: &Credential,
+    text: &mut String,
+) -> Result<(), AllocError>
+    ensures { OnOk result (string_bytes text.new ≡ string_bytes text.old ++ credential_line credential.now) }
+{
+    if CCache::is_configuration(credential) {
+        write_config(credential, text)
+    } else {
+        write_ticket(alloc, credential, text)
+    }
+}
+
+fn write_config(credential: &Credential, text: &mut String) -> Result<(), AllocError>
+    ensures { OnOk result (string_bytes text.new ≡ string_bytes text.old ++ config_line credential.now) }
+{
+    text.push_str("config ")?;
+    credential.server.write_text(text)?;
+    text.push('\n')
+}
+
+fn write_ticket(alloc: Global, credential: &Credential, text: &mut String) -> Result<(), AllocError>
+    ensures { OnOk result (string_bytes text.new ≡ string_bytes text.old ++ ticket_line credential.now) }
+{
+    let etype = credential.etype;
+    let flags = hex::encode(alloc, credential.ticket_flags.to_be_bytes())?;
+    write!(text, "ticket {etype} ")?;
+    write_times(credential, text)?;
+    write!(text, " {flags} ")?;
+    write_names(credential, text)
+}
+
+fn write_times(credential: &Credential, text: &mut String) -> Result<(), AllocError>
+    ensures { OnOk result (string_bytes text.new ≡ string_bytes text.old ++ times_of credential.now) }
+{
+    let authtime = credential.authtime;
+    let starttime = credential.starttime;
+    let endtime = credential.endtime;
+    let renew_till = credential.renew_till;
+    write!(text, "{authtime} {starttime} {endtime} {renew_till}")
+}
+
+fn write_names(credential: &Credential, text: &mut String) -> Result<(), AllocError>
+    ensures { OnOk result (string_bytes text.new ≡ string_bytes text.old ++ (names_of credential.now ++ 10 ∷ [])) }
+{
+    credential.client.write_text(text)?;
+    text.push(' ')?;
+    credential.server.write_text(text)?;
+    text.push('\n')
 }

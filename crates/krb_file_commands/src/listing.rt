@@ -1,166 +1,110 @@
-//! The engine of `list-keytab` and `list-ccache`, and the lines that it writes.
+//! What `list-keytab` and `list-ccache` make.
 
-ghost use Rattle.std.specs.Prelude.{◌≡◌, ◌⊎◌, ◌+◌, ◌-◌, ◌^◌, ◌<◌, ◌++◌, ◌∷◌, [], ℕ, List, Err, IfOk, IfErr, OnOk, OnErr, string_bytes};
-ghost use Rattle.std.specs.Io.KnownBytes.{Appends, Keeps};
-ghost use Rattle.krb_name.specs.File.{TakesFile};
-ghost use Rattle.krb_name.specs.Flow.{AppendsBeginning};
-ghost use Rattle.krb_file_commands.specs.Lines.{keytab_line, keytab_lines, credential_line, config_line, ticket_line, times_of, names_of, cache_lines};
-ghost use Rattle.krb_file_commands.specs.Engine.{IsOfFile, OfFile, ReadsOrFails, ReportsAlways, ReportsTruly, failed_reads, failed_writes};
+ghost use Rattle.std.specs.Prelude.{◌≡◌, ◌-◌, ◌^◌, ◌<◌};
+ghost use Rattle.krb_ccache.specs.Format as in_cache;
+ghost use Rattle.krb_keytab.specs.Format as in_keytab;
+ghost use Rattle.krb_readable.specs.Readable.{cache_table, keytab_table};
+ghost use Rattle.krb_file_commands.specs.Engine.{OfFile};
+ghost use Rattle.krb_file_commands.specs.Inner.Reading.{ReadsCache, ReadsKeytab};
+ghost use Rattle.krb_file_commands.specs.Lines.{cache_listing, keytab_listing};
+ghost use Rattle.krb_file_commands.specs.Status.{cache_reads, keytab_reads};
 
-use crate::fault::FileFault;
-use crate::format::FileFormat;
-use crate::line::Line;
+use crate::engine::Product;
+use crate::lines::Lines;
 use crate::walk::{walk_ccache, walk_keytab};
-use krb_ccache::{CCache, Credential};
-use krb_keytab::{Entry, Keytab};
-use krb_name::{Sink, Source, write_all};
-use std::alloc::{AllocError, Global};
-use std::fmt::Write;
+use krb_ccache::{CCache, CacheFault};
+use krb_keytab::{Keytab, KeytabFault};
+use krb_name::Source;
+use krb_readable::{readable_ccache, readable_keytab};
+use std::alloc::Global;
 
-/// How a file is listed.
-pub trait Listing<F: FileFormat> {
-    // What is written of its value.
-    ghost text: { Self → F → List ℕ };
-
-    /// Reads a file to its end, or to one byte past 16,777,216, and returns what is written of it.
-    fn read_text<S: Source>(&self, alloc: Global, source: &mut S) -> Result<String, FileFault>
-        requires { S.failure_count source.old < 2 ^ 64 - 1 }
-        ensures { ReadsOrFails F.is_file F.is_fault_of F.is_of (S.remaining source.old) (S.remaining source.new)
-            (S.failure_count source.old) (S.failure_count source.new)
-            (λ made value. string_bytes made ≡ text self.now value) result };
-}
-
-/// Lists a keytab or a credential cache: reads it and writes it in this way.
-///
-/// The whole source is read before a byte is written, so a fault of the content leaves the sink as it
-/// was.
-///
-/// # Errors
-/// - `Keytab` or `Cache`: what was read isn't such a file, or couldn't be read, or there was no room for it
-///   or for the text.
-/// - `Write`: the sink failed; it took a beginning of the text.
-///
-/// Condition: fewer than 18,446,744,073,709,551,615 reads and writes have failed so far.
-pub fn list<F: FileFormat, L: Listing<F>, S: Source, T: Sink>(
-    alloc: Global,
-    source: &mut S,
-    sink: &mut T,
-    listing: &L,
-) -> Result<(), FileFault>
-    requires source { S.failure_count source.old < 2 ^ 64 - 1 }
-    requires sink { T.failure_count sink.old < 2 ^ 64 - 1 }
-    ensures listed { OnOk result (OfFile F.is_file (S.remaining source.old) (λ value.
-        Appends (T.taken sink.old) (T.taken sink.new) (L.text listing.now value))) }
-
-    ensures fault { ReportsTruly F.is_fault_of (S.remaining source.old) result }
-    ensures faulty { ReportsAlways F.is_fault_of (S.remaining source.old) result }
-
-    // If the file couldn't be had, the sink is as it was; at any other fault it took a beginning of the
-    // text.
-    ensures unread { (e : FileFault) → result ≡ Err e → IsOfFile e → Keeps (T.taken sink.old) (T.taken sink.new) }
-    ensures begun { (result ≡ Err FileFault.Write) ⊎ (result ≡ Err FileFault.OutOfMemory)
-        → OfFile F.is_file (S.remaining source.old) (λ value.
-        AppendsBeginning (T.taken sink.old) (T.taken sink.new) (L.text listing.now value)) }
-    ensures kind { IfErr result (λ e. F.is_of e ⊎ (e ≡ FileFault.Write)) }
-    ensures reads { S.failure_count source.new ≡ S.failure_count source.old + failed_reads result }
-    ensures taken { TakesFile (S.remaining source.old) (S.remaining source.new) }
-    ensures writes { T.failure_count sink.new ≡ T.failure_count sink.old + failed_writes result }
-{
-    let text = listing.read_text(alloc, source)?;
-    write_all(sink, text.as_bytes())?;
-    Ok(())
-}
-
-/// Lines for programs.
-///
-/// Of a keytab: a line for each entry, in the order of the file, with its key version number,
-/// encryption type, timestamp (seconds since 1970-01-01) and principal.
-///
-/// Of a credential cache: a line for its default principal, one for the KDC's clock offset if the cache
-/// holds one, and one for each credential, in the order of the file. The line of a configuration entry
-/// names its server. That of a ticket has the session key's encryption type, authtime, starttime,
-/// endtime and renew_till (seconds since 1970-01-01, 0 if there is none), the ticket's flags as 8
-/// hexadecimal digits, client and server.
+/// `list-keytab` makes a line for each entry, in the order of the file, with its key version number, encryption type,
+/// timestamp (seconds since 1970-01-01) and principal; or a table for people, as `readable_keytab` says.
 #[derive(Clone, Copy)]
-pub struct Lines;
-
-impl Listing<Keytab> for Lines {
-    ghost text = { λ _ entries. keytab_lines entries };
-
-    fn read_text<S: Source>(&self, alloc: Global, source: &mut S) -> Result<String, FileFault> {
-        let lines = walk_keytab::<String, S>(alloc, source)?;
-        Ok(lines)
-    }
+pub struct ListKeytab {
+    /// Whether a table is made.
+    pub readable: bool,
 }
 
-impl Line for Entry {
-    ghost line = { keytab_line };
+impl Product for ListKeytab {
+    type Fault = KeytabFault;
 
-    fn write_line(&self, _alloc: Global, text: &mut String) -> Result<(), AllocError> {
-        let kvno = self.kvno();
-        let etype = self.etype();
-        let timestamp = self.timestamp();
-        write!(text, "{kvno} {etype} {timestamp} ")?;
-        self.principal().write_text(text)?;
-        text.push('\n')
-    }
-}
+    ghost makes = { λ list from bytes. OfFile in_keytab.IsKeytab from (λ entries. bytes ≡ keytab_listing list.readable entries) };
 
-impl Listing<CCache> for Lines {
-    ghost text = { λ _ cache. cache_lines cache };
+    ghost faults = { λ _ given fault. in_keytab.IsFaultOf given fault };
 
-    fn read_text<S: Source>(&self, alloc: Global, source: &mut S) -> Result<String, FileFault> {
-        let lines = walk_ccache::<String, S>(alloc, source)?;
-        Ok(lines)
-    }
-}
+    ghost failed_reads = { keytab_reads };
 
-impl Line for Credential {
-    ghost line = { credential_line };
-
-    fn write_line(&self, alloc: Global, text: &mut String) -> Result<(), AllocError> {
-        if CCache::is_configuration(self) {
-            write_config(self, text)
+    fn make<S: Source>(&self, alloc: Global, source: &mut S) -> Result<Vec<u8>, KeytabFault> {
+        if self.readable {
+            table_of_keytab(alloc, source)
         } else {
-            write_ticket(alloc, self, text)
+            walk_keytab::<Lines, S>(alloc, source)
         }
     }
 }
 
-fn write_config(credential: &Credential, text: &mut String) -> Result<(), AllocError>
-    ensures { OnOk result (string_bytes text.new ≡ string_bytes text.old ++ config_line credential.now) }
+// Reads a whole keytab, since the width of a column is known only then, and returns its table.
+fn table_of_keytab<S: Source>(alloc: Global, source: &mut S) -> Result<Vec<u8>, KeytabFault>
+    requires { S.failure_count source.old < 2 ^ 64 - 1 }
+    ensures { ReadsKeytab (S.remaining source.old) (S.remaining source.new)
+        (S.failure_count source.old) (S.failure_count source.new)
+        (λ table entries. table.items ≡ keytab_table entries) result }
 {
-    text.push_str("config ")?;
-    credential.server.write_text(text)?;
-    text.push('\n')
+    krb_keytab::laws::each_file_has_one_answer();
+    let keytab = Keytab::read(alloc, source)?;
+    let table = readable_keytab(alloc, &keytab)?;
+    Ok(table.into_bytes())
 }
 
-fn write_ticket(alloc: Global, credential: &Credential, text: &mut String) -> Result<(), AllocError>
-    ensures { OnOk result (string_bytes text.new ≡ string_bytes text.old ++ ticket_line credential.now) }
-{
-    let etype = credential.etype;
-    let flags = hex::encode(alloc, credential.ticket_flags.to_be_bytes())?;
-    write!(text, "ticket {etype} ")?;
-    write_times(credential, text)?;
-    write!(text, " {flags} ")?;
-    write_names(credential, text)
+/// How a credential cache is listed.
+#[derive(Clone, Copy)]
+pub enum CacheListing {
+    /// In lines for programs.
+    Lines,
+    /// As a table for people.
+    Table {
+        /// When tickets are looked at, if that is known: seconds since 1970-01-01.
+        now: Option<u64>,
+    },
 }
 
-fn write_times(credential: &Credential, text: &mut String) -> Result<(), AllocError>
-    ensures { OnOk result (string_bytes text.new ≡ string_bytes text.old ++ times_of credential.now) }
-{
-    let authtime = credential.authtime;
-    let starttime = credential.starttime;
-    let endtime = credential.endtime;
-    let renew_till = credential.renew_till;
-    write!(text, "{authtime} {starttime} {endtime} {renew_till}")
+/// `list-ccache` makes a line for the cache's default principal, one for the KDC's clock offset if the cache holds one, and
+/// one for each credential, in the order of the file; or a table for people, as `readable_ccache` says.
+///
+/// The line of a configuration entry names its server. That of a ticket has the session key's encryption type, authtime,
+/// starttime, endtime and renew_till (seconds since 1970-01-01, 0 if there is none), the ticket's flags as 8 hexadecimal
+/// digits, client and server.
+impl Product for CacheListing {
+    type Fault = CacheFault;
+
+    ghost makes = { λ list from bytes. OfFile in_cache.IsCache from (λ cache. bytes ≡ cache_listing list cache) };
+
+    ghost faults = { λ _ given fault. in_cache.IsFaultOf given fault };
+
+    ghost failed_reads = { cache_reads };
+
+    fn make<S: Source>(&self, alloc: Global, source: &mut S) -> Result<Vec<u8>, CacheFault> {
+        match *self {
+            CacheListing::Lines => walk_ccache::<Lines, S>(alloc, source),
+            CacheListing::Table { now } => table_of_ccache(alloc, source, now),
+        }
+    }
 }
 
-fn write_names(credential: &Credential, text: &mut String) -> Result<(), AllocError>
-    ensures { OnOk result (string_bytes text.new ≡ string_bytes text.old ++ (names_of credential.now ++ 10 ∷ [])) }
+// Reads a whole cache, for the same reason, and returns its table.
+fn table_of_ccache<S: Source>(
+    alloc: Global,
+    source: &mut S,
+    now: Option<u64>,
+) -> Result<Vec<u8>, CacheFault>
+    requires { S.failure_count source.old < 2 ^ 64 - 1 }
+    ensures { ReadsCache (S.remaining source.old) (S.remaining source.new)
+        (S.failure_count source.old) (S.failure_count source.new)
+        (λ table cache. table.items ≡ cache_table now cache) result }
 {
-    credential.client.write_text(text)?;
-    text.push(' ')?;
-    credential.server.write_text(text)?;
-    text.push('\n')
+    krb_ccache::laws::each_file_has_one_answer();
+    let cache = CCache::read(alloc, source)?;
+    let table = readable_ccache(alloc, &cache, now)?;
+    Ok(table.into_bytes())
 }

@@ -1,10 +1,13 @@
 //! The name of a service on the command line.
 
-ghost use Rattle.std.specs.Prelude.{◌≡◌, Result, pos, IfOk};
+ghost use Rattle.std.specs.Prelude.{◌≡◌, ◌⊎◌, Result, Ok, pos, IfErr, IfOk};
 ghost use Rattle.krb_name.specs.Reading.{IsReadAs, SameAnswer};
 ghost use Rattle.krb_name.specs.declared.principal.Principal.{Principal};
 ghost use Rattle.krb_name.specs.declared.text_fault.TextFault.{TextFault};
 
+use crate::fault::service_status;
+use crate::fault_lines::name_line;
+use crate::run::complain;
 use krb_name::{Principal, TextFault};
 use std::alloc::Global;
 
@@ -22,4 +25,19 @@ pub fn read_service(alloc: Global, text: &str) -> Result<Principal, TextFault>
     ensures name_type { IfOk result (λ service. service.name_type ≡ pos 3) }
 {
     Principal::from_text(alloc, text, SERVICE_NAME_TYPE)
+}
+
+/// Reads a service's name off the words of the command line. If it is none, that is printed, and the exit status is the error.
+pub fn service_of<R: AllocGlobal + Eprint>(
+    rt: &R,
+    argument: &str,
+    text: &str,
+) -> Result<Principal, u8>
+    ensures read { IfOk result (λ name. IsReadAs text.now (Ok name) × (name.name_type ≡ pos 3)) }
+    ensures status { IfErr result (λ status. (status ≡ 2) ⊎ (status ≡ 3)) }
+{
+    match read_service(rt.alloc(), text) {
+        Ok(name) => Ok(name),
+        Err(fault) => Err(complain(rt, name_line(argument, &fault), service_status(&fault))),
+    }
 }

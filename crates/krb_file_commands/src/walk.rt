@@ -1,4 +1,4 @@
-//! Reading a keytab or a cache, with one entry or credential at hand at a time, and making something of them.
+//! Reading a keytab or a cache, with one entry or credential at hand at a time, and making bytes of it.
 
 ghost use Rattle.std.specs.Prelude.{◌≡◌, ◌-◌, ◌^◌, ◌<◌, ℕ, List, [], Option, None};
 ghost use Rattle.krb_ccache.specs.Value.{Cache};
@@ -13,52 +13,55 @@ use krb_name::Source;
 use std::alloc::Global;
 
 /// What is made of the entries of a keytab.
-pub(crate) trait FromEntries: Sized {
-    // It is what is made of these.
-    ghost is_of: { Self → List KeytabEntry → Type 0 };
+pub(crate) trait FromEntries {
+    // The bytes that are made of these.
+    ghost of_entries: { List KeytabEntry → List ℕ };
 
     /// Makes it of the entries to come, of a reader that has given none.
     fn from_entries<S: Source>(
         alloc: Global,
         reader: &mut EntryReader<S>,
-    ) -> Result<Self, KeytabFault>
+    ) -> Result<Vec<u8>, KeytabFault>
         requires reads { S.failure_count reader.old.source < 2 ^ 64 - 1 }
         requires start { HasRead (S.remaining reader.old.source) reader.old [] [] }
         requires going { last_answer reader.old.stage ≡ None }
         ensures made { ReadsKeytab (S.remaining reader.old.source) (S.remaining reader.new.source)
-            (S.failure_count reader.old.source) (S.failure_count reader.new.source) is_of result }
+            (S.failure_count reader.old.source) (S.failure_count reader.new.source)
+            (λ made entries. made.items ≡ of_entries entries) result }
         ensures lent { S.lender reader.new.source ≡ S.lender reader.old.source };
 }
 
 /// What is made of a credential cache and its credentials.
-pub(crate) trait FromCredentials: Sized {
-    // It is what is made of this cache.
-    ghost is_of: { Self → Cache → Type 0 };
+pub(crate) trait FromCredentials {
+    // The bytes that are made of this cache.
+    ghost of_cache: { Cache → List ℕ };
 
     /// Makes it of the credentials to come, of a reader that has given none.
     fn from_credentials<S: Source>(
         alloc: Global,
         reader: &mut CredentialReader<S>,
-    ) -> Result<Self, CacheFault>
+    ) -> Result<Vec<u8>, CacheFault>
         requires reads { S.failure_count reader.old.source < 2 ^ 64 - 1 }
         requires going { reader.old.ended ≡ None }
         ensures made { (from : Option (List ℕ)) → IsOpened S.remaining from reader.old
             → ReadsCache from (S.remaining reader.new.source)
-            (S.failure_count reader.old.source) (S.failure_count reader.new.source) is_of result }
+            (S.failure_count reader.old.source) (S.failure_count reader.new.source)
+            (λ made cache. made.items ≡ of_cache cache) result }
         ensures lent { S.lender reader.new.source ≡ S.lender reader.old.source };
 }
 
 /// Reads a keytab, and makes this of its entries.
 ///
 /// # Errors
-/// Those of `Keytab::read`; `OutOfMemory` also if there is no room for what is made.
+/// Those of `Keytab::read`; `OutOfMemory` also if there is no memory for what is made.
 pub(crate) fn walk_keytab<M: FromEntries, S: Source>(
     alloc: Global,
     source: &mut S,
-) -> Result<M, KeytabFault>
+) -> Result<Vec<u8>, KeytabFault>
     requires { S.failure_count source.old < 2 ^ 64 - 1 }
     ensures { ReadsKeytab (S.remaining source.old) (S.remaining source.new)
-        (S.failure_count source.old) (S.failure_count source.new) M.is_of result }
+        (S.failure_count source.old) (S.failure_count source.new)
+        (λ made entries. made.items ≡ M.of_entries entries) result }
 {
     let mut reader = EntryReader::new(alloc, source);
     let made = M::from_entries(alloc, &mut reader);
@@ -69,14 +72,15 @@ pub(crate) fn walk_keytab<M: FromEntries, S: Source>(
 /// Reads a credential cache, and makes this of it.
 ///
 /// # Errors
-/// Those of `CCache::read`; `OutOfMemory` also if there is no room for what is made.
+/// Those of `CCache::read`; `OutOfMemory` also if there is no memory for what is made.
 pub(crate) fn walk_ccache<M: FromCredentials, S: Source>(
     alloc: Global,
     source: &mut S,
-) -> Result<M, CacheFault>
+) -> Result<Vec<u8>, CacheFault>
     requires { S.failure_count source.old < 2 ^ 64 - 1 }
     ensures { ReadsCache (S.remaining source.old) (S.remaining source.new)
-        (S.failure_count source.old) (S.failure_count source.new) M.is_of result }
+        (S.failure_count source.old) (S.failure_count source.new)
+        (λ made cache. made.items ≡ M.of_cache cache) result }
 {
     krb_ccache::laws::each_file_has_one_answer();
     krb_ccache::laws::a_source_tells_its_file();

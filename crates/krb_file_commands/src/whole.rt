@@ -1,16 +1,13 @@
-//! The bytes of a whole keytab: they are read before one is written.
+//! The bytes of a whole keytab.
 
-ghost use Rattle.std.specs.Prelude.{◌≡◌, ◌⊎◌, ◌+◌, ◌-◌, ◌^◌, ◌<◌, [], IfOk, IfErr, IfSome, OnErr, length};
-ghost use Rattle.std.specs.Io.KnownBytes.{Appends};
-ghost use Rattle.krb_keytab.specs.Fault as of_keytab;
+ghost use Rattle.std.specs.Prelude.{◌≡◌, ◌⊎◌, ◌+◌, ◌-◌, ◌^◌, ◌<◌, [], IfOk, IfErr, IfSome};
 ghost use Rattle.krb_name.specs.File.{TakesFile};
-ghost use Rattle.krb_name.specs.Flow.{AppendsBeginning};
-ghost use Rattle.krb_file_commands.specs.Engine.{failed_writes};
+ghost use Rattle.krb_file_commands.specs.Engine.{failed_by};
 ghost use Rattle.krb_file_commands.specs.Inner.Whole.{HoldsFile};
+ghost use Rattle.krb_file_commands.specs.Status.{keytab_reads};
 
-use crate::fault::FileFault;
 use krb_keytab::KeytabFault;
-use krb_name::{FILE_LIMIT, Sink, Source, Window, write_all};
+use krb_name::{FILE_LIMIT, Source, Window};
 use std::alloc::Global;
 
 /// Reads the bytes of a keytab from a source, to its end or to one byte past 16,777,216.
@@ -26,7 +23,7 @@ pub(crate) fn read_bytes<S: Source>(alloc: Global, source: &mut S) -> Result<Vec
         (fault ≡ KeytabFault.OutOfMemory) ⊎ (fault ≡ KeytabFault.Read)) }
     ensures taken { TakesFile (S.remaining source.old) (S.remaining source.new) }
     ensures failed { S.failure_count source.new
-        ≡ S.failure_count source.old + of_keytab.failed_reads result }
+        ≡ S.failure_count source.old + failed_by keytab_reads result }
 {
     let mut window = Window::new(alloc, source);
     let bytes = window_bytes(alloc, &mut window);
@@ -45,25 +42,9 @@ fn window_bytes<S: Source>(alloc: Global, window: &mut Window<S>) -> Result<Vec<
         (fault ≡ KeytabFault.OutOfMemory) ⊎ (fault ≡ KeytabFault.Read)) }
     ensures taken { TakesFile (S.remaining window.old.source) (S.remaining window.new.source) }
     ensures failed { S.failure_count window.new.source
-        ≡ S.failure_count window.old.source + of_keytab.failed_reads result }
+        ≡ S.failure_count window.old.source + failed_by keytab_reads result }
     ensures lent { S.lender window.new.source ≡ S.lender window.old.source }
 {
     window.fill(FILE_LIMIT + 1)?;
     Ok(Vec::from_slice(alloc, window.bytes())?)
-}
-
-/// Writes the bytes, and returns how many they are.
-///
-/// # Errors
-/// `Write`: the sink failed; it took a beginning of the bytes.
-pub(crate) fn write_bytes<T: Sink>(sink: &mut T, bytes: &[u8]) -> Result<usize, FileFault>
-    requires { T.failure_count sink.old < 2 ^ 64 - 1 }
-    ensures ok { IfOk result (λ count. Appends (T.taken sink.old) (T.taken sink.new) bytes.now
-        × (count ≡ length bytes.now)) }
-    ensures err { OnErr result (AppendsBeginning (T.taken sink.old) (T.taken sink.new) bytes.now) }
-    ensures which { IfErr result (λ e. e ≡ FileFault.Write) }
-    ensures writes { T.failure_count sink.new ≡ T.failure_count sink.old + failed_writes result }
-{
-    write_all(sink, bytes)?;
-    Ok(bytes.len())
 }

@@ -1,8 +1,6 @@
-pub mod Steps
-pub mod StepLaws
-pub mod PartLaws
+pub mod ReadLaws
 pub mod OpenLaws
 pub mod ChecksumLaws
-pub mod WrapLaws
 pub mod WrittenLaws
-pub mod AnswerLaws
+pub mod NegotiationLaws
+pub mod AloneLaws

@@ -1,5 +1,5 @@
 -- What a call answers that opens a service's answer: what it holds, exactly where the bytes are one; and what is wrong with others.
-use Rattle.std.specs.Prelude.{◌≡◌, ℕ, List, ◌∷◌, [], true, false, Option, Result, IfOk, IsOkAnd}
+use Rattle.std.specs.Prelude.{◌≡◌, ℕ, List, true, false, Result, IfOk, IsOkAnd}
 use Rattle.krb_der.specs.declared.fault.Fault.{Fault}
 use Rattle.krb_der.specs.Place.{Place, begins}
 use Rattle.krb_gss.specs.declared.fault.TokenFault.{TokenFault}
@@ -7,8 +7,8 @@ use Rattle.krb_gss.specs.declared.fault.TokenFault.TheVariants.{NotToken}
 use Rattle.krb_gss.specs.declared.mechanism.Mechanism.{Mechanism}
 use Rattle.krb_gss.specs.declared.opening.Wrapping.{Wrapping}
 use Rattle.krb_gss.specs.declared.answered.Answered.{Answered}
-use Rattle.krb_gss.specs.Token.{HasField, MayHaveField}
-use Rattle.krb_gss.specs.Fault.{IsEither, IsFieldFault, IsThereFault, AreFieldsFault, HoldsFieldsFault, IsNoMessage, IsKerberosFault, IsNegotiatedFault, IsWholeFault}
+use Rattle.krb_gss.specs.Module.{first_response}
+use Rattle.krb_gss.specs.Fault.{HoldsFieldsFault, IsNoMessage, IsKerberosFault, IsNegotiatedFault, IsWholeFault}
 use Rattle.krb_gss.specs.Answer.{Message, message_of, IsResponse, IsWrappedAnswer, Stands, IsAnswer}
 
 -- the bytes are an answer that holds what is answered
@@ -28,18 +28,9 @@ OpensEachAnswer result bytes = (wrapping : Wrapping) (mechanism : Mechanism) (me
 
 -- ---- faults
 
--- of the fields of a NegTokenResp after negState
-abbrev pub AreSupportedFault : Place → Fault → Type 0
-AreSupportedFault here =
-    IsEither (λ (x : Place × Place). HasField 0xa1 0x06 here x.0 x.1) (IsFieldFault 0xa1 0x06 here) (λ x. AreFieldsFault ((0xa2, 0x04) ∷ (0xa3, 0x04) ∷ []) x.1)
-
--- of all its fields
-abbrev pub AreResponseFault : Place → Fault → Type 0
-AreResponseFault here = IsEither (λ (x : Option Place × Place). MayHaveField 0xa0 0x0a here x.0 x.1) (IsThereFault 0xa0 0x0a here) (λ x. AreSupportedFault x.1)
-
 -- of a NegTokenResp
 abbrev pub IsResponseFault : Place → Fault → Type 0
-IsResponseFault = HoldsFieldsFault 0xa1 AreResponseFault
+IsResponseFault = HoldsFieldsFault 0xa1 first_response
 
 -- of an answer in its wrapping, up to its identifier
 pub data IsWrappedAnswerFault (here : Place) (fault : TokenFault) : Type 0 where
@@ -50,4 +41,5 @@ pub data IsWrappedAnswerFault (here : Place) (fault : TokenFault) : Type 0 where
 
 -- of a service's answer
 abbrev pub IsAnswerFault : List ℕ → TokenFault → Type 0
-IsAnswerFault = IsWholeFault IsWrappedAnswer IsWrappedAnswerFault (λ inner. IsNoMessage (Stands inner) inner)
+IsAnswerFault =
+    IsWholeFault (λ here (x : Wrapping × Mechanism) inner. IsWrappedAnswer here x.0 x.1 inner) IsWrappedAnswerFault (λ inner. IsNoMessage (Stands inner) inner)

@@ -1,4 +1,6 @@
 pub mod Mechanism
+pub mod Module
+pub mod Found
 pub mod Token
 pub mod Fault
 pub mod Opening
@@ -6,4 +8,7 @@ pub mod Checksum
 pub mod Wrapping
 pub mod Answer
 pub mod Answered
+pub mod Later
+pub mod Said
+pub mod Negotiation
 pub mod Inner

@@ -1,14 +1,13 @@
 //! Opening a service's answer.
 
-ghost use Rattle.std.specs.Prelude.{IfOk, IfErr};
-ghost use Rattle.krb_gss.specs.Answer.{message_of, IsWrappedAnswer, Stands};
+ghost use Rattle.std.specs.Prelude.{◌≡◌, IfOk, IfErr};
+ghost use Rattle.krb_gss.specs.Answer.{message_of, Stands};
 ghost use Rattle.krb_gss.specs.Fault.{IsNoMessage};
-ghost use Rattle.krb_gss.specs.Answered.{FindsAnswer, OpensEachAnswer, IsWrappedAnswerFault, IsAnswerFault};
-ghost use Rattle.krb_gss.specs.Inner.Reading.{Reads};
+ghost use Rattle.krb_gss.specs.Answered.{FindsAnswer, OpensEachAnswer, IsAnswerFault};
+ghost use Rattle.krb_gss.specs.Inner.Reading.{answer_at, whole_at};
 
-use crate::framing::{FRAME, begin, kerberos};
+use crate::framing::{FRAME, begin, begins, kerberos};
 use crate::negotiation::accepted;
-use crate::parts::begins;
 use crate::{Answer, Mechanism, TokenFault, Wrapping};
 use krb_der::Cursor;
 
@@ -34,8 +33,7 @@ pub fn open_answer<'a>(bytes: &'a [u8]) -> Result<Answered<'a>, TokenFault>
     ensures only { OpensEachAnswer result bytes.entry.now }
     ensures faulty { IfErr result (IsAnswerFault bytes.entry.now) }
 {
-    let cursor = begin(bytes)?;
-    let (wrapping, mechanism, inner) = wrapped(cursor)?;
+    let ((wrapping, mechanism), inner) = whole(bytes)?;
     let answer = message(&inner)?;
     Ok(Answered {
         wrapping,
@@ -57,17 +55,25 @@ fn message<'a>(inner: &Cursor<'a>) -> Result<Answer<'a>, TokenFault>
 }
 
 /// Reads an answer up to the identifier.
-#[inline(always)]
-fn wrapped<'a>(cursor: Cursor<'a>) -> Result<(Wrapping, Mechanism, Cursor<'a>), TokenFault>
-    ensures { Reads result (λ x. IsWrappedAnswer cursor.entry x.0 x.1 x.2) (IsWrappedAnswerFault cursor.entry) }
+#[tactic(auto, unfolding(crate::specs::Inner::Reading::answer_at))]
+fn wrapped<'a>(cursor: Cursor<'a>) -> Result<((Wrapping, Mechanism), Cursor<'a>), TokenFault>
+    ensures { result ≡ answer_at cursor.entry }
 {
     if begins(cursor.rest(), FRAME) {
         let (mechanism, inner) = kerberos(cursor)?;
-        return Ok((Wrapping::Bare, mechanism, inner));
+        return Ok(((Wrapping::Bare, mechanism), inner));
     }
     if begins(cursor.rest(), 0xa1) {
         let (first, mechanism, inner) = accepted(cursor)?;
-        return Ok((Wrapping::Negotiated(first), mechanism, inner));
+        return Ok(((Wrapping::Negotiated(first), mechanism), inner));
     }
     Err(TokenFault::NotToken)
+}
+
+#[tactic(auto, unfolding(crate::specs::Inner::Reading::whole_at))]
+fn whole<'a>(bytes: &'a [u8]) -> Result<((Wrapping, Mechanism), Cursor<'a>), TokenFault>
+    ensures { result ≡ whole_at answer_at bytes.entry.now }
+{
+    let cursor = begin(bytes)?;
+    wrapped(cursor)
 }

@@ -1,43 +1,50 @@
 //! Tokens of a mechanism.
 
-ghost use Rattle.std.specs.Prelude.{◌≡◌, ◌≤◌, length, Ok};
-ghost use Rattle.krb_der.specs.Place.{begin_at};
-ghost use Rattle.krb_der.specs.Spells.{limit};
-ghost use Rattle.krb_gss.specs.Mechanism.{named_of};
-ghost use Rattle.krb_gss.specs.Token.{IsFramed, IsKerberos};
-ghost use Rattle.krb_gss.specs.Fault.{IsTooLong, IsFrameFault, IsOther, IsKerberosFault};
-ghost use Rattle.krb_gss.specs.Inner.Reading.{Reads};
+ghost use Rattle.std.specs.Prelude.{◌≡◌};
+ghost use Rattle.krb_der.specs.Place.{begins as begins_with};
+ghost use Rattle.krb_der.specs.Computed.Parts.{parts_at};
+ghost use Rattle.krb_gss.specs.Module.{initial_context_token};
+ghost use Rattle.krb_gss.specs.Inner.Reading.{begun, name_at, kerberos_at};
 
 use crate::mechanism::named;
-use crate::parts::{enter, last};
+use crate::messages::InitialContextToken;
 use crate::{Mechanism, TokenFault};
 use krb_der::{Cursor, Fault};
 
 /// The tag of an InitialContextToken.
 pub const FRAME: u8 = 0x60;
 
-/// The tag of an OBJECT IDENTIFIER.
-pub const OID: u8 = 0x06;
+/// The tag of a message AP-REQ.
+pub const REQUEST: u8 = 0x6e;
+
+/// Whether an element with this tag begins here.
+pub fn begins(bytes: &[u8], tag: u8) -> bool
+    ensures { result ≡ begins_with tag bytes.now }
+{
+    bytes.first() == Some(&tag)
+}
 
 /// Begins to read a token.
+#[tactic(auto, unfolding(crate::specs::Inner::Reading::begun))]
 pub fn begin<'a>(bytes: &'a [u8]) -> Result<Cursor<'a>, TokenFault>
-    ensures { Reads result (λ x. (length bytes.entry.now ≤ limit) × (x ≡ begin_at bytes.entry.now)) (IsTooLong bytes.entry.now) }
+    ensures { result ≡ begun bytes.entry.now }
 {
     Ok(Cursor::new(bytes)?)
 }
 
 /// Enters an InitialContextToken: the name of its mechanism, and what is after it.
 pub fn framed<'a>(cursor: Cursor<'a>) -> Result<(Cursor<'a>, Cursor<'a>), Fault>
-    ensures { Reads result (λ x. IsFramed cursor.entry x.0 x.1) (IsFrameFault cursor.entry) }
+    ensures { result ≡ parts_at initial_context_token cursor.entry }
 {
-    let mut inside = last(cursor, FRAME)?;
-    let oid = enter(&mut inside, OID)?;
-    Ok((oid, inside))
+    match cursor.parts::<InitialContextToken>() {
+        Ok(token) => Ok((token.mechanism, token.inner)),
+        Err(fault) => Err(fault),
+    }
 }
 
 /// Returns the mechanism of Kerberos that is named here.
 pub fn name(oid: &Cursor) -> Result<Mechanism, TokenFault>
-    ensures { Reads result (λ x. named_of oid.now.rest ≡ Ok x) (IsOther oid.now) }
+    ensures { result ≡ name_at oid.now }
 {
     match named(oid.rest()) {
         Ok(mechanism) => Ok(mechanism),
@@ -46,9 +53,9 @@ pub fn name(oid: &Cursor) -> Result<Mechanism, TokenFault>
 }
 
 /// Reads a token of Kerberos up to its identifier.
-#[inline(always)]
+#[tactic(auto, unfolding(crate::specs::Inner::Reading::kerberos_at))]
 pub fn kerberos<'a>(cursor: Cursor<'a>) -> Result<(Mechanism, Cursor<'a>), TokenFault>
-    ensures { Reads result (λ x. IsKerberos cursor.entry x.0 x.1) (IsKerberosFault cursor.entry) }
+    ensures { result ≡ kerberos_at cursor.entry }
 {
     let (oid, inner) = framed(cursor)?;
     let mechanism = name(&oid)?;

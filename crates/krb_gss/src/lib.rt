@@ -15,16 +15,24 @@
 //! [`wrap_request`] writes such a token for a request, and [`wrap_answer`] writes the service's answer in the same wrapping.
 //! [`open_answer`] opens that answer on the client's side.
 //!
+//! A client may also begin a negotiation without a token. [`Negotiation`] takes the tokens of one client, one after another, and says
+//! if the client is to be asked for its token. [`wrap_verdict`] writes that, and the answers that accept or refuse a client without a
+//! message; [`read_verdict`] reads them. [`wrap_later`] writes the answer to a later token.
+//!
 //! [`Checksum`] is the checksum of type 0x8003 that a client of GSS-API puts into its authenticator (RFC 4121, section 4.1.1): its
 //! flags, its channel bindings and the credentials that it delegates. What is after these, the extensions, stays bytes.
 //!
-//! `specs::Token` says which bytes are a token, in places of the bytes: where an element stands, where its content does, and what
-//! is after it. `specs::Fault` says which rule other bytes break, and where. `specs::Mechanism` lists the names. `specs::Wrapping`
-//! says which bytes are written of a request, and how many. `specs::Answer` says which bytes are an answer, and which are written of
-//! one, and `specs::Answered` what is wrong with others. `specs::Checksum` says which bytes are a checksum. [`laws`] states that it has one meaning and one spelling.
+//! `specs::Module` has the messages of tokens as rows of fields. It and `messages` are made from messages.toml. `specs::Token` says
+//! which bytes are a token: where the parts of its messages stand. `specs::Fault` says which rule other bytes break, and where.
+//! `specs::Mechanism` lists the names. `specs::Wrapping` says which bytes are written of a request, and how many. `specs::Answer` says
+//! which bytes are an answer, and which are written of one, and `specs::Answered` what is wrong with others. `specs::Negotiation` says
+//! what a negotiation does with a token, `specs::Later` which bytes are a client's later token, and `specs::Said` what an answer
+//! without a token says. `specs::Checksum` says which bytes are a checksum. [`laws`] states that it has one meaning and one spelling,
+//! that a negotiation's list of mechanisms decides nothing, and that `read_verdict` reads what `wrap_verdict` writes.
 //!
-//! Only what is written is allocated. DER is strict: lengths have their shortest form, and nothing follows the token. What the fields reqFlags,
-//! negState and mechListMIC of a negotiation hold isn't looked at. No call runs longer than linear in its bytes.
+//! Only what is written is allocated. DER is strict: lengths have their shortest form, and nothing follows the token. What the fields
+//! reqFlags, negState and mechListMIC of a negotiation hold isn't looked at, except the negState of an answer without a token. Fields
+//! after these are passed over if they are whole elements. No call runs longer than linear in its bytes.
 #![tactic(auto)]
 
 mod answered;
@@ -35,10 +43,12 @@ mod flags;
 mod framing;
 pub mod laws;
 mod mechanism;
+mod messages;
+mod negotiating;
 mod negotiation;
 mod opening;
-mod parts;
 mod putting;
+mod verdict;
 mod wrapping;
 
 pub use answered::{Answered, open_answer};
@@ -47,5 +57,7 @@ pub use checksum::{Checksum, ChecksumFault, ChecksumWriteFault};
 pub use fault::TokenFault;
 pub use flags::{ContextFlag, ContextFlags};
 pub use mechanism::{Foreign, Mechanism};
+pub use negotiating::{Later, Negotiation, Taken};
 pub use opening::{Opened, Wrapping, open_token};
-pub use wrapping::{WrapFault, wrap_answer, wrap_request};
+pub use verdict::{Verdict, read_verdict};
+pub use wrapping::{WrapFault, wrap_answer, wrap_later, wrap_request, wrap_verdict};

@@ -10,6 +10,8 @@ pub enum Mechanism {
     Kerberos,
     /// 1.2.840.48018.1.2.2, which clients of Windows name before the other.
     Microsoft,
+    /// 1.3.5.1.5.2, which implementations of the drafts before RFC 1964 use.
+    Draft,
 }
 
 /// A mechanism that isn't Kerberos.
@@ -29,6 +31,8 @@ const KERBEROS: &[u8] = &[0x2a, 0x86, 0x48, 0x86, 0xf7, 0x12, 0x01, 0x02, 0x02];
 
 const MICROSOFT: &[u8] = &[0x2a, 0x86, 0x48, 0x82, 0xf7, 0x12, 0x01, 0x02, 0x02];
 
+const DRAFT: &[u8] = &[0x2b, 0x05, 0x01, 0x05, 0x02];
+
 pub const SPNEGO: &[u8] = &[0x2b, 0x06, 0x01, 0x05, 0x05, 0x02];
 
 const NTLM: &[u8] = &[0x2b, 0x06, 0x01, 0x04, 0x01, 0x82, 0x37, 0x02, 0x02, 0x0a];
@@ -43,6 +47,7 @@ impl Mechanism {
         match self {
             Mechanism::Kerberos => KERBEROS,
             Mechanism::Microsoft => MICROSOFT,
+            Mechanism::Draft => DRAFT,
         }
     }
 }
@@ -56,6 +61,9 @@ pub fn named(oid: &[u8]) -> Result<Mechanism, Foreign>
     }
     if oid == MICROSOFT {
         return Ok(Mechanism::Microsoft);
+    }
+    if oid == DRAFT {
+        return Ok(Mechanism::Draft);
     }
     Err(not_kerberos(oid))
 }

@@ -1,98 +1,112 @@
 //! The messages of a negotiation, NegTokenInit and NegTokenResp (RFC 4178, section 4.2).
 
-ghost use Rattle.std.specs.Prelude.{◌∷◌, []};
-ghost use Rattle.krb_gss.specs.Token.{AreMechanisms, AreTokenAndMic, AreOthers, AreInit, IsChoice, IsInit, HoldsKerberos, AreKerberos, IsNegotiated};
-ghost use Rattle.krb_gss.specs.Fault.{AreFieldsFault, AreMechanismsFault, AreInitFault, IsChoiceFault, IsInitFault, HoldsKerberosFault, AreKerberosFault, IsNegotiatedFault};
-ghost use Rattle.krb_gss.specs.Answer.{AreResponse, IsResponse};
-ghost use Rattle.krb_gss.specs.Answered.{AreResponseFault, IsResponseFault};
-ghost use Rattle.krb_gss.specs.Inner.Reading.{Reads};
+ghost use Rattle.std.specs.Prelude.{◌≡◌};
+ghost use Rattle.std.specs.Option.{option_map};
+ghost use Rattle.krb_der.specs.Computed.Parts.{parts_at};
+ghost use Rattle.krb_gss.specs.Module.{negotiation_token};
+ghost use Rattle.krb_gss.specs.Inner.Reading.{init_at, response_at, later_at, said_at, held_at, held_from, named_at, negotiated_by, going_on_at};
 
-use crate::framing::{OID, kerberos, name};
-use crate::parts::{elements, end, enter, field, last, may_field};
+use crate::framing::{REQUEST, begins, kerberos, name};
+use crate::messages::{BareResponse, FirstResponse, LaterResponse, NegTokenInit};
 use crate::{Mechanism, TokenFault};
-use krb_der::{Cursor, Fault};
+use krb_der::{Cursor, Fault, Last};
 
-/// The tag of a SEQUENCE.
-pub const SEQUENCE: u8 = 0x30;
-
-/// The first mechanism of a MechTypeList.
-fn mechanisms<'a>(list: Cursor<'a>) -> Result<Cursor<'a>, Fault>
-    ensures { Reads result (AreMechanisms list.entry) (AreMechanismsFault list.entry) }
+/// Where the fields stand of the message with this tag.
+fn fields<'a, const TAG: u8>(cursor: Cursor<'a>) -> Result<Cursor<'a>, Fault>
+    ensures { result ≡ parts_at (negotiation_token TAG) cursor.entry }
 {
-    let mut list = list;
-    let first = enter(&mut list, OID)?;
-    elements(list, OID)?;
-    Ok(first)
+    match cursor.parts::<Last<TAG, Last<0x30, Cursor>>>() {
+        Ok(choice) => Ok(choice.0.0),
+        Err(fault) => Err(fault),
+    }
 }
 
-/// The mechToken or responseToken, of the fields from it on.
-fn token_and_mic<'a>(fields: Cursor<'a>) -> Result<Option<Cursor<'a>>, Fault>
-    ensures { Reads result (AreTokenAndMic fields.entry) (AreFieldsFault ((0xa2, 0x04) ∷ (0xa3, 0x04) ∷ []) fields.entry) }
+/// The content of a field, if it is there.
+fn content<'a, const TAG: u8>(field: Option<Last<TAG, Cursor<'a>>>) -> Option<Cursor<'a>>
+    ensures { result ≡ option_map (λ f. f.0) field.entry }
 {
-    let mut fields = fields;
-    let token = may_field(&mut fields, 0xa2, 0x04)?;
-    may_field(&mut fields, 0xa3, 0x04)?;
-    end(&fields)?;
-    Ok(token)
+    match field {
+        Some(field) => Some(field.0),
+        None => None,
+    }
 }
 
-/// The mechToken, of the fields after mechTypes.
-fn others<'a>(fields: Cursor<'a>) -> Result<Option<Cursor<'a>>, Fault>
-    ensures { Reads result (AreOthers fields.entry) (AreFieldsFault ((0xa1, 0x03) ∷ (0xa2, 0x04) ∷ (0xa3, 0x04) ∷ []) fields.entry) }
+/// Reads a NegTokenInit: the name of the first mechanism, and the mechToken.
+#[tactic(auto, unfolding(crate::specs::Inner::Reading::fields_at))]
+pub fn init<'a>(cursor: Cursor<'a>) -> Result<(Cursor<'a>, Option<Cursor<'a>>), Fault>
+    ensures { result ≡ init_at cursor.entry }
 {
-    let mut fields = fields;
-    may_field(&mut fields, 0xa1, 0x03)?;
-    token_and_mic(fields)
+    let fields = fields::<0xa0>(cursor)?;
+    match fields.parts::<NegTokenInit>() {
+        Ok(init) => Ok((init.mechanisms.first, content(init.token))),
+        Err(fault) => Err(fault),
+    }
 }
 
-/// The first mechanism and the mechToken, of the fields of a NegTokenInit.
-fn init_fields<'a>(fields: Cursor<'a>) -> Result<(Cursor<'a>, Option<Cursor<'a>>), Fault>
-    ensures { Reads result (λ x. AreInit fields.entry x.0 x.1) (AreInitFault fields.entry) }
+/// Reads a service's first NegTokenResp: the supportedMech and the responseToken.
+#[tactic(auto, unfolding(crate::specs::Inner::Reading::fields_at))]
+fn response<'a>(cursor: Cursor<'a>) -> Result<(Cursor<'a>, Option<Cursor<'a>>), Fault>
+    ensures { result ≡ response_at cursor.entry }
 {
-    let mut fields = fields;
-    let list = field(&mut fields, 0xa0, SEQUENCE)?;
-    let first = mechanisms(list)?;
-    let token = others(fields)?;
-    Ok((first, token))
+    let fields = fields::<0xa1>(cursor)?;
+    match fields.parts::<FirstResponse>() {
+        Ok(response) => Ok((response.mechanism, content(response.token))),
+        Err(fault) => Err(fault),
+    }
 }
 
-/// The supportedMech and the responseToken, of the fields of a NegTokenResp.
-fn response_fields<'a>(fields: Cursor<'a>) -> Result<(Cursor<'a>, Option<Cursor<'a>>), Fault>
-    ensures { Reads result (λ x. AreResponse fields.entry x.0 x.1) (AreResponseFault fields.entry) }
+/// Reads a client's later NegTokenResp: where its fields stand, and the responseToken.
+#[tactic(auto, unfolding(crate::specs::Inner::Reading::fields_at))]
+fn later<'a>(cursor: Cursor<'a>) -> Result<(Cursor<'a>, Option<Cursor<'a>>), Fault>
+    ensures { result ≡ later_at cursor.entry }
 {
-    let mut fields = fields;
-    may_field(&mut fields, 0xa0, 0x0a)?;
-    let oid = field(&mut fields, 0xa1, OID)?;
-    let token = token_and_mic(fields)?;
-    Ok((oid, token))
+    let fields = fields::<0xa1>(cursor)?;
+    match fields.again().parts::<LaterResponse>() {
+        Ok(response) => Ok((fields, content(response.token))),
+        Err(fault) => Err(fault),
+    }
 }
 
-/// The fields of the message with this tag.
-fn choice<'a>(cursor: Cursor<'a>, tag: u8) -> Result<Cursor<'a>, Fault>
-    ensures { Reads result (IsChoice tag cursor.entry) (IsChoiceFault tag cursor.entry) }
+/// Reads a NegTokenResp without a responseToken: its negState and its supportedMech.
+#[tactic(auto, unfolding(crate::specs::Inner::Reading::fields_at))]
+pub fn said<'a>(cursor: Cursor<'a>) -> Result<(Cursor<'a>, Option<Cursor<'a>>), Fault>
+    ensures { result ≡ said_at cursor.entry }
 {
-    let choice = last(cursor, tag)?;
-    last(choice, SEQUENCE)
+    let fields = fields::<0xa1>(cursor)?;
+    match fields.parts::<BareResponse>() {
+        Ok(response) => Ok((response.state, content(response.mechanism))),
+        Err(fault) => Err(fault),
+    }
+}
+
+/// Reads a token of Kerberos that a negotiation holds.
+#[tactic(auto, unfolding(crate::specs::Inner::Reading::held_at))]
+fn held_token<'a>(token: Cursor<'a>) -> Result<(Mechanism, Cursor<'a>), TokenFault>
+    ensures { result ≡ held_at token.entry }
+{
+    if begins(token.rest(), REQUEST) {
+        return Err(TokenFault::Unframed(token.at()));
+    }
+    kerberos(token)
 }
 
 /// Reads the token of a message whose mechanism is named at `oid`.
-#[inline(always)]
 fn held<'a>(oid: &Cursor, token: Option<Cursor<'a>>) -> Result<(Mechanism, Cursor<'a>), TokenFault>
-    ensures { Reads result (λ x. HoldsKerberos token.entry x.0 x.1) (HoldsKerberosFault oid.now token.entry) }
+    ensures { result ≡ held_from oid.now token.entry }
 {
     match token {
-        Some(token) => kerberos(token),
+        Some(token) => held_token(token),
         None => Err(TokenFault::NoToken(oid.at())),
     }
 }
 
 /// The mechanism of that name and that of the token, of which the identifier stands at the place.
-#[inline(always)]
+#[tactic(auto, unfolding(crate::specs::Inner::Reading::named_at))]
 fn named<'a>(
     oid: Cursor,
     token: Option<Cursor<'a>>,
 ) -> Result<(Mechanism, Mechanism, Cursor<'a>), TokenFault>
-    ensures { Reads result (λ x. AreKerberos oid.entry token.entry x.0 x.1 x.2) (AreKerberosFault oid.entry token.entry) }
+    ensures { result ≡ named_at oid.entry token.entry }
 {
     let first = name(&oid)?;
     let (mechanism, inner) = held(&oid, token)?;
@@ -100,19 +114,28 @@ fn named<'a>(
 }
 
 /// Reads a negotiation for Kerberos up to the identifier of its token: the mechanism that it names first, and that of the token.
+#[tactic(auto, unfolding(crate::specs::Inner::Reading::negotiated_by))]
 pub fn proposed<'a>(cursor: Cursor<'a>) -> Result<(Mechanism, Mechanism, Cursor<'a>), TokenFault>
-    ensures { Reads result (λ x. IsNegotiated (IsInit cursor.entry) x.0 x.1 x.2) (IsNegotiatedFault (IsInit cursor.entry) (IsInitFault cursor.entry)) }
+    ensures { result ≡ negotiated_by (init_at cursor.entry) }
 {
-    let fields = choice(cursor, 0xa0)?;
-    let (oid, token) = init_fields(fields)?;
+    let (oid, token) = init(cursor)?;
     named(oid, token)
 }
 
 /// The same of a negotiation's answer, with the mechanism that it names.
+#[tactic(auto, unfolding(crate::specs::Inner::Reading::negotiated_by))]
 pub fn accepted<'a>(cursor: Cursor<'a>) -> Result<(Mechanism, Mechanism, Cursor<'a>), TokenFault>
-    ensures { Reads result (λ x. IsNegotiated (IsResponse cursor.entry) x.0 x.1 x.2) (IsNegotiatedFault (IsResponse cursor.entry) (IsResponseFault cursor.entry)) }
+    ensures { result ≡ negotiated_by (response_at cursor.entry) }
 {
-    let fields = choice(cursor, 0xa1)?;
-    let (oid, token) = response_fields(fields)?;
+    let (oid, token) = response(cursor)?;
     named(oid, token)
+}
+
+/// Reads a client's later message up to the identifier of its token.
+#[tactic(auto, unfolding(crate::specs::Inner::Reading::going_on_at))]
+pub fn going_on<'a>(cursor: Cursor<'a>) -> Result<(Mechanism, Cursor<'a>), TokenFault>
+    ensures { result ≡ going_on_at cursor.entry }
+{
+    let (fields, token) = later(cursor)?;
+    held(&fields, token)
 }

@@ -1,17 +1,15 @@
 //! Opening the first token of a client.
 
-ghost use Rattle.std.specs.Prelude.{◌≡◌, ◌↔◌, true, IsTrue, IfOk, IfErr};
-ghost use Rattle.krb_der.specs.Place.{begins as begins_with};
+ghost use Rattle.std.specs.Prelude.{◌≡◌, IfOk, IfErr};
 ghost use Rattle.krb_gss.specs.Mechanism.{named_of};
-ghost use Rattle.krb_gss.specs.Token.{IsMessage, IsWithin, IsWrapped};
-ghost use Rattle.krb_gss.specs.Fault.{IsNoMessage, IsBeginFault, IsWithinFault, IsWrappedFault, IsTokenFault};
+ghost use Rattle.krb_gss.specs.Token.{IsMessage};
+ghost use Rattle.krb_gss.specs.Fault.{IsNoMessage, IsTokenFault};
 ghost use Rattle.krb_gss.specs.Opening.{FindsToken, OpensEach};
-ghost use Rattle.krb_gss.specs.Inner.Reading.{Reads};
+ghost use Rattle.krb_gss.specs.Inner.Reading.{begin_from, negotiated_at, within_from, framed_at, wrapped_at, whole_at};
 
-use crate::framing::{FRAME, begin, framed, name};
+use crate::framing::{FRAME, REQUEST, begin, begins, framed};
 use crate::mechanism::named;
 use crate::negotiation::proposed;
-use crate::parts::begins;
 use crate::{Foreign, Mechanism, TokenFault};
 use krb_der::Cursor;
 
@@ -44,8 +42,7 @@ pub fn open_token<'a>(bytes: &'a [u8]) -> Result<Opened<'a>, TokenFault>
     ensures only { OpensEach result bytes.entry.now }
     ensures faulty { IfErr result (IsTokenFault bytes.entry.now) }
 {
-    let cursor = begin(bytes)?;
-    let (wrapping, mechanism, inner) = wrapped(cursor)?;
+    let ((wrapping, mechanism), inner) = whole(bytes)?;
     let request = message(&inner)?;
     Ok(Opened {
         wrapping,
@@ -55,7 +52,7 @@ pub fn open_token<'a>(bytes: &'a [u8]) -> Result<Opened<'a>, TokenFault>
 }
 
 /// The message after the identifier of a request.
-fn message<'a>(inner: &Cursor<'a>) -> Result<&'a [u8], TokenFault>
+pub(crate) fn message<'a>(inner: &Cursor<'a>) -> Result<&'a [u8], TokenFault>
     ensures found { IfOk result (λ x. IsMessage 0x01 inner.now x.now) }
     ensures faulty { IfErr result (IsNoMessage (IsMessage 0x01 inner.now) inner.now) }
 {
@@ -67,7 +64,7 @@ fn message<'a>(inner: &Cursor<'a>) -> Result<&'a [u8], TokenFault>
 
 /// Checks that a token of a mechanism begins here.
 fn is_token(bytes: &[u8]) -> Result<(), TokenFault>
-    ensures { Reads result (λ x. begins_with 0x60 bytes.now ≡ true) (IsBeginFault bytes.now) }
+    ensures { result ≡ begin_from bytes.now }
 {
     if begins(bytes, FRAME) {
         return Ok(());
@@ -75,36 +72,56 @@ fn is_token(bytes: &[u8]) -> Result<(), TokenFault>
     if begins(bytes, 0xa1) {
         return Err(TokenFault::Response);
     }
+    if begins(bytes, REQUEST) {
+        return Err(TokenFault::Unframed(0));
+    }
     Err(TokenFault::NotToken)
 }
 
-/// Whether SPNEGO is named here.
-fn is_negotiation(oid: &Cursor) -> bool
-    ensures { IsTrue result ↔ (named_of oid.now.rest ≡ Err Foreign.Negotiation) }
+/// Reads a negotiation that a client begins, up to the identifier.
+fn negotiated<'a>(after: Cursor<'a>) -> Result<((Wrapping, Mechanism), Cursor<'a>), TokenFault>
+    ensures { result ≡ negotiated_at after.entry }
 {
-    named(oid.rest()) == Err(Foreign::Negotiation)
+    let (first, mechanism, inner) = proposed(after)?;
+    Ok(((Wrapping::Negotiated(first), mechanism), inner))
 }
 
 /// Reads what is after the name of a token's mechanism, up to the identifier.
 fn within<'a>(
     oid: Cursor,
     after: Cursor<'a>,
-) -> Result<(Wrapping, Mechanism, Cursor<'a>), TokenFault>
-    ensures { Reads result (λ x. IsWithin oid.entry after.entry x.0 x.1 x.2) (IsWithinFault oid.entry after.entry) }
+) -> Result<((Wrapping, Mechanism), Cursor<'a>), TokenFault>
+    ensures { result ≡ within_from oid.entry.at after.entry (named_of oid.entry.rest) }
 {
-    if is_negotiation(&oid) {
-        let (first, mechanism, inner) = proposed(after)?;
-        return Ok((Wrapping::Negotiated(first), mechanism, inner));
+    match named(oid.rest()) {
+        Ok(mechanism) => Ok(((Wrapping::Bare, mechanism), after)),
+        Err(Foreign::Negotiation) => negotiated(after),
+        Err(other) => Err(TokenFault::OtherMechanism(other, oid.at())),
     }
-    let mechanism = name(&oid)?;
-    Ok((Wrapping::Bare, mechanism, after))
 }
 
 /// Reads a token up to the identifier.
-fn wrapped<'a>(cursor: Cursor<'a>) -> Result<(Wrapping, Mechanism, Cursor<'a>), TokenFault>
-    ensures { Reads result (λ x. IsWrapped cursor.entry x.0 x.1 x.2) (IsWrappedFault cursor.entry) }
+#[tactic(auto, unfolding(crate::specs::Inner::Reading::framed_at))]
+fn unframed<'a>(cursor: Cursor<'a>) -> Result<((Wrapping, Mechanism), Cursor<'a>), TokenFault>
+    ensures { result ≡ framed_at cursor.entry }
 {
-    is_token(cursor.rest())?;
     let (oid, after) = framed(cursor)?;
     within(oid, after)
+}
+
+/// The same of bytes that may be no token.
+#[tactic(auto, unfolding(crate::specs::Inner::Reading::wrapped_at))]
+fn wrapped<'a>(cursor: Cursor<'a>) -> Result<((Wrapping, Mechanism), Cursor<'a>), TokenFault>
+    ensures { result ≡ wrapped_at cursor.entry }
+{
+    is_token(cursor.rest())?;
+    unframed(cursor)
+}
+
+#[tactic(auto, unfolding(crate::specs::Inner::Reading::whole_at))]
+fn whole<'a>(bytes: &'a [u8]) -> Result<((Wrapping, Mechanism), Cursor<'a>), TokenFault>
+    ensures { result ≡ whole_at wrapped_at bytes.entry.now }
+{
+    let cursor = begin(bytes)?;
+    wrapped(cursor)
 }

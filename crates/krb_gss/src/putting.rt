@@ -1,149 +1,179 @@
-//! Writing the parts of a token.
+//! What is written of a token, as parts of a message.
 
-ghost use Rattle.std.specs.Prelude.{◌≤◌, ◌^◌, length, drop, OnOk};
-ghost use Rattle.krb_der.specs.Spells.{IsElement, IsJoined, limit};
-ghost use Rattle.krb_der.specs.Writing.{Appends};
-ghost use Rattle.krb_gss.specs.Wrapping.{IsOid, IsPlain, IsMechTypes, IsTokenField, IsProposal, IsState, IsSupported, IsResponding, Writes};
-ghost use Rattle.krb_gss.specs.Inner.Putting.{WrapsTwice, of_token};
+ghost use Rattle.std.specs.Prelude.{◌≡◌, ◌+◌, ◌∷◌, length};
+ghost use Rattle.krb_gss.specs.Mechanism.{oid_of};
+ghost use Rattle.krb_gss.specs.Wrapping.{IsOid, IsPlain, IsProposal, IsResponding, oid_size, plain_size, proposal_size, responding_size};
+ghost use Rattle.krb_gss.specs.Inner.Putting.{of_token, HasToken, held_size};
 
-use crate::framing::{FRAME, OID};
+use crate::Mechanism;
 use crate::mechanism::SPNEGO;
-use crate::negotiation::SEQUENCE;
-use crate::{Mechanism, Wrapping};
-use krb_der::Writer;
+use krb_der::{EncodeParts, Field, Last, Maybe, Octets, Writer};
 use std::alloc::AllocError;
 
-/// A token of Kerberos, which is to be written. `id` is the first byte of its identifier.
+/// The content of the OBJECT IDENTIFIER that names a mechanism.
+#[derive(Clone, Copy)]
+pub struct Name(pub Mechanism);
+
+impl EncodeParts for Name {
+    ghost writes = { λ n bytes. bytes ≡ oid_of n.0 };
+
+    ghost size = { λ n. length (oid_of n.0) };
+
+    fn size_within(&self) -> Option<usize> {
+        Octets(self.0.oid()).size_within()
+    }
+
+    fn write_parts(&self, out: &mut Writer) -> Result<(), AllocError> {
+        out.raw(self.0.oid())
+    }
+}
+
+/// The OBJECT IDENTIFIER itself.
+impl EncodeParts for Mechanism {
+    ghost writes = { λ m. IsOid (oid_of m) };
+
+    ghost size = { oid_size };
+
+    fn size_within(&self) -> Option<usize> {
+        Last::<0x06, _>(Name(*self)).size_within()
+    }
+
+    fn write_parts(&self, out: &mut Writer) -> Result<(), AllocError> {
+        Last::<0x06, _>(Name(*self)).write_parts(out)
+    }
+}
+
+/// A message of Kerberos, and the first byte of the identifier before it.
+#[derive(Clone, Copy)]
+pub struct Message<'a> {
+    pub id: u8,
+    pub bytes: &'a [u8],
+}
+
+impl EncodeParts for Message<'_> {
+    ghost writes = { λ m bytes. bytes ≡ m.id ∷ 0 ∷ m.bytes.now };
+
+    ghost size = { λ m. 2 + length m.bytes.now };
+
+    fn size_within(&self) -> Option<usize> {
+        let size = Octets(self.bytes).size_within()?;
+        if size + 2 > LIMIT {
+            return None;
+        }
+        Some(size + 2)
+    }
+
+    fn write_parts(&self, out: &mut Writer) -> Result<(), AllocError> {
+        out.raw(&[self.id, 0])?;
+        out.raw(self.bytes)
+    }
+}
+
+/// The greatest length of a token, in bytes.
+const LIMIT: usize = 1_048_576;
+
+/// A token of Kerberos.
 #[derive(Clone, Copy)]
 pub struct Token<'a> {
     pub mechanism: Mechanism,
-    pub id: u8,
-    pub message: &'a [u8],
+    pub message: Message<'a>,
 }
 
-/// Writes an OBJECT IDENTIFIER with this content.
-fn put_oid(out: &mut Writer, oid: &[u8]) -> Result<(), AllocError>
-    requires { length oid.now ≤ 9 }
-    ensures { OnOk result (Appends (IsOid oid.now) out.old out.new) }
-{
-    let start = out.len();
-    out.raw(oid)?;
-    out.wrap(OID, start)
+impl EncodeParts for Token<'_> {
+    ghost writes = { of_token IsPlain };
+
+    ghost size = { λ t. plain_size t.mechanism (length t.message.bytes.now) };
+
+    fn size_within(&self) -> Option<usize> {
+        Last::<0x60, _>((Field::<0x06, _>(Name(self.mechanism)), self.message)).size_within()
+    }
+
+    fn write_parts(&self, out: &mut Writer) -> Result<(), AllocError> {
+        Last::<0x60, _>((Field::<0x06, _>(Name(self.mechanism)), self.message)).write_parts(out)
+    }
 }
 
-/// Makes what was written from `start` on the content of an element, and that element the content
-/// of another.
-fn put_around(out: &mut Writer, start: usize, outer: u8, inner: u8) -> Result<(), AllocError>
-    requires within { start ≤ length out.old }
-    requires fits { length (drop start out.old) ≤ 2 ^ 31 }
-    ensures { OnOk result (WrapsTwice outer inner start out.old out.new) }
-{
-    out.wrap(inner, start)?;
-    out.wrap(outer, start)
+/// A token of SPNEGO with a NegTokenInit, which names one mechanism and holds a token of Kerberos.
+#[derive(Clone, Copy)]
+pub struct Proposal<'a> {
+    pub first: Mechanism,
+    pub token: Token<'a>,
 }
 
-/// Writes a token of Kerberos.
-fn put_plain(out: &mut Writer, token: Token<'_>) -> Result<(), AllocError>
-    requires { length token.message.now ≤ limit }
-    ensures { OnOk result (Appends (of_token IsPlain token.entry) out.old out.new) }
-{
-    let start = out.len();
-    put_oid(out, token.mechanism.oid())?;
-    out.raw(&[token.id, 0])?;
-    out.raw(token.message)?;
-    out.wrap(FRAME, start)
+impl EncodeParts for Proposal<'_> {
+    ghost writes = { λ p. of_token (IsProposal p.first) p.token };
+
+    ghost size = { λ p. proposal_size p.first p.token.mechanism (length p.token.message.bytes.now) };
+
+    fn size_within(&self) -> Option<usize> {
+        let types = Field::<0xa0, _>(Last::<0x30, _>(self.first));
+        let fields = (types, Last::<0xa2, _>(Last::<0x04, _>(self.token)));
+        let init = Last::<0xa0, _>(Last::<0x30, _>(fields));
+        Last::<0x60, _>((Field::<0x06, _>(Octets(SPNEGO)), init)).size_within()
+    }
+
+    fn write_parts(&self, out: &mut Writer) -> Result<(), AllocError> {
+        let types = Field::<0xa0, _>(Last::<0x30, _>(self.first));
+        let fields = (types, Last::<0xa2, _>(Last::<0x04, _>(self.token)));
+        let init = Last::<0xa0, _>(Last::<0x30, _>(fields));
+        Last::<0x60, _>((Field::<0x06, _>(Octets(SPNEGO)), init)).write_parts(out)
+    }
 }
 
-/// Writes the field of a negotiation that holds a token of Kerberos.
-fn put_token(out: &mut Writer, token: Token<'_>) -> Result<(), AllocError>
-    requires { length token.message.now ≤ limit }
-    ensures { OnOk result (Appends (of_token IsTokenField token.entry) out.old out.new) }
-{
-    let start = out.len();
-    put_plain(out, token)?;
-    put_around(out, start, 0xa2, 0x04)
+/// A responseToken, if there is a token of Kerberos.
+#[derive(Clone, Copy)]
+pub struct Held<'a>(pub Option<Token<'a>>);
+
+impl EncodeParts for Held<'_> {
+    ghost writes = { λ h. HasToken h.0 };
+
+    ghost size = { λ h. held_size h.0 };
+
+    fn size_within(&self) -> Option<usize> {
+        match self.0 {
+            Some(token) => Last::<0xa2, _>(Last::<0x04, _>(token)).size_within(),
+            None => Some(0),
+        }
+    }
+
+    fn write_parts(&self, out: &mut Writer) -> Result<(), AllocError> {
+        match self.0 {
+            Some(token) => Last::<0xa2, _>(Last::<0x04, _>(token)).write_parts(out),
+            None => Ok(()),
+        }
+    }
 }
 
-/// Writes a list of one mechanism.
-fn put_types(out: &mut Writer, first: Mechanism) -> Result<(), AllocError>
-    ensures { OnOk result (Appends (IsMechTypes first) out.old out.new) }
-{
-    let start = out.len();
-    put_oid(out, first.oid())?;
-    put_around(out, start, 0xa0, SEQUENCE)
+/// A NegTokenResp.
+#[derive(Clone, Copy)]
+pub struct Response<'a> {
+    pub state: u8,
+    pub first: Option<Mechanism>,
+    pub token: Held<'a>,
 }
 
-/// Writes a NegTokenInit.
-fn put_init(out: &mut Writer, first: Mechanism, token: Token<'_>) -> Result<(), AllocError>
-    requires { length token.message.now ≤ limit }
-    ensures { OnOk result
-        (Appends (IsElement 0xa0 (IsElement 0x30 (IsJoined (IsMechTypes first) (of_token IsTokenField token.entry)))) out.old out.new) }
-{
-    let start = out.len();
-    put_types(out, first)?;
-    put_token(out, token)?;
-    put_around(out, start, 0xa0, SEQUENCE)
-}
+impl EncodeParts for Response<'_> {
+    ghost writes = { λ r. IsResponding r.state r.first (HasToken r.token.0) };
 
-/// Writes a token of SPNEGO with a NegTokenInit.
-fn put_proposal(out: &mut Writer, first: Mechanism, token: Token<'_>) -> Result<(), AllocError>
-    requires { length token.message.now ≤ limit }
-    ensures { OnOk result (Appends (of_token (IsProposal first) token.entry) out.old out.new) }
-{
-    let start = out.len();
-    put_oid(out, SPNEGO)?;
-    put_init(out, first, token)?;
-    out.wrap(FRAME, start)
-}
+    ghost size = { λ r. responding_size r.first (held_size r.token.0) };
 
-/// Writes a negState.
-fn put_state(out: &mut Writer, state: u8) -> Result<(), AllocError>
-    ensures { OnOk result (Appends (IsState state) out.old out.new) }
-{
-    let start = out.len();
-    out.raw(&[state])?;
-    put_around(out, start, 0xa0, 0x0a)
-}
+    fn size_within(&self) -> Option<usize> {
+        let state = [self.state];
+        let name = Maybe::<0xa1, _>(self.first);
+        let fields = (
+            Field::<0xa0, _>(Last::<0x0a, _>(Octets(&state))),
+            (name, self.token),
+        );
+        Last::<0xa1, _>(Last::<0x30, _>(fields)).size_within()
+    }
 
-/// Writes a supportedMech.
-fn put_supported(out: &mut Writer, first: Mechanism) -> Result<(), AllocError>
-    ensures { OnOk result (Appends (IsSupported first) out.old out.new) }
-{
-    let start = out.len();
-    put_oid(out, first.oid())?;
-    out.wrap(0xa1, start)
-}
-
-/// Writes a NegTokenResp with this state.
-fn put_response(
-    out: &mut Writer,
-    state: u8,
-    first: Mechanism,
-    token: Token<'_>,
-) -> Result<(), AllocError>
-    requires { length token.message.now ≤ limit }
-    ensures { OnOk result (Appends (of_token (IsResponding state first) token.entry) out.old out.new) }
-{
-    let start = out.len();
-    put_state(out, state)?;
-    put_supported(out, first)?;
-    put_token(out, token)?;
-    put_around(out, start, 0xa1, SEQUENCE)
-}
-
-/// Writes a token in its wrapping: as the first of a client or, with a state, as an answer.
-pub fn put(
-    out: &mut Writer,
-    wrapping: Wrapping,
-    state: Option<u8>,
-    token: Token<'_>,
-) -> Result<(), AllocError>
-    requires { length token.message.now ≤ limit }
-    ensures { OnOk result (Appends (of_token (Writes wrapping state) token.entry) out.old out.new) }
-{
-    match (wrapping, state) {
-        (Wrapping::Bare, _) => put_plain(out, token),
-        (Wrapping::Negotiated(first), None) => put_proposal(out, first, token),
-        (Wrapping::Negotiated(first), Some(state)) => put_response(out, state, first, token),
+    fn write_parts(&self, out: &mut Writer) -> Result<(), AllocError> {
+        let state = [self.state];
+        let name = Maybe::<0xa1, _>(self.first);
+        let fields = (
+            Field::<0xa0, _>(Last::<0x0a, _>(Octets(&state))),
+            (name, self.token),
+        );
+        Last::<0xa1, _>(Last::<0x30, _>(fields)).write_parts(out)
     }
 }

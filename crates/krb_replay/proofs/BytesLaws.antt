@@ -1,5 +1,5 @@
 -- Stamps as bytes: equal bytes come from equal stamps.
-use Rattle.std.proofs.Common.{◌≡◌, ℕ, ℤ, ◌<◌, ◌^◌, List, [], ◌∷◌, ◌++◌, length, take, drop, refl, sym, ◌∙◌, ap, append_assoc, append-nil, arith}
+use Rattle.std.proofs.Common.{◌≡◌, ℕ, ℤ, ◌<◌, ◌^◌, List, [], ◌∷◌, ◌++◌, length, take, drop, refl, sym, ◌∙◌, ap, append_assoc, arith}
 use Rattle.std.specs.Prelude.{FitsSigned}
 use Rattle.std.specs.Int.{w64, from_be_bytes, cast_unsigned, cast_signed}
 use Rattle.std.specs.List.{All, flat_map}
@@ -9,7 +9,7 @@ use Rattle.std.proofs.lemmas.Int.{to_z-of_z}
 use Rattle.std.proofs.lemmas.List.Elements.{All-head, All-tail}
 use Rattle.std.proofs.lemmas.Nat.{from_be_bytes-to_be_bytes_8}
 use Rattle.krb_replay.specs.Stamp.{RealmAndName, Stamp}
-use Rattle.krb_replay.specs.Bytes.{HasLengths, IsBytesOf, name_bytes, number_bytes, stamp_bytes, text_bytes}
+use Rattle.krb_replay.specs.Bytes.{HasLengths, IsBytesOf, name_bytes, number_bytes, text_bytes}
 
 abbrev IsShort : List ℕ → Type 0
 IsShort text = length text < 2 ^ 64
@@ -45,7 +45,7 @@ texts_back (one ∷ ones) (other ∷ others) more rest fit also len e =
     let next = texts_back ones others more rest (All-tail IsShort one ones fit) (All-tail IsShort other others also) (omega (arith, len)) first.1 in
     (ap (λ (t : List ℕ). t ∷ ones) first.0 ∙ ap (λ (ts : List (List ℕ)). other ∷ ts) next.0, next.1)
 
-grouped : (name : RealmAndName) (more : List ℕ)
+pub grouped : (name : RealmAndName) (more : List ℕ)
     → name_bytes name ++ more ≡ text_bytes name.realm ++ (number_bytes (length name.components) ++ (flat_map text_bytes name.components ++ more))
 grouped name more =
     append_assoc (text_bytes name.realm) (number_bytes (length name.components) ++ flat_map text_bytes name.components) more
@@ -54,7 +54,7 @@ grouped name more =
 abbrev named : List ℕ → List (List ℕ) → RealmAndName
 named realm components = record { realm = realm; components = components }
 
-name_back : (one other : RealmAndName) (more rest : List ℕ) → HasLengths one → HasLengths other → name_bytes one ++ more ≡ name_bytes other ++ rest
+pub name_back : (one other : RealmAndName) (more rest : List ℕ) → HasLengths one → HasLengths other → name_bytes one ++ more ≡ name_bytes other ++ rest
     → (one ≡ other) × (more ≡ rest)
 name_back one other more rest fits also e =
     let realm = text_back one.realm other.realm (number_bytes (length one.components) ++ (flat_map text_bytes one.components ++ more))

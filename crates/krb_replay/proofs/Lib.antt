@@ -1,7 +1,10 @@
 pub mod BytesLaws
-pub mod ComponentLaws
+pub mod CountLaws
 pub mod DropLaws
+pub mod HeldLaws
 pub mod KeepingLaws
+pub mod NamesLaws
 pub mod OrderLaws
 pub mod SetLaws
 pub mod SizeLaws
+pub mod TimedLaws

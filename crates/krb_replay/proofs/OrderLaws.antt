@@ -1,7 +1,7 @@
 -- The order of stamps tells every two apart, and goes by time.
 use Rattle.std.proofs.Common.{◌≡◌, ◌≢◌, ◌≤ℤ◌, List, [], ◌∷◌, get_or, AllPairs, arith, refl, sym, ap, ◌∙◌, false}
 use Rattle.std.specs.declared.cmp.Ordering.{Ordering}
-use Rattle.std.specs.Ordering.{ordering_then, int_cmp, nat_cmp, is_gt}
+use Rattle.std.specs.Ordering.{ordering_then, int_cmp, nat_cmp, is_gt, is_lt}
 use Rattle.std.specs.declared.cmp.Ordering.TheVariants.{Less, Equal, Greater}
 use Rattle.std.specs.Cmp.Lexicographic.{slice_cmp}
 use Rattle.std.specs.List.Sorted.{IsStrictlySortedBy}
@@ -9,8 +9,9 @@ use Rattle.std.proofs.lemmas.Cmp.{int_ranked, by_ranked, tied_itself}
 use Rattle.std.proofs.lemmas.Int.{ints}
 use Rattle.std.proofs.lemmas.Map.Keys.{Less-from_sorted}
 use Rattle.std.proofs.lemmas.Map.Lookups.{CmpEqualImpliesEq, exact_signed, exact_bytes}
+use Rattle.krb_replay.specs.Bytes.{name_bytes}
 use Rattle.krb_replay.specs.Stamp.{Stamp}
-use Rattle.krb_replay.specs.Inner.Order.{name_cmp, stamp_cmp, stamp_total}
+use Rattle.krb_replay.specs.Inner.Order.{name_cmp, parts_cmp, pair_cmp, stamp_cmp, stamp_total}
 
 -- both of two orders tie where the one after the other does
 first_tied : (one other : Ordering) → ordering_then one other ≡ Equal → one ≡ Equal
@@ -37,12 +38,21 @@ exact_lists R exact (x ∷ xs) (y ∷ ys) e =
     let tail : xs ≡ ys = exact_lists R exact xs ys (second_tied (R x y) (slice_cmp R xs ys) e) in
     cc
 
-pub exact_names : CmpEqualImpliesEq name_cmp
-exact_names one other e =
+exact_parts : CmpEqualImpliesEq parts_cmp
+exact_parts one other e =
     let realms : one.realm ≡ other.realm = exact_bytes one.realm other.realm (first_tied _ _ e) in
     let components : one.components ≡ other.components =
     exact_lists (slice_cmp nat_cmp) exact_bytes one.components other.components (second_tied _ _ e) in
     λ i. record { realm = realms i; components = components i }
+
+pub exact_names : CmpEqualImpliesEq name_cmp
+exact_names one other e = exact_parts one other (second_tied (slice_cmp nat_cmp (name_bytes one) (name_bytes other)) (parts_cmp one other) e)
+
+pub exact_pairs : CmpEqualImpliesEq pair_cmp
+exact_pairs one other e =
+    let servers : one.0 ≡ other.0 = exact_names one.0 other.0 (first_tied _ _ e) in
+    let clients : one.1 ≡ other.1 = exact_names one.1 other.1 (second_tied _ _ e) in
+    λ i. (servers i, clients i)
 
 pub exact_stamps : CmpEqualImpliesEq stamp_cmp
 exact_stamps one other e =
@@ -67,3 +77,16 @@ not_later one other not_after =
     (λ is less. omega (arith, ints))
     (λ is same. omega (arith, ints))
     (λ is more. absurd (greater_decides _ _ is not_after))
+
+less_decides : (one other : Ordering) → one ≡ Less → is_lt (ordering_then one other) ≡ false → ⊥
+less_decides Less other e f = cc
+less_decides Equal other e f = cc
+less_decides Greater other e f = cc
+
+-- and what isn't before another one isn't earlier
+pub not_earlier : (one other : Stamp) → is_lt (stamp_cmp one other) ≡ false → other.time ≤ℤ one.time
+not_earlier one other not_before =
+    by_ranked _ _ _ (int_cmp one.time other.time) (int_ranked one.time other.time _ refl)
+    (λ is less. absurd (less_decides _ _ is not_before))
+    (λ is same. omega (arith, ints))
+    (λ is more. omega (arith, ints))

@@ -5,16 +5,16 @@ use Rattle.krb_replay.specs.Stamp.{Stamp}
 use Rattle.krb_replay.specs.Memory.{IsSizeOf}
 use Rattle.krb_replay.proofs.DropLaws.{first_or_rest, among_rest}
 
-abbrev AreOnce : List Stamp → Type 0
+abbrev pub AreOnce : List Stamp → Type 0
 AreOnce stamps = AllPairs (λ one other. one ≢ other) stamps
 
-once_rest : (first : Stamp) (rest : List Stamp) → AreOnce (first ∷ rest) → AreOnce rest
+pub once_rest : (first : Stamp) (rest : List Stamp) → AreOnce (first ∷ rest) → AreOnce rest
 once_rest first rest once i j d below within = once (suc i) (suc j) d (omega arith) (omega arith)
 
-first_apart : (first : Stamp) (rest : List Stamp) (stamp : Stamp) → AreOnce (first ∷ rest) → Contains rest stamp → first ≢ stamp
+pub first_apart : (first : Stamp) (rest : List Stamp) (stamp : Stamp) → AreOnce (first ∷ rest) → Contains rest stamp → first ≢ stamp
 first_apart first rest stamp once (k, within, is) same = once zero (suc k) stamp (omega arith) (omega arith) (same ∙ sym is)
 
-no_longer : (one other : List Stamp) → AreOnce one → ((stamp : Stamp) → Contains one stamp → Contains other stamp)
+pub no_longer : (one other : List Stamp) → AreOnce one → ((stamp : Stamp) → Contains one stamp → Contains other stamp)
     → length one ≤ length other
 no_longer [] other once among = omega arith
 no_longer (first ∷ rest) other once among =

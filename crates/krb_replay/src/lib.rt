@@ -4,6 +4,7 @@
 //! A [`Tuple`] is what is remembered of a request. A [`ReplayMemory`] is a set of tuples, and the
 //! latest moment that it was given. [`ListMemory`] keeps everything. [`TimedMemory`] forgets what
 //! is older than the latest moment less a [`Skew`], and stays fast however much it holds.
+//! [`LimitedMemory`] is a memory over another one that takes only so many tuples.
 //!
 //! ```rust
 //! let mut memory = TimedMemory::new(alloc);
@@ -14,15 +15,21 @@
 //! ```
 #![tactic(auto)]
 
+mod counts;
+mod dropped;
+mod held;
 pub mod laws;
+mod limited;
 mod list;
 mod memory;
 mod names;
+mod pair;
 mod skew;
 mod stamp_bytes;
 mod timed;
 mod tuple;
 
+pub use limited::LimitedMemory;
 pub use list::ListMemory;
 pub use memory::ReplayMemory;
 pub use skew::Skew;

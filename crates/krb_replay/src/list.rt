@@ -1,6 +1,8 @@
 //! A memory that drops nothing.
 
 ghost use Rattle.std.specs.Prelude.{◌≡◌, [], None, true, false};
+ghost use Rattle.std.specs.Option.{option_map};
+ghost use Rattle.krb_replay.specs.Inner.Held.{number_of, since};
 
 use crate::memory::{ReplayMemory, later};
 use crate::skew::Skew;
@@ -57,9 +59,21 @@ impl ReplayMemory for ListMemory {
 
     ghost newest = { λ memory. memory.latest };
 
+    ghost limits = { λ memory. [] };
+
+    ghost counts_since = { λ memory oldest. Unit {0} };
+
+    ghost refusals = { λ memory. 0 };
+
     fn contains(&self, tuple: &Tuple) -> bool {
         self.tuples.contains(tuple)
     }
+
+    fn has_at_least(&self, client_of: Option<&Tuple>, count: usize, oldest: i64) -> bool {
+        count <= number_since(self.tuples.as_slice(), client_of, oldest)
+    }
+
+    fn expect(&mut self, _moment: Moment, _skew: Skew) {}
 
     fn remember(&mut self, tuple: Tuple) -> Result<(), AllocError> {
         if !self.tuples.contains(&tuple) {
@@ -79,4 +93,17 @@ impl ReplayMemory for ListMemory {
     fn latest(&self) -> Option<Moment> {
         self.latest
     }
+}
+
+// How many tuples aren't before `oldest`: of the client of a tuple, or of all clients.
+fn number_since(tuples: &[Tuple], client_of: Option<&Tuple>, oldest: i64) -> usize
+    ensures { result ≡ number_of (option_map (λ tuple. tuple.now.client) client_of.entry) (since oldest tuples.now) }
+{
+    let mut found = 0;
+    for tuple in tuples {
+        if tuple.time().micros() >= oldest && tuple.is_of(client_of) {
+            found += 1;
+        }
+    }
+    found
 }

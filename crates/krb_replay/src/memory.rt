@@ -1,6 +1,8 @@
 //! What every memory of seen requests does.
 
-ghost use Rattle.std.specs.Prelude.{◌≡◌, ◌↔◌, ℕ, ℤ, Bool, Option, Some, IsTrue, OnOk, OnErr};
+ghost use Rattle.std.specs.Prelude.{◌≡◌, ◌↔◌, ◌⊎◌, ◌-ℤ◌, ℕ, ℤ, pos, Bool, List, Option, Some, IsErr, IsTrue, OnOk, OnErr};
+ghost use Rattle.std.specs.Option.{option_map};
+ghost use Rattle.krb_replay.specs.Limit.{HasAtLeast, Limits, ReachesAny, Since};
 ghost use Rattle.krb_replay.specs.Stamp.{Stamp};
 ghost use Rattle.krb_replay.specs.Memory.{later_of, IsRecent, SameStamps, AddsStamp, IsSizeOf};
 
@@ -11,7 +13,7 @@ use std::alloc::AllocError;
 
 /// A memory of seen requests: a set of tuples, and the latest moment that it was given.
 ///
-/// No call has a condition. `contains`, `advance`, `len` and `latest` allocate no memory.
+/// No call has a condition. Only `remember` allocates memory.
 pub trait ReplayMemory {
     /// Whether `advance` drops nothing.
     const KEEPS: bool;
@@ -27,18 +29,48 @@ pub trait ReplayMemory {
     /// The latest moment, if the memory was given any.
     ghost newest: { Self → Option ℤ };
 
+    /// The limits, if the memory has any.
+    ghost limits: { Self → List Limits };
+
+    /// Whether exactly the stamps whose time isn't before a moment count for the limits.
+    ghost counts_since: { Self → ℤ → Type 0 };
+
+    /// How many tuples were refused for a limit.
+    ghost refusals: { Self → ℕ };
+
     /// Returns whether the set has the tuple.
     fn contains(&self, tuple: &Tuple) -> bool
         ensures { IsTrue result ↔ has self.now tuple.now };
 
+    /// Returns whether the set has at least `count` tuples whose time isn't before `oldest`, in
+    /// microseconds since 1970-01-01T00:00:00Z. With a tuple, only those of its client count.
+    fn has_at_least(&self, client_of: Option<&Tuple>, count: usize, oldest: i64) -> bool
+        ensures { IsTrue result ↔ HasAtLeast (Since (has self.now) (option_map (λ tuple. tuple.now.client) client_of.entry) oldest) count };
+
+    /// Says that the memory is given `moment` right after the next tuple. The set and the latest
+    /// moment stay the same. From now on only what will then still be there counts for a limit.
+    fn expect(&mut self, moment: Moment, skew: Skew)
+        ensures set { SameStamps (has self.old) (has self.new) }
+        ensures newest { newest self.new ≡ newest self.old }
+        ensures counts { counts_since self.new (later_of (newest self.old) moment -ℤ pos skew) }
+        ensures limits { limits self.new ≡ limits self.old }
+        ensures refusals { refusals self.new ≡ refusals self.old };
+
     /// Adds the tuple to the set, and changes nothing else.
     ///
     /// # Errors
-    /// `AllocError`: there is no memory for the tuple. The memory is unchanged.
+    /// `AllocError`: there is no memory for the tuple, or the memory has a limit, which is reached.
+    /// The memory is unchanged.
     fn remember(&mut self, tuple: Tuple) -> Result<(), AllocError>
         ensures ok { OnOk result (AddsStamp (has self.old) (has self.new) tuple) }
         ensures err { OnErr result (SameStamps (has self.old) (has self.new)) }
-        ensures newest { newest self.new ≡ newest self.old };
+        ensures newest { newest self.new ≡ newest self.old }
+
+        // A tuple past a limit is refused. Nothing else is counted as refused for a limit.
+        ensures full { (oldest : ℤ) → counts_since self.old oldest → ReachesAny (has self.old) oldest tuple (limits self.old) → IsErr result }
+        ensures refused { (oldest : ℤ) → counts_since self.old oldest → (refusals self.new ≡ refusals self.old)
+            ⊎ (IsErr result × ReachesAny (has self.old) oldest tuple (limits self.old)) }
+        ensures limits { limits self.new ≡ limits self.old };
 
     /// Gives the memory a moment. The latest moment becomes the later of this moment and the one so
     /// far, if there was one. The memory may drop each tuple whose time is before the latest moment
@@ -52,7 +84,9 @@ pub trait ReplayMemory {
         // A memory that keeps what it has drops none, and one that forgets drops all that it may.
         ensures keeps { IsTrue KEEPS → SameStamps (has self.old) (has self.new) }
         ensures forgets { IsTrue FORGETS → (stamp : Stamp) → has self.new stamp
-            → IsRecent (later_of (newest self.old) moment) skew stamp };
+            → IsRecent (later_of (newest self.old) moment) skew stamp }
+        ensures limits { limits self.new ≡ limits self.old }
+        ensures refusals { refusals self.new ≡ refusals self.old };
 
     /// Returns the number of tuples in the set.
     fn len(&self) -> usize

@@ -1,35 +1,90 @@
-//! An order of names.
+//! The names of a service and a client, as bytes.
 
-ghost use Rattle.std.specs.Prelude.{◌≡◌};
-ghost use Rattle.krb_replay.specs.Inner.Order.{name_cmp, components_cmp};
+ghost use Rattle.std.specs.Prelude.{◌≡◌, IfOk};
+ghost use Rattle.krb_replay.specs.Bytes.{HasLengths, name_bytes};
+ghost use Rattle.krb_replay.specs.Inner.Order.{name_cmp};
 ghost use Rattle.krb_replay.specs.Stamp.{name_of};
 
-use krb_name::{Bytes, Principal};
+use crate::stamp_bytes::write_name;
+use krb_name::Principal;
+use std::alloc::{AllocError, Global};
 use std::cmp::Ordering;
+use std::marker::Model;
 
-/// Compares the realms, and if they are equal, the components.
-pub(crate) fn compare_names(one: &Principal, other: &Principal) -> Ordering
-    ensures { result ≡ name_cmp (name_of one.now) (name_of other.now) }
-{
-    match one.realm.as_slice().cmp(&other.realm.as_slice()) {
-        Ordering::Equal => compare_components(
-            one.components.as_slice(),
-            other.components.as_slice(),
-        ),
-        apart => apart,
+/// The names of a service and a client, one after the other, as bytes: in the form of
+/// [`Tuple::to_bytes`](crate::Tuple::to_bytes).
+#[derive(Debug, Drop)]
+pub(crate) struct Names {
+    bytes: Vec<u8>,
+    server_len: usize,
+}
+
+impl Model for Names {
+    ghost use Rattle.std.specs.Prelude.{drop};
+    ghost use Rattle.krb_replay.specs.Inner.Names.{AreNames, name_at};
+    ghost use Rattle.krb_replay.specs.Inner.Order.{TwoNames};
+
+    ghost Value = { TwoNames };
+
+    ghost view = { λ names. (name_at names.bytes.items, name_at (drop names.server_len names.bytes.items)) };
+
+    ghost invariant = { λ names. AreNames names.bytes.items names.server_len };
+}
+
+impl Names {
+    /// Copies the names, without their types.
+    pub(crate) fn new(
+        alloc: Global,
+        server: &Principal,
+        client: &Principal,
+    ) -> Result<Names, AllocError>
+        ensures { IfOk result (λ names. names ≡ (name_of server.now, name_of client.now)) }
+    {
+        let size = size_of(server).saturating_add(size_of(client));
+        let mut bytes = Vec::with_capacity(alloc, size)?;
+        write_name(&mut bytes, server)?;
+        let server_len = bytes.len();
+        write_name(&mut bytes, client)?;
+        Ok(Names { bytes, server_len })
+    }
+
+    /// Returns the bytes of the service's name.
+    pub(crate) fn server(&self) -> &[u8]
+        ensures bytes { result.now ≡ name_bytes self.now.0 }
+        ensures lengths { HasLengths self.now.0 }
+    {
+        &self.bytes.as_slice()[..self.server_len]
+    }
+
+    /// Returns the bytes of the client's name.
+    pub(crate) fn client(&self) -> &[u8]
+        ensures bytes { result.now ≡ name_bytes self.now.1 }
+        ensures lengths { HasLengths self.now.1 }
+    {
+        &self.bytes.as_slice()[self.server_len..]
+    }
+
+    /// Compares the names of the services.
+    pub(crate) fn compare_servers(&self, other: &Names) -> Ordering
+        ensures { result ≡ name_cmp self.now.0 other.now.0 }
+    {
+        self.server().cmp(&other.server())
+    }
+
+    /// Compares the names of the clients.
+    pub(crate) fn compare_clients(&self, other: &Names) -> Ordering
+        ensures { result ≡ name_cmp self.now.1 other.now.1 }
+    {
+        self.client().cmp(&other.client())
     }
 }
 
-/// Compares the components in their order. If one name is a prefix of the other, compares the
-/// lengths.
-fn compare_components(one: &[Bytes], other: &[Bytes]) -> Ordering
-    ensures { result ≡ components_cmp one.now other.now }
-{
-    for i in 0..one.len().min(other.len()) {
-        match one[i].as_slice().cmp(&other[i].as_slice()) {
-            Ordering::Equal => {}
-            apart => return apart,
-        }
+// How many bytes the name takes: three numbers of 8 bytes at least, so that no more room is asked
+// for than is used.
+fn size_of(name: &Principal) -> usize {
+    let mut size = name.realm.len().saturating_add(16);
+    for component in name.components.as_slice() {
+        size = size.saturating_add(component.len()).saturating_add(8);
     }
-    one.len().cmp(&other.len())
+    size
 }

@@ -9,11 +9,13 @@ ghost use Rattle.krb_time.specs.Moments.{IsMoment, micros_of};
 ghost use Rattle.krb_replay.specs.Bytes.{IsBytesOf};
 ghost use Rattle.krb_replay.specs.Keeping.{kept_until};
 ghost use Rattle.krb_replay.specs.Stamp.{name_of};
-ghost use Rattle.krb_replay.specs.Inner.Order.{stamp_cmp, stamp_total};
+ghost use Rattle.std.specs.Option.{option_map};
+ghost use Rattle.krb_replay.specs.Inner.Held.{is_of};
+ghost use Rattle.krb_replay.specs.Inner.Order.{names_of, stamp_cmp, stamp_total};
 
-use crate::names::compare_names;
+use crate::pair::{ByClient, Pair};
 use crate::skew::Skew;
-use crate::stamp_bytes::{write_name, write_time};
+use crate::stamp_bytes::write_time;
 use krb_name::Principal;
 use krb_time::{Microseconds, Moment, Seconds};
 use std::alloc::{AllocError, Global};
@@ -29,34 +31,23 @@ use std::marker::Model;
 #[derive(Debug, Drop)]
 pub struct Tuple {
     time: Moment,
-    // Boxed, so that the times of tuples lie close together if many are held.
-    names: Box<Names>,
-}
-
-#[derive(Debug, Drop)]
-struct Names {
-    server: Principal,
-    client: Principal,
+    names: ByClient,
 }
 
 impl Model for Tuple {
-    ghost use Rattle.krb_replay.specs.Stamp.{Stamp, name_of};
+    ghost use Rattle.krb_replay.specs.Stamp.{Stamp};
 
     ghost Value = { Stamp };
 
-    ghost view = { λ tuple. record {
-      server = name_of tuple.names.value.server;
-      client = name_of tuple.names.value.client;
-      time = tuple.time;
-    } };
+    ghost view = { λ tuple. record { server = tuple.names.0; client = tuple.names.1; time = tuple.time } };
 }
 
 impl Tuple {
     /// Makes the tuple of these names and of the authenticator's ctime and cusec. The names are
-    /// moved, not copied.
+    /// copied, without their types, and freed.
     ///
     /// # Errors
-    /// `AllocError`: there is no memory for a box.
+    /// `AllocError`: there is no memory for the names.
     pub fn new(
         alloc: Global,
         server: Principal,
@@ -72,7 +63,7 @@ impl Tuple {
     {
         Ok(Tuple {
             time: Moment::at(ctime, cusec),
-            names: Box::new(alloc, Names { server, client })?,
+            names: ByClient::new(Pair::new(alloc, &server, &client)?),
         })
     }
 
@@ -81,6 +72,41 @@ impl Tuple {
         ensures { result ≡ self.now.time }
     {
         self.time
+    }
+
+    /// Returns the names.
+    pub(crate) fn names(&self) -> &ByClient
+        ensures { result.now ≡ names_of self.now }
+    {
+        &self.names
+    }
+
+    /// Returns whether the tuple has the same client as another one, if there is another.
+    pub(crate) fn is_of(&self, client_of: Option<&Tuple>) -> bool
+        ensures { result ≡ is_of (option_map (λ tuple. tuple.now.client) client_of.entry) self.now }
+    {
+        match client_of {
+            Some(other) => self.names == other.names,
+            None => true,
+        }
+    }
+
+    /// Returns the names alone.
+    pub(crate) fn into_pair(self) -> Pair
+        ensures { result ≡ names_of self }
+    {
+        self.names.into_pair()
+    }
+
+    /// Returns the tuple of the same time that holds `names`.
+    pub(crate) fn with_names(self, names: Pair) -> Tuple
+        requires { names ≡ names_of self }
+        ensures { result ≡ self }
+    {
+        Tuple {
+            time: self.time,
+            names: ByClient::new(names),
+        }
     }
 
     /// Writes the tuple as one string of bytes, for a store that several services share. Two tuples
@@ -98,8 +124,9 @@ impl Tuple {
         ensures { IfOk result (λ bytes. IsBytesOf self.now bytes.items) }
     {
         let mut out = Vec::new(alloc);
-        write_name(&mut out, &self.names.server)?;
-        write_name(&mut out, &self.names.client)?;
+        let names = self.names.pair().names();
+        out.extend_from_slice(names.server())?;
+        out.extend_from_slice(names.client())?;
         write_time(&mut out, self.time)?;
         Ok(out)
     }
@@ -141,11 +168,7 @@ impl Ord for Tuple {
             Ordering::Equal => {}
             apart => return apart,
         }
-        let (names, others) = (&*self.names, &*other.names);
-        match compare_names(&names.server, &others.server) {
-            Ordering::Equal => compare_names(&names.client, &others.client),
-            apart => apart,
-        }
+        self.names.pair().cmp(other.names.pair())
     }
 }
 

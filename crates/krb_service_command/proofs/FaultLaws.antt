@@ -1,8 +1,13 @@
 -- The faults that end a service, told apart.
-use Rattle.std.proofs.Common.{◌≡◌, ◌⊎◌, Result, Err, inl, inr}
+use Rattle.std.proofs.Common.{◌≡◌, ◌⊎◌, Result, Err, ap, inl, inr}
+use Rattle.krb_file_commands.proofs.FaultLaws.{same_err}
 use Rattle.krb_service_command.specs.declared.fault.ServiceFault.{ServiceFault}
 use Rattle.krb_service_command.specs.declared.fault.ServiceFault.TheVariants.{Input, Write, OutOfMemory}
 
 -- a fault of the output or of memory isn't one of the input
 pub not_input : {X : Type 0} (fault : ServiceFault) → (fault ≡ Write) ⊎ (fault ≡ OutOfMemory) → ◌≡◌ {A = Result X ServiceFault} (Err fault) (Err Input) → ⊥
 not_input fault which e = elim which [ inl write ↦ cc | inr memory ↦ cc ]
+
+-- the same fault, of another call
+pub same_fault : {X Y F : Type 0} {one other : F} → ◌≡◌ {A = Result X F} (Err one) (Err other) → ◌≡◌ {A = Result Y F} (Err one) (Err other)
+same_fault {F = F} {one = one} {other = other} e = ap (λ (fault : F). Err fault) (same_err one other e)

@@ -1,3 +1,4 @@
 pub mod FaultLaws
 pub mod GoingLaws
 pub mod EndLaws
+pub mod ExplainLaws

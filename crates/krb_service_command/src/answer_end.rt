@@ -1,6 +1,6 @@
 //! What follows an answer of `accept` on its line.
 
-ghost use Rattle.std.specs.Prelude.{◌≡◌, IfOk, IsErrOf, string_bytes};
+ghost use Rattle.std.specs.Prelude.{◌≡◌, ◌++◌, ◌∷◌, [], IfOk, IsErrOf, OnOk, string_bytes};
 ghost use Rattle.krb_gss.specs.Answer.{message_of};
 ghost use Rattle.krb_call_lines.specs.Forms.{IsSentTooLong, TellsAnswer};
 ghost use Rattle.krb_service_command.specs.AnswerEnd.{IsErrorEnd, IsReplyEnd, IsAnswerEnd, named, end_status, end_text};
@@ -12,6 +12,7 @@ use krb_gss::{Answer, WrapFault, wrap_answer};
 use krb_msg::Moment;
 use krb_name::Principal;
 use std::alloc::{AllocError, Global};
+use std::fmt::Write;
 
 /// What follows an answer on its line.
 #[derive(Drop)]
@@ -132,15 +133,14 @@ fn token_text(alloc: Global, envelope: Envelope, answer: Answer<'_>) -> Result<S
     Ok(hex::encode(alloc, token)?)
 }
 
-/// Gives what is printed of it, with a space in front.
-pub(crate) fn end_text(alloc: Global, end: &AnswerEnd) -> Result<String, AllocError>
-    ensures { IfOk result (λ text. string_bytes text ≡ end_text end.now) }
+/// Writes what is printed of it after a line, with a space in front, and the line's end.
+pub(crate) fn write_end(end: &AnswerEnd, line: &mut String) -> Result<(), AllocError>
+    ensures { OnOk result (string_bytes line.new ≡ string_bytes line.old ++ (end_text end.now ++ 10 ∷ [])) }
 {
     match end {
-        AnswerEnd::Nothing => Ok(String::new(alloc)),
-        AnswerEnd::Reply(digits) => format!(in alloc; " reply {digits}"),
-        AnswerEnd::Error(digits) => format!(in alloc; " error {digits}"),
-        AnswerEnd::OutOfMemory => Ok(String::new(alloc)),
+        AnswerEnd::Reply(digits) => write!(line, " reply {digits}\n"),
+        AnswerEnd::Error(digits) => write!(line, " error {digits}\n"),
+        AnswerEnd::Nothing | AnswerEnd::OutOfMemory => line.push('\n'),
     }
 }
 

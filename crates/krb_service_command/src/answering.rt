@@ -1,12 +1,13 @@
 //! What `accept` prints for a line.
 
-ghost use Rattle.std.specs.Prelude.{◌≡◌, ◌⊎◌, ◌+◌, ◌-◌, ◌^◌, ◌<◌, IfOk, IfErr, OnOk, OnErr, string_bytes};
+ghost use Rattle.std.specs.Prelude.{◌≡◌, ◌⊎◌, ◌+◌, ◌-◌, ◌^◌, ◌<◌, ◌++◌, ◌∷◌, IfOk, IfErr, OnOk, OnErr, codes, string_bytes};
+ghost use Rattle.std.specs.Fmt.{decimal, signed_decimal};
 ghost use Rattle.std.specs.Io.KnownBytes.{Appends};
 ghost use Rattle.krb_name.specs.Flow.{AppendsBeginning};
-ghost use Rattle.krb_service_command.specs.Answering.{accepted_line, answer_line, call_status, call_text, outcome_status, refused_line};
+ghost use Rattle.krb_service_command.specs.Answering.{accepted_line, answer_line, call_status, call_text, mutual_text, outcome_status, refused_line};
 ghost use Rattle.krb_service_command.specs.Status.{failed_writes};
 
-use crate::answer_end::{AnswerEnd, LineAnswer, end_text, status_of_end};
+use crate::answer_end::{AnswerEnd, LineAnswer, status_of_end, write_end};
 use crate::fault::ServiceFault;
 use krb_ap::{Accepted, Outcome, Refusal};
 use krb_call_lines::bad_token_text;
@@ -65,27 +66,52 @@ fn call_text(alloc: Global, outcome: &Outcome, end: &AnswerEnd) -> Result<String
 fn accepted_text(alloc: Global, accepted: &Accepted, end: &AnswerEnd) -> Result<String, AllocError>
     ensures { IfOk result (λ text. string_bytes text ≡ accepted_line accepted.now end.now) }
 {
-    let end = end_text(alloc, end)?;
     let client = accepted.client.to_text(alloc)?;
-    let etype = accepted.session_key.etype();
-    let ctime = accepted.ctime.get();
-    let cusec = accepted.cusec.get();
-    if accepted.mutual {
-        format!(in alloc; "accepted {client} {etype} {ctime} {cusec} mutual{end}\n")
-    } else {
-        format!(in alloc; "accepted {client} {etype} {ctime} {cusec} plain{end}\n")
-    }
+    let mut line = accepted_words(
+        alloc,
+        client.as_str(),
+        accepted.session_key.etype(),
+        accepted.ctime.get(),
+        accepted.cusec.get(),
+        mutual_text(accepted.mutual),
+    )?;
+    write_end(end, &mut line)?;
+    Ok(line)
+}
+
+// What the line of an accepted request says before its end.
+fn accepted_words(
+    alloc: Global,
+    client: &str,
+    etype: i32,
+    ctime: i64,
+    cusec: u32,
+    asks: &str,
+) -> Result<String, AllocError>
+    ensures { IfOk result (λ text. string_bytes text ≡ codes "accepted " ++ (client.now
+        ++ (32 ∷ (signed_decimal etype ++ (32 ∷ (signed_decimal ctime
+        ++ (32 ∷ (decimal cusec ++ (32 ∷ asks.now))))))))) }
+{
+    let words = format!(in alloc; "accepted {client} {etype} {ctime} {cusec} {asks}")?;
+    Ok(words)
+}
+
+fn mutual_text(mutual: bool) -> &'static str
+    ensures { result.now ≡ mutual_text «mutual» }
+{
+    if mutual { "mutual" } else { "plain" }
 }
 
 fn refused_text(alloc: Global, refusal: &Refusal, end: &AnswerEnd) -> Result<String, AllocError>
     ensures { IfOk result (λ text. string_bytes text ≡ refused_line refusal.now end.now) }
 {
-    let end = end_text(alloc, end)?;
     let name = refusal.name();
-    match refusal.code() {
-        Some(code) => format!(in alloc; "refused {code} {name}{end}\n"),
-        None => format!(in alloc; "refused none {name}{end}\n"),
-    }
+    let mut line = match refusal.code() {
+        Some(code) => format!(in alloc; "refused {code} {name}")?,
+        None => format!(in alloc; "refused none {name}")?,
+    };
+    write_end(end, &mut line)?;
+    Ok(line)
 }
 
 /// Returns what an outcome makes of the exit status: 0 if a request was accepted, 1 if a line or its token was bad or its

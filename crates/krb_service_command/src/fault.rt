@@ -1,7 +1,7 @@
 //! Why a service ended early, what the program says of it, and its exit status.
 
 ghost use Rattle.std.specs.Prelude.{◌≡◌};
-ghost use Rattle.krb_service_command.specs.Status.{status_of, text_of};
+ghost use Rattle.krb_service_command.specs.Status.{status_of, subject_of, text_of};
 ghost use Rattle.krb_service_command.specs.declared.fault.ServiceFault.TheVariants.{Input, Write, OutOfMemory};
 
 use krb_file_commands::{FAILED, Failure, FailureText};
@@ -47,6 +47,8 @@ impl Failure for ServiceFault {
     ghost printed = { text_of };
 
     ghost exit_status = { status_of };
+
+    ghost subject = { subject_of };
 
     fn text(&self) -> FailureText {
         match self {

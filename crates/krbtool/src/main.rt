@@ -11,16 +11,15 @@ mod streams;
 use crate::run::run;
 use crate::streams::{NOWHERE, hold_streams};
 use clap::error::ErrorKind;
-use krb_command_line::read_words;
-use krb_file_commands::{FAILED, FileFault, WRONG_WORDS, fault_line, file_line};
+use krb_command_line::{is_command, read_words};
+use krb_file_commands::{FAILED, WRONG_WORDS, complain, file_line, memory_line, write_line};
 use std::alloc::{AllocError, Global};
 use std::io;
 use std::process::ExitCode;
 
 fn main(rt: HostRuntime) -> ExitCode {
     let Ok(_held) = hold_streams(&rt) else {
-        let _ = eprintln!(rt; "{}", file_line(NOWHERE));
-        return ExitCode::from(FAILED);
+        return ExitCode::from(complain(&rt, file_line(NOWHERE), FAILED));
     };
     ExitCode::from(answer(&rt))
 }
@@ -32,23 +31,33 @@ fn answer(rt: &HostRuntime) -> u8 {
         Err(error) => return refuse_words(rt, error.kind()),
     };
     let Ok(words) = lent_words(rt.alloc(), &given) else {
-        return refuse_words(rt, io::ErrorKind::OutOfMemory);
+        return refuse_memory(rt, &given);
     };
     match read_words(rt.alloc(), &words) {
         Ok(command) => run(rt, command),
+        Err(error) if error.kind() == ErrorKind::OutOfMemory => refuse_memory(rt, &given),
         Err(error) => show(rt, &error),
     }
 }
 
-// Says that the words of the command line can't be had, and answers the status of that.
+// Says that the words of the command line can't be had, and returns the exit status for that.
 fn refuse_words(rt: &HostRuntime, kind: io::ErrorKind) -> u8 {
-    let _ = match kind {
-        io::ErrorKind::OutOfMemory => {
-            eprintln!(rt; "{}", fault_line("words", &FileFault::OutOfMemory))
+    match kind {
+        io::ErrorKind::OutOfMemory => refuse_memory(rt, &[]),
+        _ => {
+            let _ = eprintln!(rt; "krbtool: an argument isn't valid UTF-8");
+            WRONG_WORDS
         }
-        _ => eprintln!(rt; "krbtool: an argument isn't valid UTF-8"),
+    }
+}
+
+// Says that memory ran out while these words were read, and returns the exit status for that.
+fn refuse_memory(rt: &HostRuntime, given: &[String]) -> u8 {
+    let name = match given.get(1) {
+        Some(word) if is_command(word) => word,
+        _ => "words",
     };
-    WRONG_WORDS
+    complain(rt, memory_line(name), FAILED)
 }
 
 fn given_words(rt: &HostRuntime) -> io::Result<Vec<String>> {
@@ -65,12 +74,8 @@ fn show(rt: &HostRuntime, error: &clap::Error) -> u8 {
     match error.kind() {
         ErrorKind::DisplayHelp | ErrorKind::DisplayVersion => match printed {
             Ok(()) => 0,
-            Err(_) => {
-                let _ = eprintln!(rt; "{}", fault_line("output", &FileFault::Write));
-                FAILED
-            }
+            Err(_) => complain(rt, write_line(), FAILED),
         },
-        ErrorKind::OutOfMemory => FAILED,
         _ => WRONG_WORDS,
     }
 }

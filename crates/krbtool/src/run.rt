@@ -8,11 +8,12 @@ use krb_file_commands::{
 };
 use krb_service_command::run_accept;
 use std::io::Input;
+use std::random::RandomSource;
 use std::rt::Files;
 
 /// Runs a command, and returns the exit status: 0 if all is well, 1 if content is refused, 3
 /// if a file, the output or memory failed.
-pub(crate) fn run<R: AllocGlobal + Files + Input + Print + Eprint>(
+pub(crate) fn run<R: AllocGlobal + Files + RandomSource + Input + Print + Eprint>(
     rt: &R,
     command: Command<'_>,
 ) -> u8 {
@@ -21,8 +22,8 @@ pub(crate) fn run<R: AllocGlobal + Files + Input + Print + Eprint>(
         Command::ListCcache { file, form } => run_list_ccache(rt, file, form),
         Command::CheckKeytab { file } => run_check_keytab(rt, file),
         Command::CheckCcache { file } => run_check_ccache(rt, file),
-        Command::ConvertKeytab { file, out } => run_convert_keytab(rt, file, out),
-        Command::ConvertCcache { file, out } => run_convert_ccache(rt, file, out),
+        Command::ConvertKeytab { file, out, replace } => run_convert_keytab(rt, file, out, replace),
+        Command::ConvertCcache { file, out, replace } => run_convert_ccache(rt, file, out, replace),
         Command::Request(words) => run_request(rt, words),
         Command::Accept(words) => run_accept(rt, words),
         Command::Finish(words) => run_finish(rt, words),

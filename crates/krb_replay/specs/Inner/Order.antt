@@ -5,24 +5,51 @@ use Rattle.std.specs.Cmp.Lexicographic.{slice_cmp}
 use Rattle.std.proofs.lemmas.Cmp.{then_total, on_total, lists_total, nat_cmp_total, int_cmp_total}
 use Rattle.std.specs.declared.cmp.Ordering.{Ordering}
 use Rattle.std.specs.Ordering.{int_cmp, nat_cmp, on, then_cmp}
+use Rattle.krb_replay.specs.Bytes.{name_bytes}
 use Rattle.krb_replay.specs.Stamp.{RealmAndName, Stamp}
 
 -- the components of a name, each compared byte for byte
 abbrev pub components_cmp : List (List ℕ) → List (List ℕ) → Ordering
 components_cmp = slice_cmp (slice_cmp nat_cmp)
 
+abbrev pub parts_cmp : RealmAndName → RealmAndName → Ordering
+parts_cmp = then_cmp (on (λ name. name.realm) (slice_cmp nat_cmp)) (on (λ name. name.components) components_cmp)
+
+-- Names are compared by their bytes. Those of names whose lengths are numbers of 8 bytes differ if
+-- the names do.
 abbrev pub name_cmp : RealmAndName → RealmAndName → Ordering
-name_cmp = then_cmp (on (λ name. name.realm) (slice_cmp nat_cmp)) (on (λ name. name.components) components_cmp)
+name_cmp = then_cmp (on name_bytes (slice_cmp nat_cmp)) parts_cmp
+
+-- the names of a service and a client
+abbrev pub TwoNames : Type 0
+TwoNames = RealmAndName × RealmAndName
+
+abbrev pub names_of : Stamp → TwoNames
+names_of stamp = (stamp.server, stamp.client)
+
+abbrev pub pair_cmp : TwoNames → TwoNames → Ordering
+pair_cmp = then_cmp (on (λ names. names.0) name_cmp) (on (λ names. names.1) name_cmp)
+
+-- by the client alone
+abbrev pub client_cmp : TwoNames → TwoNames → Ordering
+client_cmp = on (λ names. names.1) name_cmp
 
 abbrev pub stamp_cmp : Stamp → Stamp → Ordering
-stamp_cmp = then_cmp (on (λ stamp. stamp.time) int_cmp)
-    (then_cmp (on (λ stamp. stamp.server) name_cmp) (on (λ stamp. stamp.client) name_cmp))
+stamp_cmp = then_cmp (on (λ stamp. stamp.time) int_cmp) (on names_of pair_cmp)
 
-name_total : IsTotalOrder name_cmp
-name_total = then_total (on_total (λ name. name.realm) (lists_total nat_cmp_total))
+pub parts_total : IsTotalOrder parts_cmp
+parts_total = then_total (on_total (λ name. name.realm) (lists_total nat_cmp_total))
     (on_total (λ name. name.components) (lists_total (lists_total nat_cmp_total)))
 
--- it is a total order
+-- they are total orders
+pub name_total : IsTotalOrder name_cmp
+name_total = then_total (on_total name_bytes (lists_total nat_cmp_total)) parts_total
+
+pub pair_total : IsTotalOrder pair_cmp
+pair_total = then_total (on_total (λ names. names.0) name_total) (on_total (λ names. names.1) name_total)
+
+pub client_total : IsTotalOrder client_cmp
+client_total = on_total (λ names. names.1) name_total
+
 pub stamp_total : IsTotalOrder stamp_cmp
-stamp_total = then_total (on_total (λ stamp. stamp.time) int_cmp_total)
-    (then_total (on_total (λ stamp. stamp.server) name_total) (on_total (λ stamp. stamp.client) name_total))
+stamp_total = then_total (on_total (λ stamp. stamp.time) int_cmp_total) (on_total names_of pair_total)

@@ -1,6 +1,6 @@
 use Rattle.std.proofs.Common.{ap, ℕ, Vec, Global, Result, Err}
 use Rattle.krb_gss.specs.declared.wrapping.WrapFault.{WrapFault}
-use Rattle.krb_c.specs.Wrapping.{longer, no_memory}
+use Rattle.krb_c.specs.Wrapping.{longer, no_memory, first_answer, first_size}
 use Rattle.krb_c.proofs.token.answer_wrapped.Goals as goal
 
 abbrev Failed : WrapFault → Result (Vec ℕ Global) WrapFault
@@ -8,9 +8,12 @@ Failed fault = Err fault
 
 pub returns-in-Err-TooLong-clause-fault : goal.returns-in-Err-TooLong-clause-fault
 returns-in-Err-TooLong-clause-fault c =
-    longer c.in-Some.wrapping c.in-Some.mechanism c.in-Some.ensures (c.in-Err-TooLong.ensures.too_long (ap Failed c.in-Err-TooLong.field-0-is))
-    c.plain-in-Err-TooLong.ensures
+    first_size c.in-Some-wrapping_of.wrapping c.in-Some-wrapping_of.mechanism c.in-Some-wrapping_of.ensures (longer (c.in-Err-TooLong.ensures.too_long (ap Failed c.in-Err-TooLong.field-0-is)) c.plain-in-Err-TooLong.ensures)
 
 pub returns-in-Err-OutOfMemory-clause-fault : goal.returns-in-Err-OutOfMemory-clause-fault
 returns-in-Err-OutOfMemory-clause-fault c =
-    no_memory c.in-Some.wrapping c.in-Some.mechanism c.in-Some.ensures c.plain-in-Err-OutOfMemory.ensures
+    first_size c.in-Some-wrapping_of.wrapping c.in-Some-wrapping_of.mechanism c.in-Some-wrapping_of.ensures (no_memory (c.in-Err-OutOfMemory.ensures.memory (ap Failed c.in-Err-OutOfMemory.field-0-is)) c.plain-in-Err-OutOfMemory.ensures)
+
+pub returns-in-Ok-clause-token : goal.returns-in-Ok-clause-token
+returns-in-Ok-clause-token c =
+    first_answer c.in-Some-wrapping_of.wrapping c.in-Some-wrapping_of.mechanism c.in-Some-wrapping_of.ensures c.in-Ok.ensures.answer c.in-Ok.ensures.written

@@ -1,4 +1,4 @@
-use Rattle.std.proofs.Common.{rules}
+use Rattle.std.proofs.Common.{rules, arith}
 use Rattle.std.proofs.lemmas.Result.{err_from_is_err_and}
 use Rattle.krb_ccache.specs.Spelling.{name_bytes}
 use Rattle.krb_ccache.specs.Value.{FitsName}
@@ -7,7 +7,8 @@ use Rattle.krb_ccache.specs.Types.{Header}
 use Rattle.krb_ccache.specs.Inner.Stepping.{Any}
 use Rattle.krb_name.proofs.FileLaws.{gives_then}
 use Rattle.krb_ccache.proofs.StepLaws.{comes_gives, misses_gives, head_gives}
-use Rattle.krb_ccache.proofs.ReaderLaws.{version_fault, header_fault, name_fault}
+use Rattle.krb_ccache.proofs.ReaderLaws.{begun, begun_peak, version_fault, header_fault, name_fault}
+use Rattle.krb_ccache.proofs.LayoutLaws.{head_fits}
 use Rattle.krb_ccache.proofs.stepping.begin.Goals as goal
 
 pub returns-in_err-layout-clause-fault : goal.returns-in_err-layout-clause-fault
@@ -43,3 +44,6 @@ pub returns-clause-gave : goal.returns-clause-gave
 returns-clause-gave g c =
     head_gives g.S.Source.remaining c.in_ok-layout.layout c.args.window.now c.come.new.window c.come-2.new.window c.come-3.new.window c.in_ok-header.header.items c.in_ok-layout.ensures.comes c.in_ok-header.ensures.comes
     (comes_gives name_bytes FitsName g.S.Source.remaining c.come-2.new.window c.come-3.new.window c.in_ok-default_principal.default_principal c.in_ok-default_principal.ensures.comes)
+
+pub returns-clause-taken : goal.returns-clause-taken
+returns-clause-taken g c = grind (arith, misses_gives, begun, begun_peak, head_fits)

@@ -36,3 +36,9 @@ pub returns-clause-end : goal.returns-clause-end
 returns-clause-end g c = λ from header name start.
     let ends = subst (λ (next : Option Credential). IsStep c.args.layout g.S.Source.remaining c.loop-credentials.window c.step.new.window (Ok next)) c.in_default.is c.in_ok-credential.ensures.step in
     end_taken g.S.Source.remaining c.args.layout from c.loop-credentials.window c.step.new.window (cache_of header name c.loop-credentials.credentials) (c.loop-credentials.invariant.taken from header name start) ends.0 ends.1
+
+pub returns-in_err-credential-clause-gave : goal.returns-in_err-credential-clause-gave
+returns-in_err-credential-clause-gave g c = grind (arith, gives_step)
+
+pub returns-in_err-push-clause-gave : goal.returns-in_err-push-clause-gave
+returns-in_err-push-clause-gave g c = grind (arith, gives_step)

@@ -1,7 +1,7 @@
-use Rattle.std.proofs.Common.{ap, ◌∙◌}
+use Rattle.std.proofs.Common.{ap, refl, ◌∙◌}
 use Rattle.clap.specs.Words.{Rule, app_of, with_rule}
 use Rattle.krb_command_line.specs.Inner.Commands.{rule_for}
-use Rattle.krb_command_line.proofs.CommandLaws.{none_global, one_more}
+use Rattle.krb_command_line.proofs.CommandLaws.{one_more}
 use Rattle.krb_command_line.proofs.commands.with_arguments.Goals as goal
 
 pub loop-argument-preserved : goal.loop-argument-preserved
@@ -12,5 +12,5 @@ loop-argument-preserved c =
       one_more with_rule rule_for c.args.arguments.now c.loop-argument.argument-index _ old (app_of c.in_ok-command.command)
           c.loop-argument-test.true added
           ∙ c.loop-argument.invariant.0,
-      none_global _ _ _ c.in_ok-command.ensures.globals c.loop-argument.invariant.1 local,
+      rw (c.in_ok-command.ensures.globals, c.loop-argument.invariant.1, local) refl,
     )

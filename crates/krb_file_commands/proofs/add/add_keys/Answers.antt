@@ -1,20 +1,26 @@
-use Rattle.std.proofs.Common.{ℕ, List, ◌≡◌, length}
-use Rattle.std.specs.Io.KnownBytes.{Appends}
-use Rattle.krb_name.specs.Flow.{AppendsBeginning}
-use Rattle.krb_file_commands.proofs.AddLaws.{extended_so}
-use Rattle.krb_file_commands.proofs.FaultLaws.{if_ok_map}
+use Rattle.std.proofs.Common.{inl, Err}
+use Rattle.std.proofs.lemmas.Result.{err_from_is_err_and}
+use Rattle.krb_keytab.specs.declared.fault.KeytabFault.TheVariants.{OutOfMemory, Read}
+use Rattle.krb_file_commands.proofs.AddLaws.{extended_known, too_long_known}
+use Rattle.krb_file_commands.proofs.FaultLaws.{if_some_map, none_met}
 use Rattle.krb_file_commands.proofs.add.add_keys.Goals as goal
 
-pub returns-clause-added : goal.returns-clause-added
-returns-clause-added g c =
-    let wrote = rw c.deref.ensures.value at c.write_bytes.ensures.ok in
-    if_ok_map c.write_bytes.result (λ count holds. extended_so (g.S.Source.remaining c.args.source.now) (g.F.Source.remaining c.args.others.now)
-    c.in_ok-file.file.items (λ (new : List ℕ). Appends (g.T.Sink.taken c.args.sink.now) (g.T.Sink.taken c.write_bytes.new.sink) new × (count ≡ length new))
-    c.in_ok-file.ensures.added holds) wrote
+pub returns-in_err-file-clause-fault : goal.returns-in_err-file-clause-fault
+returns-in_err-file-clause-fault g c =
+    let p = err_from_is_err_and c.from_residual.result c.from_residual.ensures.1 in
+    rw (p.1, p.2) (λ content. if_some_map (g.S.Source.remaining c.args.source.now) (λ given has. inl has) (c.in_err-file.ensures.reads.fault content))
 
-pub returns-clause-begun : goal.returns-clause-begun
-returns-clause-begun g c = λ is.
-    let begun = rw (c.deref.ensures.value, is) at c.write_bytes.ensures.err in
-    extended_so (g.S.Source.remaining c.args.source.now) (g.F.Source.remaining c.args.others.now) c.in_ok-file.file.items
-    (λ (new : List ℕ). AppendsBeginning (g.T.Sink.taken c.args.sink.now) (g.T.Sink.taken c.write_bytes.new.sink) new)
-    c.in_ok-file.ensures.added begun
+pub returns-in_err-add_each-in-Ok-clause-fault : goal.returns-in_err-add_each-in-Ok-clause-fault
+returns-in_err-add_each-in-Ok-clause-fault g c =
+    let p = err_from_is_err_and c.from_residual-in_err-add_each-in-Ok.result c.from_residual-in_err-add_each-in-Ok.ensures.1 in
+    rw (p.1, p.2) (too_long_known (g.S.Source.remaining c.args.source.now) (g.F.Source.remaining c.args.others.now)
+    c.in_ok-file.file.items c.in-Ok.others c.in_err-add_each-in-Ok.field-0.0 c.in_ok-file.ensures.whole c.in-Ok.ensures.reads.found c.in_err-add_each-in-Ok.ensures.fault)
+
+pub returns-in_ok-add_each-in-Ok-clause-added : goal.returns-in_ok-add_each-in-Ok-clause-added
+returns-in_ok-add_each-in-Ok-clause-added g c =
+    extended_known (g.S.Source.remaining c.args.source.now) (g.F.Source.remaining c.args.others.now)
+    c.in_ok-file.file.items c.in-Ok.others _ c.in_ok-file.ensures.whole c.in-Ok.ensures.reads.found c.in_ok-add_each-in-Ok.ensures.added
+
+pub returns-in_ok-add_each-in-Ok-clause-others : goal.returns-in_ok-add_each-in-Ok-clause-others
+returns-in_ok-add_each-in-Ok-clause-others g c = λ given fault tells is.
+    none_met OutOfMemory Read c.read.result c.in-Ok.others fault c.in-Ok.is (c.read.ensures.reads.only given (Err fault) tells is)

@@ -8,5 +8,5 @@ returns-in-Ok g c = let made = c.from_credentials-made.ensures.made _ (record { 
 
 pub returns-in-Err : goal.returns-in-Err
 returns-in-Err g c =
-    cache_read c.each_file_has_one_answer.ensures.one _ _ _ _ g.M.FromCredentials.is_of (Err c.in-Err.back.1) tt
+    cache_read c.each_file_has_one_answer.ensures.one _ _ _ _ _ (Err c.in-Err.back.1) tt
     (λ memory read. fault_told _ _ c.in-Err.back.1 c.a_source_tells_its_file.ensures (c.in-Err.ensures.fault memory read)) (search rules) (search rules)

@@ -1,16 +1,10 @@
-use Rattle.std.proofs.Common.{arith}
-use Rattle.krb_gss.specs.Wrapping.{Writes}
-use Rattle.krb_gss.proofs.WrapLaws.{writes-sized, from-nothing}
 use Rattle.krb_gss.proofs.wrapping.wrap.Goals as goal
 
-pub returns-then-len-gt-LIMIT-clause-too_long : goal.returns-then-len-gt-LIMIT-clause-too_long
-returns-then-len-gt-LIMIT-clause-too_long c e =
-    let t = c.args.token in
-    let w = from-nothing (Writes c.args.wrapping c.args.state t.id t.mechanism t.message.now) c.new-out.result c.put.new.out c.new-out.ensures c.in_ok-put.ensures in
-    omega (arith, c.if-len-gt-LIMIT.true, c.len.ensures, writes-sized c.args.wrapping c.args.state t.id t.mechanism t.message.now c.put.new.out w)
+pub returns-in-Bare-default-clause-written : goal.returns-in-Bare-default-clause-written
+returns-in-Bare-default-clause-written c = rw c.in-Bare-default.is-0 c.encoded.ensures.written
 
-pub returns-clause-fits : goal.returns-clause-fits
-returns-clause-fits c =
-    let t = c.args.token in
-    let w = from-nothing (Writes c.args.wrapping c.args.state t.id t.mechanism t.message.now) c.new-out.result c.put.new.out c.new-out.ensures c.in_ok-put.ensures in
-    omega (arith, c.if-len-gt-LIMIT.false, c.len.ensures, writes-sized c.args.wrapping c.args.state t.id t.mechanism t.message.now c.put.new.out w)
+pub returns-in-Negotiated-None-clause-written : goal.returns-in-Negotiated-None-clause-written
+returns-in-Negotiated-None-clause-written c = let r = c.in-Negotiated-None in rw (r.is-0, r.is-1) c.encoded-in-Negotiated-None.ensures.written
+
+pub returns-in-Negotiated-Some-clause-written : goal.returns-in-Negotiated-Some-clause-written
+returns-in-Negotiated-Some-clause-written c = let r = c.in-Negotiated-Some in rw (r.is-0, r.is-1) c.encoded-in-Negotiated-Some.ensures.written

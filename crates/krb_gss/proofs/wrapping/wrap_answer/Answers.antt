@@ -1,6 +1,5 @@
 use Rattle.krb_gss.specs.Answer.{message_of}
-use Rattle.krb_gss.proofs.WrapLaws.{ok-both}
-use Rattle.krb_gss.proofs.AnswerLaws.{answer-token}
+use Rattle.krb_gss.proofs.WrittenLaws.{ok-both, answer-token}
 use Rattle.krb_gss.proofs.wrapping.wrap_answer.Goals as goal
 
 pub returns-clause-answer : goal.returns-clause-answer

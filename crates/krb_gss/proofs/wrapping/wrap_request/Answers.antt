@@ -1,5 +1,4 @@
-use Rattle.krb_gss.proofs.WrapLaws.{ok-both}
-use Rattle.krb_gss.proofs.WrittenLaws.{request-token}
+use Rattle.krb_gss.proofs.WrittenLaws.{ok-both, request-token}
 use Rattle.krb_gss.proofs.wrapping.wrap_request.Goals as goal
 
 pub returns-clause-token : goal.returns-clause-token

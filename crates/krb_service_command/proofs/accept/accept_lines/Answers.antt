@@ -2,8 +2,8 @@ use Rattle.std.proofs.Common.{arith, [], ap, sym, refl, inl, inr, ◌∙◌, Err
 use Rattle.std.proofs.KnownBytes.{Consumes-nil}
 use Rattle.std.proofs.lemmas.Result.{err_from_is_err_and}
 use Rattle.krb_service_command.specs.declared.fault.ServiceFault.TheVariants.{Input}
-use Rattle.krb_file_commands.proofs.FaultLaws.{no_ok, same_fault}
-use Rattle.krb_service_command.proofs.FaultLaws.{not_input}
+use Rattle.krb_file_commands.proofs.FaultLaws.{no_ok}
+use Rattle.krb_service_command.proofs.FaultLaws.{not_input, same_fault}
 use Rattle.krb_call_lines.proofs.CallLaws.{unlike}
 use Rattle.krb_service_command.proofs.GoingLaws.{going_start}
 use Rattle.krb_service_command.proofs.EndLaws.{all_answered, last_answered, last_begun, none_begun, stop_begun, whole_answered}

@@ -1,4 +1,4 @@
-use Rattle.std.proofs.Common.{◌≡◌, List, ap, sym, ◌∙◌, subst, refl, inl, inr, Err}
+use Rattle.std.proofs.Common.{◌≡◌, ℤ, List, ap, sym, ◌∙◌, subst, refl, inl, inr, Err}
 use Rattle.std.specs.Prelude.{IsErrOf}
 use Rattle.krb_replay.specs.Memory.{later_of, IsRecent}
 use Rattle.krb_replay.specs.Stamp.{Stamp}
@@ -12,7 +12,8 @@ use Rattle.krb_ap.specs.Inner.Judging.{IsJudged, IsTurnedAway}
 use Rattle.krb_ap.specs.declared.refusal.Refusal.{Refusal}
 use Rattle.krb_ap.proofs.Truth.{is_so, is_not}
 use Rattle.krb_ap.proofs.Afterwards.{after_named, after_answer, not_memory, refusal_of}
-use Rattle.krb_ap.proofs.Standing.{after_advance, moved_on, one_stamp, stands_still}
+use Rattle.krb_ap.specs.Service.{IsPastLimit}
+use Rattle.krb_ap.proofs.Standing.{after_advance, counts_once, moved_on, one_stamp, stands_still}
 use Rattle.krb_ap.proofs.acceptor.Acceptor.decide.Goals as goal
 
 pub returns-then-is_memory-clause-goes_on : goal.returns-then-is_memory-clause-goes_on
@@ -93,3 +94,56 @@ returns-in-Err-remember-clause-goes_on g c = λ history stands. record {
   keeps = λ keeping exact stamp. (λ new. (exact stamp).0 (((rw c.judge.ensures.same at c.in-Err-remember.ensures.err) stamp).0 new), λ shown. ((rw c.judge.ensures.same at c.in-Err-remember.ensures.err) stamp).1 ((exact stamp).1 shown));
   forgets = λ forgetting named. absurd (named refl);
 }
+
+pub returns-then-is_memory-clause-full : goal.returns-then-is_memory-clause-full
+returns-then-is_memory-clause-full g c = λ history stamp stands shows fresh past. ap Err (is_so _ _ c.is_memory.ensures c.if-is_memory.true)
+
+pub returns-in-Err-clause-full : goal.returns-in-Err-clause-full
+returns-in-Err-clause-full g c = λ history stamp stands shows fresh past.
+    let named : _ = is_not _ _ c.is_memory.ensures c.if-is_memory.false in
+    let eff : c.effective-now.result ≡ effective history c.args.now = c.effective-now.ensures ∙ ap (λ l. later_of l c.args.now) stands.latest_is in
+    let turned : IsTurnedAway c.args.self.now.setup history (arrival c.args.bytes.now c.args.now) (g.M.ReplayMemory.has c.args.self.now.memory) c.in-Err.refusal =
+    c.in-Err.ensures.judged history c.args.now stands eff named in
+    absurd (fresh (turned.had stamp shows))
+
+pub returns-in-Ok-remember-clause-full : goal.returns-in-Ok-remember-clause-full
+returns-in-Ok-remember-clause-full g c = λ history stamp stands shows fresh past.
+    let eff : c.effective-now.result ≡ effective history c.args.now = c.effective-now.ensures ∙ ap (λ l. later_of l c.args.now) stands.latest_is in
+    let judged : IsJudged c.args.self.now.setup history (arrival c.args.bytes.now c.args.now) c.in-Ok.judged.tuple c.in-Ok.judged.answer =
+    c.in-Ok.ensures.judged history c.args.now stands eff in
+    let count : later_of (g.M.ReplayMemory.newest c.args.self.now.memory) c.effective-now.result ≡ later_of (g.M.ReplayMemory.newest c.args.self.now.memory) c.args.now =
+    ap (later_of (g.M.ReplayMemory.newest c.args.self.now.memory)) c.effective-now.ensures ∙ counts_once (g.M.ReplayMemory.newest c.args.self.now.memory) c.args.now in
+    let same : stamp ≡ c.in-Ok.judged.tuple =
+    one_stamp c.facts.ensures c.args.self.now.setup history c.args.bytes.now c.args.now (effective history c.args.now) c.in-Ok.judged.tuple stamp judged.shows shows in
+    let IsPast : ℤ → Stamp → Type 0 = λ at one. IsPastLimit g.M.ReplayMemory.has (g.M.ReplayMemory.limits c.args.self.now.memory) c.args.self.now at one in
+    let failed = (rw c.judge.ensures.same at c.in-Ok-remember.ensures.full)
+    (subst (λ (at : ℤ). IsPast at c.in-Ok.judged.tuple) (sym count) (subst (IsPast (later_of (g.M.ReplayMemory.newest c.args.self.now.memory) c.args.now)) same past)) in
+    absurd (cc)
+
+pub returns-in-Err-remember-clause-full : goal.returns-in-Err-remember-clause-full
+returns-in-Err-remember-clause-full g c = λ history stamp stands shows fresh past. refl
+
+pub returns-then-is_memory-clause-limit : goal.returns-then-is_memory-clause-limit
+returns-then-is_memory-clause-limit g c = rw c.judge.ensures.same (λ history stands. inl refl)
+
+pub returns-in-Err-clause-limit : goal.returns-in-Err-clause-limit
+returns-in-Err-clause-limit g c = λ history stands. inl (rw c.judge.ensures.same at c.advance.ensures.refusals)
+
+pub returns-in-Ok-remember-clause-limit : goal.returns-in-Ok-remember-clause-limit
+returns-in-Ok-remember-clause-limit g c = λ history stands. elim (rw c.judge.ensures.same at c.in-Ok-remember.ensures.refused) [
+  | inl e ↦ inl (c.advance-in-Ok-remember.ensures.refusals ∙ e)
+  | inr h ↦ (let failed = h.0 in absurd (cc))
+]
+
+pub returns-in-Err-remember-clause-limit : goal.returns-in-Err-remember-clause-limit
+returns-in-Err-remember-clause-limit g c = λ history stands.
+    let eff : c.effective-now.result ≡ effective history c.args.now = c.effective-now.ensures ∙ ap (λ l. later_of l c.args.now) stands.latest_is in
+    let judged : IsJudged c.args.self.now.setup history (arrival c.args.bytes.now c.args.now) c.in-Ok.judged.tuple c.in-Ok.judged.answer =
+    c.in-Ok.ensures.judged history c.args.now stands eff in
+    let count : later_of (g.M.ReplayMemory.newest c.args.self.now.memory) c.effective-now.result ≡ later_of (g.M.ReplayMemory.newest c.args.self.now.memory) c.args.now =
+    ap (later_of (g.M.ReplayMemory.newest c.args.self.now.memory)) c.effective-now.ensures ∙ counts_once (g.M.ReplayMemory.newest c.args.self.now.memory) c.args.now in
+    let IsPast : ℤ → Stamp → Type 0 = λ at one. IsPastLimit g.M.ReplayMemory.has (g.M.ReplayMemory.limits c.args.self.now.memory) c.args.self.now at one in
+    elim (rw c.judge.ensures.same at c.in-Err-remember.ensures.refused) [
+      | inl e ↦ inl e
+      | inr h ↦ inr (refl, (c.in-Ok.judged.tuple, (judged.shows, subst (λ (at : ℤ). IsPast at c.in-Ok.judged.tuple) count h.1)))
+    ]

@@ -1,7 +1,9 @@
-use Rattle.std.proofs.Common.{refl, sym, subst}
+use Rattle.std.proofs.Common.{◌∙◌, ℕ, refl, sym, ap, subst}
 use Rattle.std.specs.Prelude.{Ok, Err, Some, None}
+use Rattle.krb_replay.specs.Limit.{Limited}
+use Rattle.krb_replay.specs.Memory.{Memory}
 use Rattle.krb_ap.specs.Setup.{arrival}
-use Rattle.krb_c.specs.Accepting.{Decides}
+use Rattle.krb_c.specs.Accepting.{Decides, full_of, told_of}
 use Rattle.krb_c.specs.declared.accepted_state.AcceptedState.{AcceptedState}
 use Rattle.krb_c.specs.declared.service_state.ServiceState.{ServiceState}
 use Rattle.krb_c.proofs.Remembered.{is_remembered}
@@ -16,6 +18,8 @@ returns-in-Ok c = let accept = c.in-Ok.ensures in
       goes_on = accept.goes_on;
       forgets = accept.forgets refl;
       setup = accept.setup;
+      terms = refl;
+      subkey = refl;
       moves = accept.moves;
       offset = accept.offset;
       memory = accept.memory;
@@ -37,6 +41,8 @@ returns-in-Err c = let accept = c.in-Err.ensures in
       goes_on = accept.goes_on;
       forgets = accept.forgets refl;
       setup = accept.setup;
+      terms = refl;
+      subkey = refl;
       moves = accept.moves;
       offset = accept.offset;
       memory = accept.memory;
@@ -45,5 +51,7 @@ returns-in-Err c = let accept = c.in-Err.ensures in
       service = tt;
       remembered = λ history stands. tt;
       refusal = refl;
-      told_is = c.refuse.ensures.answer;
+      told_is = c.refuse.ensures.answer
+          ∙ ap (λ (before : ℕ). told_of before (full_of (record { service = record { acceptor = c.accept.new.self; terms = c.args.self.now.service.terms }; subkey_type = c.args.self.now.subkey_type; refusal = Some c.in-Err.refusal })) (Err c.in-Err.refusal))
+          (c.refused-full.ensures ∙ ap (λ (memory : Limited Memory). memory.refused) c.memory.ensures);
     }))

@@ -1,5 +1,5 @@
 use Rattle.std.proofs.Common.{◌∙◌, ap}
-use Rattle.krb_replay.proofs.SetLaws.{found, adds_nothing, once_pushed}
+use Rattle.krb_replay.proofs.SetLaws.{found, adds_nothing, once_pushed, pushed_adds, still_same}
 use Rattle.krb_replay.proofs.list.ListMemoryReplayMemory.remember.Goals as goal
 
 pub invariant_of-self : goal.invariant_of-self
@@ -13,3 +13,13 @@ returns-else-not-contains-clause-ok c =
     adds_nothing c.args.self.now.stamps c.args.tuple
     ((found c.deref.result.now c.args.self.now.stamps c.args.tuple c.contains.result c.contains.ensures.cases
     (c.deref.ensures.value ∙ ap (λ memory. memory.stamps) c.self.view_is)).0 c.if-not-contains.false)
+
+pub returns-in_ok-push-clause-ok : goal.returns-in_ok-push-clause-ok
+returns-in_ok-push-clause-ok c =
+    pushed_adds c.self.inside.tuples.items c.args.self.now.stamps c.push.new.self.items c.args.tuple
+    (ap (λ memory. memory.stamps) c.self.view_is) c.in_ok-push.ensures.items
+
+pub returns-in_err-push-clause-err : goal.returns-in_err-push-clause-err
+returns-in_err-push-clause-err c =
+    still_same c.self.inside.tuples.items c.args.self.now.stamps c.push.new.self.items c.from_residual.result
+    (ap (λ memory. memory.stamps) c.self.view_is) c.in_err-push.ensures.items

@@ -1,7 +1,38 @@
-use Rattle.std.proofs.Common.{Contains, ap, subst}
+use Rattle.std.proofs.Common.{◌≡◌, ◌-ℤ◌, ◌∙◌, ℤ, pos, Option, ap, sym, subst, arith, to_z, of_z}
+use Rattle.std.specs.Int.{w64}
+use Rattle.std.proofs.lemmas.Int.{ints}
+use Rattle.krb_replay.specs.Memory.{later_of}
+use Rattle.krb_replay.specs.Inner.Held.{IsLater, since}
+use Rattle.krb_replay.proofs.TimedLaws.{Forgets, forgotten}
 use Rattle.krb_replay.proofs.timed.TimedMemoryReplayMemory.advance.Goals as goal
 
+left : (c : goal.After-self-2-1)
+    → Forgets c.args.self.now.stamps (since (to_z w64 (of_z w64 c.later_moment-oldest.result)) c.free_some.new.held)
+    (later_of c.args.self.now.latest c.args.moment -ℤ pos c.args.skew)
+left c =
+    let at = c.micros.ensures in
+    let skew = c.micros-2.ensures.value in
+    let later = c.later-latest.ensures in
+    let latest : c.self.inside.latest ≡ c.args.self.now.latest = ap (λ memory. memory.latest) c.self.view_is in
+    let r : to_z w64 (of_z w64 c.later_moment-oldest.result) ≡ c.later_moment-oldest.result = omega (arith, ints) in
+    let o : to_z w64 (of_z w64 c.self.inside.oldest) ≡ c.self.inside.oldest = omega (arith, ints) in
+    let cut : to_z w64 (of_z w64 (to_z w64 (of_z w64 c.micros.result) -ℤ to_z w64 (of_z w64 c.micros-2.result))) ≡ c.micros.result -ℤ c.micros-2.result = omega (arith, ints) in
+    let value : c.micros.result -ℤ c.micros-2.result ≡ later_of c.args.self.now.latest c.args.moment -ℤ pos c.args.skew =
+    ap (λ (time : ℤ). time -ℤ c.micros-2.result) (at ∙ (later ∙ ap (λ (moment : Option ℤ). later_of moment c.args.moment) latest))
+    ∙ ap (λ (span : ℤ). later_of c.args.self.now.latest c.args.moment -ℤ span) skew in
+    forgotten c.self.inside.oldest (later_of c.args.self.now.latest c.args.moment -ℤ pos c.args.skew) (to_z w64 (of_z w64 c.later_moment-oldest.result))
+    c.self.inside.held c.free_some.new.held c.args.self.now.stamps
+    (subst (λ (one : ℤ). IsLater one (later_of c.args.self.now.latest c.args.moment -ℤ pos c.args.skew) (to_z w64 (of_z w64 c.later_moment-oldest.result))) o
+    (subst (λ (other : ℤ). IsLater (to_z w64 (of_z w64 c.self.inside.oldest)) other (to_z w64 (of_z w64 c.later_moment-oldest.result))) (cut ∙ value)
+    (subst (λ (result : ℤ). IsLater (to_z w64 (of_z w64 c.self.inside.oldest)) (to_z w64 (of_z w64 (to_z w64 (of_z w64 c.micros.result) -ℤ to_z w64 (of_z w64 c.micros-2.result)))) result) (sym r)
+    c.later_moment-oldest.ensures)))
+    (c.free_some.ensures ∙ c.drop_all.ensures) (ap (λ memory. memory.stamps) c.self.view_is)
+
 pub returns-clause-none_added : goal.returns-clause-none_added
-returns-clause-none_added c =
-    λ stamp there. subst (λ stamps. Contains stamps stamp) (ap (λ memory. memory.stamps) c.self.view_is)
-    (c.drop_before.ensures.none_added stamp there)
+returns-clause-none_added c = (left c).none_added
+
+pub returns-clause-kept : goal.returns-clause-kept
+returns-clause-kept c = (left c).kept
+
+pub returns-clause-forgets : goal.returns-clause-forgets
+returns-clause-forgets c = λ yes. (left c).forgets

@@ -1,0 +1,23 @@
+-- What private contracts say.
+use Rattle.std.specs.Prelude.{◌≡◌, ℕ, ℤ, List, Option, Some}
+use Rattle.krb_ap.specs.declared.reply.ReplyOptions.{ReplyOptions}
+use Rattle.krb_c.specs.Answer.{plain}
+use Rattle.krb_c.specs.Codes.{out_of_memory}
+use Rattle.krb_c.specs.Login.{IsDecided, IsDrawn, IsNotDrawn, TellsOutcome, stage_of}
+use Rattle.krb_c.specs.declared.accepted_state.AcceptedState.{AcceptedState}
+use Rattle.krb_c.specs.declared.login_state.LoginState.{LoginState}
+use Rattle.krb_c.specs.declared.service_state.ServiceState.{ServiceState}
+use Rattle.krb_c.specs.declared.structs.Answer.{Answer}
+
+-- a service decides at a moment, or memory or random bytes are lacking
+pub data AnswersMoment (state next : ServiceState) (before after : Option LoginState) (had kept : Option AcceptedState) (bytes : List ℕ) (now : ℤ)
+    (random was is : List ℕ) (answer : Answer) : Type 0 where
+  undrawn : IsNotDrawn state.subkey_type random answer → next ≡ state → after ≡ before → kept ≡ had → is ≡ was
+      → AnswersMoment state next before after had kept bytes now random was is answer
+  no_room : (confounder : List ℕ) (choice : ReplyOptions) → IsDrawn state.subkey_type random confounder choice → answer ≡ plain out_of_memory
+      → next ≡ state → after ≡ before → kept ≡ had → is ≡ was
+      → AnswersMoment state next before after had kept bytes now random was is answer
+  decided_on : (login : LoginState) (held : AcceptedState) (confounder : List ℕ) (choice : ReplyOptions)
+      → after ≡ Some login → kept ≡ Some held → IsDrawn state.subkey_type random confounder choice
+      → IsDecided state next (stage_of before) login held bytes now confounder choice → TellsOutcome login.outcome was is answer
+      → AnswersMoment state next before after had kept bytes now random was is answer

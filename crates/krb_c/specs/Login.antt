@@ -1,0 +1,216 @@
+-- A login in one call: what is decided, what is kept of it, and what is answered.
+use Rattle.std.specs.Prelude.{◌≡◌, ◌≢◌, ◌==◌, ◌⊎◌, ◌↔◌, ◌≤◌, ◌<◌, not, Bool, true, false, if◌then◌else◌, ℕ, ℤ, pos, List, [], ◌++◌, length, take, drop, Option, Some, None, option_map, Vec}
+use Rattle.std.specs.declared.alloc.Global.{Global}
+use Rattle.krb_enc.specs.Key.{IsUsable, KeyValue}
+use Rattle.krb_name.specs.Text.{text_of}
+use Rattle.krb_time.specs.Moments.{micros_of}
+use Rattle.krb_gss.specs.declared.negotiating.Negotiation.{Negotiation}
+use Rattle.krb_gss.specs.declared.negotiating.Negotiation.TheVariants.{Begun}
+use Rattle.krb_ap.specs.Setup.{Arrival}
+use Rattle.krb_ap.specs.declared.accepted.Accepted.{Accepted}
+use Rattle.krb_ap.specs.declared.reply.ReplyOptions.{ReplyOptions}
+use Rattle.krb_login.specs.Asked.{Asks, AsksNothing, AsksSomething}
+use Rattle.krb_login.specs.Login.{Call, Decides, GoesOn, GoesTo}
+use Rattle.krb_login.specs.Terms.{IsOfRealms, code_of}
+use Rattle.krb_login.specs.declared.asked.Asked.{Asked as AskedFor}
+use Rattle.krb_login.specs.declared.breach.Breach.{Breach}
+use Rattle.krb_login.specs.declared.cause.Cause.{Cause}
+use Rattle.krb_login.specs.declared.cause.Cause.TheVariants.{Token, Request, Breached, OutOfMemory}
+use Rattle.krb_login.specs.declared.decision.Decision.{Decision}
+use Rattle.krb_login.specs.declared.decision.Decision.TheVariants.{LetIn, GoOn, Refused}
+use Rattle.krb_login.specs.declared.terms.Realms.{Realms}
+use Rattle.krb_login.specs.declared.terms.Realms.TheVariants.{Any, Only}
+use Rattle.krb_c.specs.Accepting.{IsMomentOf, Stands, full_of}
+use Rattle.krb_c.specs.Answer.{Tells, plain, refused, sized}
+use Rattle.krb_c.specs.Choice.{key_value}
+use Rattle.krb_c.specs.Codes.{bad_moment, bad_random, breach_code, empty_handle, full, go_on, nothing_there, ok, out_of_memory, short_buffer}
+use Rattle.krb_c.specs.Known.{is_there, number_or_zero, span}
+use Rattle.krb_c.specs.Tokens.{token_answer}
+use Rattle.krb_c.specs.declared.accepted_state.AcceptedState.{AcceptedState}
+use Rattle.krb_c.specs.declared.login_state.LoginState.{LoginState}
+use Rattle.krb_c.specs.declared.login_state.Outcome.{Outcome}
+use Rattle.krb_c.specs.declared.service_state.ServiceState.{ServiceState}
+use Rattle.krb_c.specs.declared.structs.Answer.{Answer}
+use Rattle.krb_c.specs.declared.structs.Asked.{Asked}
+use Rattle.krb_c.specs.declared.structs.Time.{Time}
+
+-- ---- what is answered to a decision
+abbrev pub breach_answer : Breach → Answer
+breach_answer breach = record { code = breach_code breach; kerberos = code_of breach; at = 0; size = 0 }
+
+-- Memory may be lacking because a limit of the service is reached.
+abbrev pub cause_answer : Bool → Cause → Answer
+cause_answer is_full (Token fault) = token_answer fault
+cause_answer is_full (Request refusal) = refused refusal
+cause_answer is_full (Breached breach) = breach_answer breach
+cause_answer is_full OutOfMemory = if is_full then plain full else plain out_of_memory
+
+-- the answer but for how many bytes go back, what the request asked for, and the bytes
+abbrev pub outcome_of : Bool → Decision → Outcome
+outcome_of is_full (LetIn login) = record { answer = plain ok; asked = None; bytes = login.answer }
+outcome_of is_full (GoOn bytes) = record { answer = plain go_on; asked = None; bytes = Some bytes }
+outcome_of is_full (Refused it) = record { answer = cause_answer is_full it.cause; asked = it.asked; bytes = it.answer }
+
+-- what is known of a client that is let in
+abbrev pub let_in : Decision → Option Accepted
+let_in (LetIn login) = Some login.accepted
+let_in _ = None
+
+abbrev pub sent_if : Option (Vec ℕ Global) → List ℕ
+sent_if None = []
+sent_if (Some bytes) = bytes.items
+
+abbrev pub sent : Outcome → List ℕ
+sent outcome = sent_if outcome.bytes
+
+abbrev pub with_size : Answer → ℕ → Answer
+with_size answer size = record { code = answer.code; kerberos = answer.kerberos; at = answer.at; size = size }
+
+-- The bytes that go back are at the start of the buffer, and the answer is the outcome's; or the buffer
+-- is too short.
+pub record HandsOutcome (outcome : Outcome) (old new : List ℕ) (answer : Answer) : Type 0 where
+  pub fits : length (sent outcome) ≤ length old
+      → (answer ≡ with_size outcome.answer (length (sent outcome))) × (new ≡ sent outcome ++ drop (length (sent outcome)) old)
+  pub short : length old < length (sent outcome) → (answer ≡ sized short_buffer (length (sent outcome))) × (new ≡ old)
+
+abbrev pub TellsOutcome : Option Outcome → List ℕ → List ℕ → Answer → Type 0
+TellsOutcome None old new answer = (answer ≡ plain nothing_there) × (new ≡ old)
+TellsOutcome (Some outcome) old new answer = HandsOutcome outcome old new answer
+
+-- ---- random bytes
+-- Those after the confounder are the subkey, if replies send one.
+abbrev pub IsSubkey : ℕ → List ℕ → Option KeyValue → Type 0
+IsSubkey etype bytes None = (etype ≡ 0) × (bytes ≡ [])
+IsSubkey etype bytes (Some key) = (etype ≢ 0) × ((key ≡ key_value (pos etype) bytes) × IsUsable key)
+
+pub record IsDrawn (etype : ℕ) (random confounder : List ℕ) (choice : ReplyOptions) : Type 0 where
+  pub enough : 16 ≤ length random
+  pub confounder_is : confounder ≡ take 16 random
+  pub subkey : IsSubkey etype (drop 16 random) choice.subkey
+  pub seq : choice.seq ≡ None
+
+abbrev pub IsNotDrawn : ℕ → List ℕ → Answer → Type 0
+IsNotDrawn etype random answer =
+    ((length random < 16) ⊎ ((subkey : Option KeyValue) → ¬ IsSubkey etype (drop 16 random) subkey)) × (answer ≡ plain bad_random)
+
+-- ---- the decision
+abbrev pub call_by : ServiceState → List Arrival → Negotiation → List ℕ → ℤ → List ℕ → ReplyOptions → Call
+call_by state history negotiation bytes now confounder choice = record {
+  terms = state.service.terms;
+  setup = state.service.acceptor.setup;
+  history = history;
+  negotiation = negotiation;
+  bytes = bytes;
+  now = now;
+  confounder = confounder;
+  choice = choice;
+}
+
+-- A client is let in, asked for its next token or refused, as the service of krb_login does it, and that
+-- is kept. Of a client that isn't let in nothing is kept.
+pub record IsDecided (old new : ServiceState) (before : Negotiation) (after : LoginState) (kept : AcceptedState) (bytes : List ℕ) (now : ℤ)
+    (confounder : List ℕ) (choice : ReplyOptions) : Type 0 where
+  pub decision : Decision
+  pub decides : (history : List Arrival) → Stands old history → Decides (call_by old history before bytes now confounder choice) decision
+  pub goes_on : (history : List Arrival) → Stands old history → GoesOn (Stands new) (call_by old history before bytes now confounder choice) decision
+  pub setup : new.service.acceptor.setup ≡ old.service.acceptor.setup
+  pub terms : new.service.terms ≡ old.service.terms
+  pub subkey : new.subkey_type ≡ old.subkey_type
+  pub refusal : new.refusal ≡ old.refusal
+  pub negotiation : GoesTo bytes decision after.negotiation
+  pub outcome : after.outcome ≡ Some (outcome_of (not (full_of new == full_of old)) decision)
+  pub kept_is : kept.accepted ≡ let_in decision
+
+-- ---- the call
+-- how far a login is
+abbrev pub stage_of : Option LoginState → Negotiation
+stage_of None = Begun
+stage_of (Some state) = state.negotiation
+
+abbrev pub outcome_in : Option LoginState → Option Outcome
+outcome_in None = None
+outcome_in (Some state) = state.outcome
+
+-- what was decided is no longer kept
+abbrev pub undecided : LoginState → LoginState
+undecided state = record { negotiation = state.negotiation; outcome = None }
+
+-- nothing is decided: the first that applies
+abbrev pub IsUndecided : Option ServiceState → Time → List ℕ → Answer → Type 0
+IsUndecided None time random answer = ((¬ IsMomentOf time) × (answer ≡ plain bad_moment)) ⊎ (IsMomentOf time × (answer ≡ plain empty_handle))
+IsUndecided (Some state) time random answer =
+    ((¬ IsMomentOf time) × (answer ≡ plain bad_moment))
+    ⊎ (IsMomentOf time × (IsNotDrawn state.subkey_type random answer
+    ⊎ (((confounder : List ℕ) × ((choice : ReplyOptions) × IsDrawn state.subkey_type random confounder choice)) × (answer ≡ plain out_of_memory))))
+
+-- A service that takes the bytes of a client decides, and the answer is the decision's; or it decides
+-- nothing, and then it is unchanged, and so is the negotiation. Of an earlier call nothing is kept.
+pub data AnswersLogin (old new : Option ServiceState) (before after : Option LoginState) (kept : Option AcceptedState) (bytes : List ℕ) (time : Time)
+    (random was is : List ℕ) (answer : Answer) : Type 0 where
+  nothing : IsUndecided old time random answer → new ≡ old → stage_of after ≡ stage_of before → outcome_in after ≡ None → kept ≡ None → is ≡ was
+      → AnswersLogin old new before after kept bytes time random was is answer
+  decided : (state next : ServiceState) (login : LoginState) (held : AcceptedState) (confounder : List ℕ) (choice : ReplyOptions)
+      → old ≡ Some state → new ≡ Some next → after ≡ Some login → kept ≡ Some held → IsMomentOf time
+      → IsDrawn state.subkey_type random confounder choice
+      → IsDecided state next (stage_of before) login held bytes (micros_of time.seconds time.micros) confounder choice
+      → TellsOutcome login.outcome was is answer
+      → AnswersLogin old new before after kept bytes time random was is answer
+
+-- ---- what a request asks for
+abbrev pub asked_of : AskedFor → Asked
+asked_of x = record {
+  service = span [] (text_of x.service);
+  etype = x.etype;
+  kvno = number_or_zero x.kvno;
+  service_type = x.service.name_type;
+  has_kvno = is_there x.kvno;
+  wants_reply = x.wants_reply;
+}
+
+-- it is returned, or memory is lacking
+abbrev pub TellsAsked : AskedFor → Asked → Asked → List ℕ → List ℕ → Answer → Type 0
+TellsAsked x was is old new answer = Tells (text_of x.service) (asked_of x) was is old new answer
+
+-- of what was refused, if it is known
+abbrev pub asked_if : Option Outcome → Option AskedFor
+asked_if None = None
+asked_if (Some outcome) = outcome.asked
+
+abbrev pub asked_in : LoginState → Option AskedFor
+asked_in state = asked_if state.outcome
+
+abbrev pub TellsAskedIf : Option AskedFor → Asked → Asked → List ℕ → List ℕ → Answer → Type 0
+TellsAskedIf None was is old new answer = (answer ≡ plain nothing_there) × ((is ≡ was) × (new ≡ old))
+TellsAskedIf (Some x) was is old new answer = TellsAsked x was is old new answer
+
+-- of the bytes of a request
+pub data ReadsAsked (bytes : List ℕ) (was is : Asked) (old new : List ℕ) (answer : Answer) : Type 0 where
+  asks : (x : AskedFor) → Asks bytes x → TellsAsked x was is old new answer → ReadsAsked bytes was is old new answer
+  asks_nothing : AsksNothing bytes → answer ≡ plain nothing_there → is ≡ was → new ≡ old → ReadsAsked bytes was is old new answer
+  no_memory : AsksSomething bytes → answer ≡ plain out_of_memory → is ≡ was → new ≡ old → ReadsAsked bytes was is old new answer
+
+-- ---- the realms whose clients are let in
+abbrev pub IsListed : Realms → List ℕ → Type 0
+IsListed Any realm = ⊥
+IsListed (Only realms) realm = IsOfRealms (Only realms) realm
+
+-- only the realms are others
+abbrev pub with_realms : ServiceState → Realms → ServiceState
+with_realms state realms = record {
+  service = record {
+    acceptor = state.service.acceptor;
+    terms = record { anonymous = state.service.terms.anonymous; realms = realms; bindings = state.service.terms.bindings };
+  };
+  subkey_type = state.subkey_type;
+  refusal = state.refusal;
+}
+
+-- A realm is added to those of the list, which begins without any; or memory is lacking, and the same
+-- are let in as before.
+pub data AddsRealm (realm : List ℕ) (old new : ServiceState) (answer : Answer) : Type 0 where
+  added : (realms : Realms) → new ≡ with_realms old realms
+      → ((other : List ℕ) → IsOfRealms realms other ↔ ((other ≡ realm) ⊎ IsListed old.service.terms.realms other))
+      → answer ≡ plain ok → AddsRealm realm old new answer
+  unadded : (realms : Realms) → new ≡ with_realms old realms
+      → ((other : List ℕ) → IsOfRealms realms other ↔ IsOfRealms old.service.terms.realms other)
+      → answer ≡ plain out_of_memory → AddsRealm realm old new answer

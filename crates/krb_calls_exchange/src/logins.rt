@@ -1,0 +1,133 @@
+//! Calls of a service that answers a client's tokens.
+
+use crate::names::{moment, show_name};
+use krb_ap::{Acceptor, ReplyOptions};
+use krb_gss::Negotiation;
+use krb_keytab::Keytab;
+use krb_login::{Asked, Bindings, Cause, Decision, Given, Realms, Refused, Service, Terms};
+use krb_name::Bytes;
+use krb_replay::{Skew, TimedMemory};
+use krb_words::{Answer, Words};
+
+/// A service, and how far the negotiation with its client is.
+#[derive(Drop)]
+pub(crate) struct Logins {
+    service: Service<TimedMemory>,
+    negotiation: Negotiation,
+}
+
+/// Makes a service with a skew of 300 s: its keytab, whether a client may be anonymous, a realm or `any`, and how the
+/// channel bindings are looked at.
+pub(crate) fn start(words: &mut Words, out: &mut Answer) -> Option<Logins> {
+    let keytab = Keytab::parse(words.alloc, &words.bytes()?).ok()?;
+    let acceptor = Acceptor::new(keytab, Skew::new(300)?, TimedMemory::new(words.alloc));
+    let terms = Terms {
+        anonymous: words.next()? == "anonymous",
+        realms: realms(words)?,
+        bindings: bindings(words)?,
+    };
+    out.word("logins")?;
+    Some(Logins {
+        service: Service { acceptor, terms },
+        negotiation: Negotiation::Begun,
+    })
+}
+
+fn realms(words: &mut Words) -> Option<Realms> {
+    match words.next()? {
+        "any" => Some(Realms::Any),
+        realm => {
+            let realm = Bytes::from_slice(words.alloc, realm.as_bytes()).ok()?;
+            Some(Realms::Only(vec![in words.alloc; realm].ok()?))
+        }
+    }
+}
+
+fn bindings(words: &mut Words) -> Option<Bindings> {
+    match words.next()? {
+        "ignored" => Some(Bindings::Ignored),
+        "sent" => Some(Bindings::IfSent(hash(words)?)),
+        _ => Some(Bindings::Required(hash(words)?)),
+    }
+}
+
+fn hash(words: &mut Words) -> Option<[u8; 16]> {
+    let bytes = words.bytes()?;
+    bytes.as_slice().first_chunk::<16>().copied()
+}
+
+/// Answers the bytes of a client at a moment: with `first`, they begin a negotiation.
+pub(crate) fn answer(
+    logins: &mut Logins,
+    first: &str,
+    words: &mut Words,
+    out: &mut Answer,
+) -> Option<()> {
+    if first == "login" {
+        logins.negotiation = Negotiation::Begun;
+    }
+    let now = moment(words)?;
+    let bytes = words.bytes()?;
+    let given = Given {
+        bytes: &bytes,
+        now,
+        confounder: &CONFOUNDER,
+        choice: ReplyOptions {
+            subkey: None,
+            seq: None,
+        },
+    };
+    let decision = logins
+        .service
+        .answer(words.alloc, &mut logins.negotiation, given);
+    show(&decision, out)
+}
+
+/// That of the fixture's reply.
+const CONFOUNDER: [u8; 16] = [
+    0x30, 0x31, 0x32, 0x33, 0x34, 0x35, 0x36, 0x37, 0x38, 0x39, 0x3a, 0x3b, 0x3c, 0x3d, 0x3e, 0x3f,
+];
+
+fn show(decision: &Decision, out: &mut Answer) -> Option<()> {
+    match decision {
+        Decision::LetIn(login) => {
+            out.word("in")?;
+            show_name(&login.accepted.client, out)?;
+            show_sent(&login.answer, out)
+        }
+        Decision::GoOn(bytes) => {
+            out.word("on")?;
+            out.bytes(bytes)
+        }
+        Decision::Refused(refused) => show_refused(refused, out),
+    }
+}
+
+fn show_refused(refused: &Refused, out: &mut Answer) -> Option<()> {
+    out.word("refused")?;
+    match refused.cause {
+        Cause::Token(fault) => out.shown(fault)?,
+        Cause::Request(refusal) => out.word(refusal.name())?,
+        Cause::Breached(breach) => out.word(breach.name())?,
+        Cause::OutOfMemory => out.word("OutOfMemory")?,
+    }
+    show_asked(&refused.asked, out)?;
+    show_sent(&refused.answer, out)
+}
+
+fn show_asked(asked: &Option<Asked>, out: &mut Answer) -> Option<()> {
+    let Some(asked) = asked else {
+        return out.word("unread");
+    };
+    show_name(&asked.service, out)?;
+    out.shown(asked.etype)?;
+    out.shown_or_none(asked.kvno)?;
+    out.truth(asked.wants_reply)
+}
+
+fn show_sent(sent: &Option<Vec<u8>>, out: &mut Answer) -> Option<()> {
+    match sent {
+        Some(bytes) => out.bytes(bytes),
+        None => out.word("nothing"),
+    }
+}

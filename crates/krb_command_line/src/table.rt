@@ -1,0 +1,268 @@
+// Made from commands.toml by `make generate`. Don't edit this file.
+
+//! The commands, with their operands and options, and what help says of them.
+
+use crate::arguments::Argument;
+use crate::arguments::Kind::{Defaulted, Flag, Free, Needed, Operand, With};
+use crate::commands::Row;
+
+pub(crate) const ABOUT: &str = "Kerberos 5 keytabs, credential caches and AP exchange";
+
+pub(crate) const VERSION: &str = "0.1.0";
+
+const KEYTAB_FILE: Argument<'static> = Argument {
+    name: "FILE",
+    kind: Operand,
+    greatest: None,
+    help: "The keytab",
+};
+
+const CCACHE: Argument<'static> = Argument {
+    name: "FILE",
+    kind: Operand,
+    greatest: None,
+    help: "The credential cache",
+};
+
+const KEYTAB: Argument<'static> = Argument {
+    name: "KEYTAB",
+    kind: Operand,
+    greatest: None,
+    help: "The keytab",
+};
+
+const SERVICE_KEYTAB: Argument<'static> = Argument {
+    name: "KEYTAB",
+    kind: Operand,
+    greatest: None,
+    help: "The service's keytab",
+};
+
+const FROM: Argument<'static> = Argument {
+    name: "FROM",
+    kind: Operand,
+    greatest: None,
+    help: "The keytab whose keys are added",
+};
+
+const CONVERTED: Argument<'static> = Argument {
+    name: "OUT",
+    kind: Operand,
+    greatest: None,
+    help: "The file to write. Without --replace it is emptied before FILE is read, so it must not be FILE; a new file has mode 0600",
+};
+
+const SERVICE: Argument<'static> = Argument {
+    name: "SERVICE",
+    kind: Operand,
+    greatest: None,
+    help: "The service's name, such as host/web@EXAMPLE.COM",
+};
+
+const NAME: Argument<'static> = Argument {
+    name: "NAME",
+    kind: Operand,
+    greatest: None,
+    help: "The service's name, such as host/web@EXAMPLE.COM",
+};
+
+const ETYPE: Argument<'static> = Argument {
+    name: "ETYPE",
+    kind: Operand,
+    greatest: Some(2_147_483_647),
+    help: "The number of the encryption type that the ticket is sealed with: 19 or 20",
+};
+
+const INDEX: Argument<'static> = Argument {
+    name: "INDEX",
+    kind: Operand,
+    greatest: Some(4_294_967_295),
+    help: "Which entry to remove, in the order of list-keytab: 0 is the first",
+};
+
+const NOW: Argument<'static> = Argument {
+    name: "now",
+    kind: With("readable"),
+    greatest: Some(253_402_300_799),
+    help: "Marks the tickets that ended before this time, in seconds since 1970-01-01: 0 to 253402300799. Needs --readable",
+};
+
+const TIME: Argument<'static> = Argument {
+    name: "time",
+    kind: Needed,
+    greatest: Some(253_402_300_799),
+    help: "The request's time by the client's clock, in seconds since 1970-01-01: 0 to 253402300799",
+};
+
+const USEC: Argument<'static> = Argument {
+    name: "usec",
+    kind: Needed,
+    greatest: Some(999_999),
+    help: "The microseconds of that second: 0 to 999999",
+};
+
+const CONFOUNDER: Argument<'static> = Argument {
+    name: "confounder",
+    kind: Needed,
+    greatest: None,
+    help: "16 random bytes, new for each request, as 32 hexadecimal digits",
+};
+
+const REPLY: Argument<'static> = Argument {
+    name: "reply",
+    kind: Needed,
+    greatest: None,
+    help: "The service's reply, in hexadecimal",
+};
+
+const SKEW: Argument<'static> = Argument {
+    name: "skew",
+    kind: Defaulted("300"),
+    greatest: Some(86_400),
+    help: "By how many seconds clocks may differ: 0 to 86400",
+};
+
+const KVNO: Argument<'static> = Argument {
+    name: "kvno",
+    kind: Free,
+    greatest: Some(4_294_967_295),
+    help: "The version number of the key that the ticket is sealed with (0 to 4294967295); the highest one if left out",
+};
+
+const OUT: Argument<'static> = Argument {
+    name: "out",
+    kind: Free,
+    greatest: None,
+    help: "The file to write, in place of KEYTAB; a new file has mode 0600",
+};
+
+const TOKEN: Argument<'static> = Argument {
+    name: "token",
+    kind: Free,
+    greatest: None,
+    help: "Prints a token that holds the request: gss or spnego",
+};
+
+const STARTED: Argument<'static> = Argument {
+    name: "started",
+    kind: Free,
+    greatest: Some(253_402_300_799),
+    help: "When the service was started again, in seconds since 1970-01-01 (0 to 253402300799), rounded up. Requests are refused as 'JustStarted' until its clock and the client's are both later than this by more than the skew. Omit it only if every key in the keytab is new: otherwise recorded logins can be replayed",
+};
+
+const ERRORS: Argument<'static> = Argument {
+    name: "service",
+    kind: Free,
+    greatest: None,
+    help: "The service's name for the KRB-ERRORs that answer refused requests; without it, none are printed. It doesn't affect which requests are accepted (see --only)",
+};
+
+const ONLY: Argument<'static> = Argument {
+    name: "only",
+    kind: Free,
+    greatest: None,
+    help: "The one name for which requests are accepted; those for other names of the keytab are refused as 'NotUs'",
+};
+
+const READABLE: Argument<'static> = Argument {
+    name: "readable",
+    kind: Flag,
+    greatest: None,
+    help: "Prints a table for people, with names in place of numbers and times in UTC",
+};
+
+const WANTS_REPLY: Argument<'static> = Argument {
+    name: "mutual",
+    kind: Flag,
+    greatest: None,
+    help: "Asks the service for a reply",
+};
+
+const REPLACE: Argument<'static> = Argument {
+    name: "replace",
+    kind: Flag,
+    greatest: None,
+    help: "Writes a new file, and renames it to OUT once it is whole: OUT may be FILE, and stays as it was if the command fails",
+};
+
+const TOKENS: Argument<'static> = Argument {
+    name: "tokens",
+    kind: Flag,
+    greatest: None,
+    help: "Takes tokens of GSS-API or SPNEGO in place of requests, and answers with tokens",
+};
+
+pub(crate) static COMMANDS: [Row<'static>; 12] = [
+    Row {
+        name: "list-keytab",
+        about: "Lists a keytab: key version number, encryption type, timestamp and principal of each entry",
+        arguments: &[READABLE, KEYTAB_FILE],
+        end: "Prints a line for each entry, in file order: 'KVNO ENCTYPE TIMESTAMP PRINCIPAL'. The timestamp is in seconds since 1970-01-01. With --readable, a row names the columns, and then each entry has a row.\n\nExit status: 0 success; 1 the file is faulty; 2 the command line is wrong; 3 a file or standard stream can't be opened, read or written, or memory ran out",
+    },
+    Row {
+        name: "list-ccache",
+        about: "Lists a credential cache: its principal, clock offset, configuration entries and tickets",
+        arguments: &[READABLE, NOW, CCACHE],
+        end: "Prints these lines, tickets and configuration entries in file order:\n  default PRINCIPAL\n  offset SECONDS MICROSECONDS\n  config PRINCIPAL\n  ticket ENCTYPE AUTHTIME STARTTIME ENDTIME RENEW-TILL FLAGS CLIENT SERVER\nThe encryption type is that of the session key. Times are in seconds since 1970-01-01, 0 if absent; flags are 8 hexadecimal digits. With --readable, flags are the letters of MIT krb5's klist, '-' stands for a time or flags that a ticket doesn't have, and a ticket that ended before --now is 'expired'.\n\nExit status: 0 success; 1 the file is faulty; 2 the command line is wrong; 3 a file or standard stream can't be opened, read or written, or memory ran out",
+    },
+    Row {
+        name: "check-keytab",
+        about: "Checks a keytab, and prints how many entries it has, or where the fault is",
+        arguments: &[KEYTAB_FILE],
+        end: "Prints 'ok COUNT', or on standard error the fault, with its offset in bytes if it has one.\n\nExit status: 0 success; 1 the file is faulty; 2 the command line is wrong; 3 a file or standard stream can't be opened, read or written, or memory ran out",
+    },
+    Row {
+        name: "check-ccache",
+        about: "Checks a credential cache, and prints how many credentials it has, or where the fault is",
+        arguments: &[CCACHE],
+        end: "Prints 'ok COUNT', or on standard error the fault, with its offset in bytes if it has one.\n\nExit status: 0 success; 1 the file is faulty; 2 the command line is wrong; 3 a file or standard stream can't be opened, read or written, or memory ran out",
+    },
+    Row {
+        name: "convert-keytab",
+        about: "Writes a copy of a keytab, without the holes that removed entries left, and without what follows a record length of 0",
+        arguments: &[KEYTAB_FILE, CONVERTED, REPLACE],
+        end: "Prints 'wrote COUNT', the number of bytes.\n\nExit status: 0 success; 1 the file is faulty; 2 the command line is wrong; 3 a file or standard stream can't be opened, read or written, or memory ran out",
+    },
+    Row {
+        name: "convert-ccache",
+        about: "Writes a copy of a credential cache, in version 0x0504",
+        arguments: &[CCACHE, CONVERTED, REPLACE],
+        end: "Prints 'wrote COUNT', the number of bytes.\n\nExit status: 0 success; 1 the file is faulty; 2 the command line is wrong; 3 a file or standard stream can't be opened, read or written, or memory ran out",
+    },
+    Row {
+        name: "request",
+        about: "Builds a request for a service with a ticket of a credential cache, and prints it in hexadecimal",
+        arguments: &[CCACHE, SERVICE, TIME, USEC, CONFOUNDER, WANTS_REPLY, TOKEN],
+        end: "Prints one line of hexadecimal digits. Never use a moment (--time and --usec) twice for the same client and service, even with another ticket.\n\nExit status: 0 success; 1 the file is faulty, or no request can be built; 2 the command line is wrong; 3 a file or standard stream can't be opened, read or written, or memory ran out",
+    },
+    Row {
+        name: "accept",
+        about: "Acts as a service: reads lines SECONDS MICROS HEX [CONFOUNDER] and says for each whether the request is accepted",
+        arguments: &[SERVICE_KEYTAB, SKEW, STARTED, ERRORS, ONLY, TOKENS],
+        end: "A line of standard input has the service's clock (seconds since 1970-01-01, and microseconds), the request in hexadecimal ('-' for no bytes), and, if you want replies, a confounder: 16 random bytes as 32 hexadecimal digits. Its answer is one of these lines:\n  accepted CLIENT ENCTYPE SECONDS MICROS plain|mutual [reply HEX]\n  refused CODE NAME [error HEX]\n  refused none OutOfMemory\n  bad token FAULT at OFFSET (with --tokens)\n  bad line\nEach run remembers only its own requests.\n\nExit status: 0 success; 1 the keytab is faulty, a request is refused, or a token or a line is bad; 2 the command line is wrong; 3 a file or standard stream can't be opened, read or written, or memory ran out",
+    },
+    Row {
+        name: "finish",
+        about: "Reads the reply to a request that was built with a credential cache, and says what client and service agree on",
+        arguments: &[CCACHE, SERVICE, TIME, USEC, REPLY],
+        end: "The request must have been built with --mutual, and with the same cache, service and moment. Prints one line: 'agreed CLIENT ENCTYPE [seq N] [subkey ENCTYPE]', the encryption types of the session key and of the service's key.\n\nExit status: 0 success; 1 the file is faulty, no request can be built, or the reply is refused; 2 the command line is wrong; 3 a file or standard stream can't be opened, read or written, or memory ran out",
+    },
+    Row {
+        name: "pick-key",
+        about: "Prints the entry of a keytab whose key would open a ticket",
+        arguments: &[KEYTAB, NAME, ETYPE, KVNO],
+        end: "Prints the entry's line: 'KVNO ENCTYPE TIMESTAMP PRINCIPAL'. If no entry is picked, the fault says why: NoName, NoKey or NoVersion.\n\nExit status: 0 success; 1 the file is faulty, or no entry is picked; 2 the command line is wrong; 3 a file or standard stream can't be opened, read or written, or memory ran out",
+    },
+    Row {
+        name: "remove-key",
+        about: "Removes an entry from a keytab, and leaves a hole in its place",
+        arguments: &[KEYTAB, INDEX, OUT],
+        end: "Prints 'wrote COUNT', the number of bytes. The hole has only zero bytes, and all other bytes stay the same. If there is no such entry, the fault is NoSuchEntry.\n\nExit status: 0 success; 1 the file is faulty, or has no such entry; 2 the command line is wrong; 3 a file or standard stream can't be opened, read or written, or memory ran out",
+    },
+    Row {
+        name: "add-keys",
+        about: "Adds to a keytab the keys of another that it doesn't have yet",
+        arguments: &[KEYTAB, FROM, OUT],
+        end: "Prints 'wrote COUNT', the number of bytes. A key of FROM is left out if KEYTAB has its name, encryption type, version number and bytes already. Each other key goes into the first hole that is long enough; if there is none, it comes last.\n\nExit status: 0 success; 1 one of the files is faulty; 2 the command line is wrong; 3 a file or standard stream can't be opened, read or written, or memory ran out",
+    },
+];

@@ -1,0 +1,7 @@
+pub mod HeaderLaws
+pub mod Windows
+pub mod Parts
+pub mod Mics
+pub mod Wraps
+pub mod Unwraps
+pub mod Rotations

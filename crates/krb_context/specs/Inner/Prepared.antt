@@ -1,0 +1,14 @@
+-- The keys that a direction holds.
+use Rattle.std.specs.Prelude.{◌≡◌, Bool}
+use Rattle.krb_enc.specs.Key.{KeyValue, UsageKeyValue}
+use Rattle.krb_context.specs.Side.{Sender, sign_usage, seal_usage}
+use Rattle.krb_context.specs.declared.role.Role.{Role}
+
+abbrev pub sender_of : KeyValue → Role → Bool → Sender
+sender_of key side subkey = record { key = key; side = side; acceptor_subkey = subkey }
+
+-- they are of one key, for the usages of this side
+pub record IsPrepared (side : Role) (mics checksums sealing : UsageKeyValue) : Type 0 where
+  pub mics_are : mics ≡ record { key = sealing.key; usage = sign_usage side }
+  pub checksums_are : checksums ≡ record { key = sealing.key; usage = seal_usage side }
+  pub sealing_is : sealing.usage ≡ seal_usage side

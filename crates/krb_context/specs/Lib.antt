@@ -1,0 +1,6 @@
+pub mod Side
+pub mod Mic
+pub mod Wrap
+pub mod Faults
+pub mod Sequence
+pub mod Inner

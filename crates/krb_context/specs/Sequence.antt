@@ -1,0 +1,39 @@
+-- The order of the tokens that one side takes (RFC 2743, section 1.2.3). Numbers are those of RFC 4121, section 4.2.6: below 2 ^ 64.
+use Rattle.std.specs.Prelude.{◌≡◌, ◌≤◌, ◌<◌, ◌+◌, ◌%◌, ℕ, List, [], ◌∷◌, Contains, Option, None, Some, slice_index_or, max}
+use Rattle.krb_context.specs.declared.order.Order.{Order}
+use Rattle.krb_context.specs.declared.order.Order.TheVariants.{Next, AfterGap, Late, Repeat, Old}
+
+-- the number that is awaited: the first one, or one more than the greatest that was taken
+abbrev pub next_of : ℕ → List ℕ → ℕ
+next_of first [] = first
+next_of first (number ∷ taken) = max (number + 1) (next_of first taken)
+
+-- among the 64 numbers before the one that is awaited, and none before the first
+pub record IsRecent (first next number : ℕ) : Type 0 where
+  pub from_first : first ≤ number
+  pub before : number < next
+  pub near : next ≤ number + 64
+
+-- how a number stands to those that were taken
+abbrev pub IsOrder : ℕ → List ℕ → ℕ → Order → Type 0
+IsOrder first taken number Next = number ≡ next_of first taken
+IsOrder first taken number AfterGap = next_of first taken < number
+IsOrder first taken number Repeat = IsRecent first (next_of first taken) number × Contains taken number
+IsOrder first taken number Late = IsRecent first (next_of first taken) number × ¬ Contains taken number
+IsOrder first taken number Old = (number < next_of first taken) × ¬ IsRecent first (next_of first taken) number
+
+-- what a window keeps: the first number, the one that is awaited, and for each remainder of 64 the last number that was taken
+pub record Recent : Type 0 where
+  pub first : ℕ
+  pub next : ℕ
+  pub slots : List (Option ℕ)
+
+abbrev pub has : Recent → ℕ → Type 0
+has window number = slice_index_or window.slots (number % 64) None ≡ Some number
+
+-- the window stands for these numbers, taken after `first`
+pub record Stands (window : Recent) (first : ℕ) (taken : List ℕ) : Type 0 where
+  pub first_is : window.first ≡ first
+  pub next_is : window.next ≡ next_of first taken
+  pub only : (number : ℕ) → has window number → Contains taken number
+  pub all : (number : ℕ) → IsRecent first window.next number → Contains taken number → has window number

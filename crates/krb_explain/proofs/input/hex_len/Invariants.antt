@@ -1,0 +1,10 @@
+use Rattle.std.proofs.Common.{◌≡◌, ◌+◌, drop}
+use Rattle.std.specs.List.{prefix_len}
+use Rattle.std.specs.Char.{is_ascii_hexdigit}
+use Rattle.krb_explain.proofs.input.hex_len.Given as goal
+
+abbrev pub invariant-loop-byte : goal.invariant-loop-byte
+invariant-loop-byte l = record {
+  count : l.len ≡ l.byte-index;
+  left : prefix_len is_ascii_hexdigit l.symbols ≡ l.len + prefix_len is_ascii_hexdigit (drop l.byte-index l.symbols);
+}

@@ -1,0 +1,3 @@
+-- Words that only private contracts cite.
+pub mod Tables
+pub mod Borrowed

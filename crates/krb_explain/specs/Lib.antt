@@ -1,0 +1,11 @@
+pub mod Page
+pub mod Named
+pub mod Registry
+pub mod Date
+pub mod Parts
+pub mod Faults
+pub mod Layer
+pub mod Message
+pub mod Explained
+pub mod Input
+pub mod Inner

@@ -1,0 +1,55 @@
+//! The page that explains bytes.
+
+ghost use Rattle.std.specs.Prelude.{◌≡◌, IfOk, string_bytes};
+ghost use Rattle.std.specs.Option.{option_map};
+ghost use Rattle.krb_explain.specs.Explained.{Explains, ExplainsCarried, IsExplanation, size_line};
+ghost use Rattle.krb_explain.specs.Inner.Borrowed.{message_in};
+
+use crate::form::Form;
+use crate::layer::Layer;
+use crate::layer_lines::layer_lines;
+use crate::line::{Line, listed, page};
+use crate::message::message_lines;
+use std::alloc::{AllocError, Global};
+
+/// Explains bytes without any key: a message `AP-REQ`, `AP-REP` or `KRB-ERROR` (RFC 4120, sections 5.5 and 5.9), a token that
+/// holds one (GSS-API, RFC 4121, section 4.1; SPNEGO, RFC 4178, section 4.2), or what a service says in a negotiation.
+///
+/// The page has a line for the size, for each layer around a message and for each thing that can be read in it, each with a line
+/// feed after it. Of sealed parts it has the encryption type, the version number of the key and the size. If the bytes are none of
+/// these, it says at which byte they aren't, and why. `specs/Explained` says which lines there are.
+///
+/// # Errors
+/// `AllocError` if there is no memory for the page.
+pub fn explain(alloc: Global, bytes: &[u8]) -> Result<String, AllocError>
+    ensures { IfOk result (λ text. IsExplanation bytes.now (string_bytes text)) }
+{
+    let lines = explained(alloc, bytes)?;
+    page(alloc, lines.as_slice())
+}
+
+fn explained(alloc: Global, bytes: &[u8]) -> Result<Vec<Line>, AllocError>
+    ensures { IfOk result (λ lines. Explains bytes.now lines.items) }
+{
+    let layer = Layer::of(bytes);
+    let mut lines = listed(alloc, [size_line(alloc, bytes.len())?])?;
+    lines.append(&mut layer_lines(alloc, &layer)?)?;
+    lines.append(&mut carried_lines(alloc, layer.carried())?)?;
+    Ok(lines)
+}
+
+fn size_line(alloc: Global, size: usize) -> Result<Line, AllocError>
+    ensures { IfOk result (λ line. line ≡ size_line size) }
+{
+    Ok(Line::new(format!(in alloc; "size: {size} bytes")?))
+}
+
+// The lines of the message inside, if there is one.
+fn carried_lines(alloc: Global, carried: Option<(Form, &[u8])>) -> Result<Vec<Line>, AllocError>
+    ensures { IfOk result (λ lines. ExplainsCarried (option_map message_in carried.entry) lines.items) }
+{
+    match carried {
+        Some((form, bytes)) => message_lines(alloc, form, bytes),
+        None => Ok(Vec::new(alloc)),
+    }
+}

@@ -1,0 +1,4 @@
+pub mod LoginLaws
+pub mod Following
+pub mod Written
+pub mod Completed

@@ -1,0 +1,6 @@
+pub mod Terms
+pub mod Asked
+pub mod Carrying
+pub mod Login
+pub mod Laws
+pub mod Inner

@@ -1,0 +1,52 @@
+//! What a request asks for, as anyone can read it.
+
+ghost use Rattle.std.specs.Prelude.{IfOk, OnErr};
+ghost use Rattle.std.specs.Option.{MatchOption};
+ghost use Rattle.krb_login.specs.Asked.{Asks, AsksNothing, AsksSomething, IsAsked};
+ghost use Rattle.krb_msg.specs.Borrowed.{ap_req_of};
+
+use krb_msg::{ApReqRef, MUTUAL_REQUIRED, Principal};
+use std::alloc::{AllocError, Global};
+
+/// What a request asks for. Nothing of this is sealed, so it is fit for a log, and proves nothing.
+#[derive(Debug, Drop)]
+pub struct Asked {
+    /// The service that the ticket is for.
+    pub service: Principal,
+    /// The encryption type that the ticket is sealed with.
+    pub etype: i32,
+    /// The version number of the key that the ticket is sealed with, if the ticket says it.
+    pub kvno: Option<u32>,
+    /// Whether the client awaits a reply.
+    pub wants_reply: bool,
+}
+
+/// Reads what a request asks for, without any key; or nothing if the bytes aren't a request.
+///
+/// # Errors
+/// `AllocError`: the bytes are a request, and there is no memory for the service's name.
+pub fn asked_by(alloc: Global, bytes: &[u8]) -> Result<Option<Asked>, AllocError>
+    ensures asked { IfOk result (λ asked. MatchOption asked (AsksNothing bytes.now) (Asks bytes.now)) }
+    ensures memory { OnErr result (AsksSomething bytes.now) }
+{
+    let Ok(request) = ApReqRef::parse(bytes) else {
+        return Ok(None);
+    };
+    match of_request(alloc, &request) {
+        Ok(asked) => Ok(Some(asked)),
+        Err(error) => Err(error),
+    }
+}
+
+fn of_request(alloc: Global, request: &ApReqRef) -> Result<Asked, AllocError>
+    ensures { IfOk result (IsAsked (ap_req_of request.now)) }
+{
+    let ticket = &request.ticket;
+    let service = ticket.sname.to_principal(alloc, ticket.realm)?;
+    Ok(Asked {
+        service,
+        etype: ticket.enc_part.etype,
+        kvno: ticket.enc_part.kvno,
+        wants_reply: request.options.has(MUTUAL_REQUIRED),
+    })
+}

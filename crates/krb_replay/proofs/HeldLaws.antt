@@ -1,0 +1,221 @@
+-- What is held, and what of it isn't too old.
+use Rattle.std.proofs.Common.{◌≡◌, ◌⊎◌, inl, inr, ℕ, ℤ, zero, ◌+◌, ◌-◌, min, ◌<◌, ◌≤◌, ◌≤ℤ◌, ◌<ℤ◌, Bool, true, false, not, cond, Option, Some, None, List, [], ◌∷◌, length, get_or, Contains, ◌||◌, refl, sym, subst, ap, ◌∙◌, arith}
+use Rattle.std.specs.List.{All, filter, list_any}
+use Rattle.std.specs.List.Sorted.{IsStrictlySortedBy}
+use Rattle.std.specs.BTreeMap.Range.{IsLeBy}
+use Rattle.std.proofs.lemmas.List.Elements.{All-head, All-tail, filter_passes}
+use Rattle.std.proofs.lemmas.Map.Views.{All-after_first}
+use Rattle.std.proofs.lemmas.Cmp.{tied_itself}
+use Rattle.krb_replay.proofs.OrderLaws.{not_earlier, not_later}
+use Rattle.std.specs.Ordering.{match_ordering, is_eq, is_gt, is_lt}
+use Rattle.std.specs.declared.cmp.Ordering.{Ordering}
+use Rattle.std.specs.declared.cmp.Ordering.TheVariants.{Less, Equal, Greater}
+use Rattle.std.specs.BTreeMap.{BTreeMap, is_at}
+use Rattle.std.specs.BTreeSet.{insert_key}
+use Rattle.std.proofs.lemmas.Int.{ints}
+use Rattle.krb_replay.specs.Stamp.{RealmAndName, Stamp}
+use Rattle.krb_replay.specs.Inner.Order.{TwoNames, names_of, client_total, stamp_cmp}
+use Rattle.krb_replay.specs.Inner.Held.{AreCounted, count_of, is_before, is_of, number_before, number_of, one_of, since}
+use Rattle.krb_replay.proofs.DropLaws.{first_or_rest, among_rest}
+
+-- one more, if it passes
+abbrev pub weighed : Bool → ℕ
+weighed passes = cond passes 1 0
+
+longer : {X : Type 0} (passes : Bool) (x : X) (xs : List X) → length (cond passes (x ∷ xs) xs) ≡ weighed passes + length xs
+longer true x xs = omega arith
+longer false x xs = omega arith
+
+pub filter_longer : {X : Type 0} (p : X → Bool) (x : X) (xs : List X) → length (filter p (x ∷ xs)) ≡ weighed (p x) + length (filter p xs)
+filter_longer p x xs = longer (p x) x (filter p xs)
+
+by_order : {X : Type 0} (o : Ordering) (p : X → Bool) (x k : X) (xs placed : List X) → (o ≡ Equal → ⊥)
+    → length (filter p placed) ≡ weighed (p k) + length (filter p xs)
+    → length (filter p (match_ordering o (k ∷ x ∷ xs) (x ∷ xs) (x ∷ placed))) ≡ weighed (p k) + length (filter p (x ∷ xs))
+by_order Less p x k xs placed apart same = filter_longer p k (x ∷ xs)
+by_order Equal p x k xs placed apart same = absurd (apart refl)
+by_order Greater p x k xs placed apart same =
+    let placed_is = filter_longer p x placed in
+    let others_is = filter_longer p x xs in
+    omega arith
+
+no_head : (head tail : Bool) → head ≡ true → (head || tail) ≡ false → ⊥
+no_head true tail e f = cc
+no_head false tail e f = cc
+
+no_tail : (head tail : Bool) → (head || tail) ≡ false → tail ≡ false
+no_tail true tail f = absurd (cc)
+no_tail false tail f = f
+
+-- a key at its place adds what it weighs
+pub placed_weighs : {X : Type 0} (cmp : X → X → Ordering) (p : X → Bool) (keys : List X) (k : X) → list_any (is_at (cmp k)) keys ≡ false
+    → length (filter p (insert_key cmp keys k)) ≡ weighed (p k) + length (filter p keys)
+placed_weighs cmp p [] k absent = filter_longer p k []
+placed_weighs cmp p (x ∷ xs) k absent =
+    by_order (cmp k x) p x k xs (insert_key cmp xs k)
+    (λ same. no_head (is_at (cmp k) x) (list_any (is_at (cmp k)) xs) (ap is_eq same) absent)
+    (placed_weighs cmp p xs k (no_tail (is_at (cmp k) x) (list_any (is_at (cmp k)) xs) absent))
+
+from_cond : (b : Bool) (p : Stamp → Bool) (y : Stamp) (ys : List Stamp) (x : Stamp) → p y ≡ b
+    → Contains (cond b (y ∷ filter p ys) (filter p ys)) x → (Contains (filter p ys) x → Contains ys x × (p x ≡ true))
+    → Contains (y ∷ ys) x × (p x ≡ true)
+from_cond true p y ys x is there rest = elim (first_or_rest y (filter p ys) x there) [
+  | inl same ↦ ((zero, omega arith, same), ap p (sym same) ∙ is)
+  | inr among ↦ (let h = rest among in (among_rest y ys x h.0, h.1))
+]
+from_cond false p y ys x is there rest = let h = rest there in (among_rest y ys x h.0, h.1)
+
+-- what a filter keeps is in the list, and passes
+pub from_filter : (p : Stamp → Bool) (xs : List Stamp) (x : Stamp) → Contains (filter p xs) x → Contains xs x × (p x ≡ true)
+from_filter p [] x (k, within, is) = absurd (omega arith)
+from_filter p (y ∷ ys) x there = from_cond (p y) p y ys x refl there (from_filter p ys x)
+
+into_cond : (b : Bool) (p : Stamp → Bool) (y : Stamp) (ys : List Stamp) (x : Stamp) → p y ≡ b → (y ≡ x) ⊎ Contains ys x → p x ≡ true
+    → (Contains ys x → Contains (filter p ys) x) → Contains (cond b (y ∷ filter p ys) (filter p ys)) x
+into_cond true p y ys x is either passes rest = elim either [
+  | inl same ↦ (zero, omega arith, same)
+  | inr among ↦ among_rest y (filter p ys) x (rest among)
+]
+into_cond false p y ys x is either passes rest = elim either [
+  | inl same ↦ absurd (let other : p x ≡ false = ap p (sym same) ∙ is in cc)
+  | inr among ↦ rest among
+]
+
+pub into_filter : (p : Stamp → Bool) (xs : List Stamp) (x : Stamp) → Contains xs x → p x ≡ true → Contains (filter p xs) x
+into_filter p [] x (k, within, is) passes = absurd (omega arith)
+into_filter p (y ∷ ys) x there passes = into_cond (p y) p y ys x refl (first_or_rest y ys x there) passes (λ rest. into_filter p ys x rest passes)
+
+-- a stamp that isn't before a moment
+pub recent_from : (oldest : ℤ) (stamp : Stamp) → not (is_before oldest stamp) ≡ true → oldest ≤ℤ stamp.time
+recent_from oldest stamp e = grind (arith, ints)
+
+pub recent_is : (oldest : ℤ) (stamp : Stamp) → oldest ≤ℤ stamp.time → not (is_before oldest stamp) ≡ true
+recent_is oldest stamp h = grind (arith, ints)
+
+early_is : (oldest : ℤ) (stamp : Stamp) → stamp.time <ℤ oldest → is_before oldest stamp ≡ true
+early_is oldest stamp h = grind (arith, ints)
+
+late_is : (oldest : ℤ) (stamp : Stamp) → oldest ≤ℤ stamp.time → is_before oldest stamp ≡ false
+late_is oldest stamp h = grind (arith, ints)
+
+by_side : (before : Bool) (client : Option RealmAndName) (x : Stamp) (later earlier xs : List Stamp)
+    → number_of client later + number_of client earlier ≡ number_of client xs
+    → number_of client (cond (not before) (x ∷ later) later) + number_of client (cond before (x ∷ earlier) earlier) ≡ number_of client (x ∷ xs)
+by_side true client x later earlier xs same =
+    let one = filter_longer (is_of client) x earlier in
+    let all = filter_longer (is_of client) x xs in
+    omega arith
+by_side false client x later earlier xs same =
+    let one = filter_longer (is_of client) x later in
+    let all = filter_longer (is_of client) x xs in
+    omega arith
+
+-- those before a moment and the others are all
+pub two_sides : (client : Option RealmAndName) (oldest : ℤ) (xs : List Stamp)
+    → number_of client (since oldest xs) + number_before client oldest xs ≡ number_of client xs
+two_sides client oldest [] = refl
+two_sides client oldest (x ∷ xs) =
+    by_side (is_before oldest x) client x (since oldest xs) (filter (is_before oldest) xs) xs (two_sides client oldest xs)
+
+pub all_of_none : (xs : List Stamp) → number_of None xs ≡ length xs
+all_of_none [] = refl
+all_of_none (x ∷ xs) = let rest = all_of_none xs in omega arith
+
+-- the counts after one more stamp
+pub counted_more : (old new : List Stamp) (before after : BTreeMap TwoNames ℕ) (added : Stamp) → AreCounted old before
+    → list_any (is_at (stamp_cmp added)) old ≡ false → new ≡ insert_key stamp_cmp old added
+    → ((other : TwoNames) → count_of after other ≡ count_of before other + one_of (names_of added) other) → AreCounted new after
+counted_more old new before after added counted absent is more names =
+    let placed = placed_weighs stamp_cmp (is_of (Some names.1)) old added absent in
+    let same : one_of (names_of added) names ≡ weighed (is_of (Some names.1) added) = refl in
+    let was = counted names in
+    let now = more names in
+    subst (λ (stamps : List Stamp). count_of after names ≡ number_of (Some names.1) stamps) (sym is) (omega arith)
+
+-- each has its own client
+pub own : (names : TwoNames) → one_of names names ≡ 1
+own names = ap (λ (o : Ordering). cond (is_eq o) 1 0) (tied_itself client_total names)
+
+-- and after one less
+pub counted_less : (first : Stamp) (rest : List Stamp) (before after : BTreeMap TwoNames ℕ) → AreCounted (first ∷ rest) before
+    → ((other : TwoNames) → count_of after other + one_of (names_of first) other ≡ count_of before other) → AreCounted rest after
+counted_less first rest before after counted less names =
+    let all = filter_longer (is_of (Some names.1)) first rest in
+    let same : one_of (names_of first) names ≡ weighed (is_of (Some names.1) first) = refl in
+    let was = counted names in
+    let now = less names in
+    omega arith
+
+pub first_counts : (first : Stamp) (rest : List Stamp) (counts : BTreeMap TwoNames ℕ) → AreCounted (first ∷ rest) counts
+    → 0 < count_of counts (names_of first)
+first_counts first rest counts counted =
+    let all = filter_longer (is_of (Some first.client)) first rest in
+    let same : one_of (names_of first) (names_of first) ≡ weighed (is_of (Some first.client) first) = refl in
+    let one = own (names_of first) in
+    let was = counted (names_of first) in
+    omega arith
+
+keep_all : (p : Stamp → Bool) (xs : List Stamp) → All (λ x. p x ≡ true) xs → filter p xs ≡ xs
+keep_all p [] all = refl
+keep_all p (x ∷ xs) all =
+    ap (λ (passes : Bool). cond passes (x ∷ filter p xs) (filter p xs)) (All-head (λ y. p y ≡ true) x xs all)
+    ∙ ap (λ (ys : List Stamp). x ∷ ys) (keep_all p xs (All-tail (λ y. p y ≡ true) x xs all))
+
+-- none is before a moment if the first isn't
+pub all_recent : (oldest : ℤ) (first : Stamp) (stamps : List Stamp) → All (IsLeBy stamp_cmp first) stamps → oldest ≤ℤ first.time
+    → since oldest stamps ≡ stamps
+all_recent oldest first stamps all recent =
+    keep_all (λ stamp. not (is_before oldest stamp)) stamps
+    (λ k d within. recent_is oldest (get_or stamps k d) (let later = not_later first (get_or stamps k d) (all k d within) in omega (arith, ints)))
+
+pub none_there : (oldest : ℤ) (stamps : List Stamp) → (0 < length stamps → ⊥) → since oldest stamps ≡ stamps
+none_there oldest [] none = refl
+none_there oldest (x ∷ xs) none = absurd (none (omega arith))
+
+-- the next one, which is before the moment
+pub next_before : (client : Option RealmAndName) (oldest : ℤ) (left rest : List Stamp) (next : Stamp) → left ≡ next ∷ rest → next.time <ℤ oldest
+    → number_before client oldest left ≡ weighed (is_of client next) + number_before client oldest rest
+next_before client oldest left rest next is early =
+    ap (λ (stamps : List Stamp). number_before client oldest stamps) is
+    ∙ (ap (λ (before : Bool). number_of client (cond before (next ∷ filter (is_before oldest) rest) (filter (is_before oldest) rest))) (early_is oldest next early)
+    ∙ filter_longer (is_of client) next (filter (is_before oldest) rest))
+
+drop_all : (p : Stamp → Bool) (xs : List Stamp) → All (λ x. p x ≡ false) xs → filter p xs ≡ []
+drop_all p [] all = refl
+drop_all p (x ∷ xs) all =
+    ap (λ (passes : Bool). cond passes (x ∷ filter p xs) (filter p xs)) (All-head (λ y. p y ≡ false) x xs all)
+    ∙ drop_all p xs (All-tail (λ y. p y ≡ false) x xs all)
+
+-- no more are before the moment if the next one isn't
+pub no_more_before : (client : Option RealmAndName) (oldest : ℤ) (left rest : List Stamp) (next : Stamp) → left ≡ next ∷ rest
+    → IsStrictlySortedBy stamp_cmp left → oldest ≤ℤ next.time → number_before client oldest left ≡ 0
+no_more_before client oldest left rest next is ordered recent =
+    let sorted : IsStrictlySortedBy stamp_cmp (next ∷ rest) = subst (λ (stamps : List Stamp). IsStrictlySortedBy stamp_cmp stamps) is ordered in
+    let later = All-after_first stamp_cmp next rest sorted in
+    ap (λ (stamps : List Stamp). number_before client oldest stamps) is
+    ∙ (ap (λ (before : Bool). number_of client (cond before (next ∷ filter (is_before oldest) rest) (filter (is_before oldest) rest))) (late_is oldest next recent)
+    ∙ ap (λ (stamps : List Stamp). number_of client stamps)
+    (drop_all (is_before oldest) rest
+    (λ k d within. late_is oldest (get_or rest k d)
+    (let after = not_later next (get_or rest k d) (ap is_gt (later k d within)) in omega (arith, ints)))))
+
+-- none is left if the last one is before the moment
+pub none_left : (oldest : ℤ) (last : Stamp) (stamps : List Stamp) → All (λ stamp. is_lt (stamp_cmp last stamp) ≡ false) stamps → last.time <ℤ oldest
+    → since oldest stamps ≡ []
+none_left oldest last stamps all early =
+    drop_all (λ stamp. not (is_before oldest stamp)) stamps
+    (λ k d within. ap not (early_is oldest (get_or stamps k d) (let before = not_earlier last (get_or stamps k d) (all k d within) in omega (arith, ints))))
+
+-- what isn't before a moment isn't before an earlier one
+pub recent_before : (oldest earlier : ℤ) (stamps : List Stamp) → since oldest stamps ≡ stamps → earlier ≤ℤ oldest → since earlier stamps ≡ stamps
+recent_before oldest earlier stamps all less =
+    keep_all (λ stamp. not (is_before earlier stamp)) stamps
+    (λ k d within. recent_is earlier (get_or stamps k d)
+    (let recent = recent_from oldest (get_or stamps k d)
+    (subst (λ (kept : List Stamp). All (λ stamp. not (is_before oldest stamp) ≡ true) kept) all (filter_passes (λ stamp. not (is_before oldest stamp)) stamps) k d within) in
+    omega (arith, ints)))
+
+-- counting a few of those before a moment says whether there are as many since
+pub room : (held count later before few : ℕ) → later + before ≡ held → count ≤ held → few ≡ min (held - count + 1) before
+    → (few ≤ held - count → count ≤ later) × (count ≤ later → few ≤ held - count)
+room held count later before few both fits is = (λ h. omega arith, λ h. omega arith)

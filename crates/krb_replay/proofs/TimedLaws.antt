@@ -1,0 +1,200 @@
+-- The set of a timed memory: what is held and isn't before a moment.
+use Rattle.std.proofs.Common.{◌≡◌, ◌≢◌, ◌⊎◌, inl, inr, ℕ, ℤ, zero, suc, ◌-◌, ◌≤◌, ◌≤ℤ◌, ◌<ℤ◌, min, Bool, true, false, not, cond, ◌&&◌, Option, Some, None, List, [], ◌∷◌, length, get_or, Contains, refl, sym, subst, ap, ◌∙◌, arith}
+use Rattle.std.specs.List.{filter}
+use Rattle.std.specs.Prelude.{Result, Ok, Err, OnOk, OnErr}
+use Rattle.std.specs.List.Sorted.{IsStrictlySortedBy}
+use Rattle.std.specs.Ordering.{is_eq}
+use Rattle.std.proofs.lemmas.Cmp.{tied_itself}
+use Rattle.std.proofs.lemmas.Int.{ints}
+use Rattle.std.proofs.lemmas.List.Elements.{Contains-get_or}
+use Rattle.std.proofs.lemmas.Map.Views.{tells_apart}
+use Rattle.krb_replay.specs.Stamp.{RealmAndName, Stamp}
+use Rattle.krb_replay.specs.Limit.{HasAtLeast, IsOf, Since}
+use Rattle.krb_replay.specs.Memory.{AddsStamp, IsSizeOf, SameStamps}
+use Rattle.krb_replay.specs.Inner.Order.{name_cmp, name_total, stamp_cmp}
+use Rattle.krb_replay.specs.Inner.Held.{IsLater, is_before, is_of, number_before, number_of, since}
+use Rattle.krb_replay.proofs.HeldLaws.{all_of_none, from_filter, into_filter, recent_from, recent_is, two_sides}
+use Rattle.krb_replay.proofs.OrderLaws.{exact_names, once_from_ordered}
+use Rattle.krb_replay.proofs.SizeLaws.{AreOnce, first_apart, no_longer, once_rest}
+
+-- what is in the set
+pub in_set : (oldest : ℤ) (held : List Stamp) (stamp : Stamp) → Contains (since oldest held) stamp → Contains held stamp × (oldest ≤ℤ stamp.time)
+in_set oldest held stamp there =
+    let h = from_filter (λ one. not (is_before oldest one)) held stamp there in (h.0, recent_from oldest stamp h.1)
+
+pub into_set : (oldest : ℤ) (held : List Stamp) (stamp : Stamp) → Contains held stamp → oldest ≤ℤ stamp.time → Contains (since oldest held) stamp
+into_set oldest held stamp there recent = into_filter (λ one. not (is_before oldest one)) held stamp there (recent_is oldest stamp recent)
+
+-- what a look-up answers for a stamp that isn't too old, and for one that is
+pub recent_found : (oldest : ℤ) (held stamps : List Stamp) (stamp : Stamp) (answer : Bool) → since oldest held ≡ stamps → oldest ≤ℤ stamp.time
+    → (answer ≡ true → Contains held stamp) × (Contains held stamp → answer ≡ true)
+    → (answer ≡ true → Contains stamps stamp) × (Contains stamps stamp → answer ≡ true)
+recent_found oldest held stamps stamp answer same recent decides = (
+  λ yes. subst (λ (list : List Stamp). Contains list stamp) same (into_set oldest held stamp (decides.0 yes) recent),
+  λ there. decides.1 (in_set oldest held stamp (subst (λ (list : List Stamp). Contains list stamp) (sym same) there)).0,
+)
+
+pub old_lacks : (oldest : ℤ) (held stamps : List Stamp) (stamp : Stamp) → since oldest held ≡ stamps → stamp.time <ℤ oldest → Contains stamps stamp → ⊥
+old_lacks oldest held stamps stamp same old there =
+    let h = (in_set oldest held stamp (subst (λ (list : List Stamp). Contains list stamp) (sym same) there)).1 in omega (arith, ints)
+
+-- a new stamp, after the set was brought to reach it
+pub reached_adds : (oldest reached : ℤ) (old between new : List Stamp) (stamps : List Stamp) (added : Stamp) → since reached between ≡ since oldest old
+    → since oldest old ≡ stamps → reached ≤ℤ added.time → AddsStamp (Contains between) (Contains new) added
+    → AddsStamp (Contains stamps) (Contains (since reached new)) added
+reached_adds oldest reached old between new stamps added same is recent adds stamp = (
+  λ there. let h = in_set reached new stamp there in
+      elim ((adds stamp).0 h.0) [
+        | inl one ↦ inl one
+        | inr before ↦ inr (subst (λ (list : List Stamp). Contains list stamp) (same ∙ is) (into_set reached between stamp before h.1))
+      ],
+  λ either. elim either [
+    | inl one ↦ into_set reached new stamp ((adds stamp).1 (inl one)) (subst (λ (s : Stamp). reached ≤ℤ s.time) (sym one) recent)
+    | inr before ↦ (let h = in_set reached between stamp (subst (λ (list : List Stamp). Contains list stamp) (sym (same ∙ is)) before) in
+        into_set reached new stamp ((adds stamp).1 (inr h.0)) h.1)
+  ],
+)
+
+pub reached_same : (oldest reached : ℤ) (old between new : List Stamp) (stamps : List Stamp) → since reached between ≡ since oldest old
+    → since oldest old ≡ stamps → new ≡ between → SameStamps (Contains stamps) (Contains (since reached new))
+reached_same oldest reached old between new stamps same is unchanged stamp =
+    let all : since reached new ≡ stamps = ap (λ (list : List Stamp). since reached list) unchanged ∙ (same ∙ is) in (
+      λ there. subst (λ (list : List Stamp). Contains list stamp) all there,
+      λ there. subst (λ (list : List Stamp). Contains list stamp) (sym all) there,
+    )
+
+-- each once
+once_cons : (first : Stamp) (rest : List Stamp) → ((stamp : Stamp) → Contains rest stamp → first ≢ stamp) → AreOnce rest → AreOnce (first ∷ rest)
+once_cons first rest apart once zero zero d below within same = absurd (omega arith)
+once_cons first rest apart once (suc i) zero d below within same = absurd (omega arith)
+once_cons first rest apart once zero (suc j) d below within same = apart (get_or rest j d) (Contains-get_or rest j d (omega arith)) same
+once_cons first rest apart once (suc i) (suc j) d below within same = once i j d (omega arith) (omega arith) same
+
+once_cond : (keep : Bool) (first : Stamp) (rest kept : List Stamp) → AreOnce (first ∷ rest) → ((stamp : Stamp) → Contains kept stamp → Contains rest stamp)
+    → AreOnce kept → AreOnce (cond keep (first ∷ kept) kept)
+once_cond true first rest kept once among still = once_cons first kept (λ stamp there. first_apart first rest stamp once (among stamp there)) still
+once_cond false first rest kept once among still = still
+
+pub once_kept : (p : Stamp → Bool) (stamps : List Stamp) → AreOnce stamps → AreOnce (filter p stamps)
+once_kept p [] once = once
+once_kept p (first ∷ rest) once =
+    once_cond (p first) first rest (filter p rest) once (λ stamp there. (from_filter p rest stamp there).0) (once_kept p rest (once_rest first rest once))
+
+-- the size of the set
+pub live_size : (oldest : ℤ) (held stamps : List Stamp) (dropped : ℕ) → IsStrictlySortedBy stamp_cmp held → since oldest held ≡ stamps
+    → dropped ≡ min (length held) (number_before None oldest held) → IsSizeOf (Contains stamps) (length held - dropped)
+live_size oldest held stamps dropped ordered same is =
+    let sides = two_sides None oldest held in
+    let all = all_of_none held in
+    let live = all_of_none (since oldest held) in
+    subst (λ (list : List Stamp). IsSizeOf (Contains list) (length held - dropped)) same
+    (record {
+      stamps = since oldest held;
+      once = once_kept (λ one. not (is_before oldest one)) held (once_from_ordered held ordered);
+      members = λ stamp. (λ h. h, λ h. h);
+      size_is = omega arith;
+    })
+
+-- a client, by the name
+pub is_from : (client : Option RealmAndName) (stamp : Stamp) → is_of client stamp ≡ true → IsOf client stamp
+is_from None stamp e = tt
+is_from (Some client) stamp e = tells_apart exact_names stamp.client client e
+
+pub is_of_it : (client : Option RealmAndName) (stamp : Stamp) → IsOf client stamp → is_of client stamp ≡ true
+is_of_it None stamp h = refl
+is_of_it (Some client) stamp h = ap (λ (name : RealmAndName). is_eq (name_cmp name client)) h ∙ ap is_eq (tied_itself name_total client)
+
+-- how many there are since a moment, as a number and as a list
+pub at_least : (client : Option RealmAndName) (oldest : ℤ) (stamps : List Stamp) (count : ℕ) → AreOnce stamps
+    → (count ≤ number_of client (since oldest stamps) → HasAtLeast (Since (Contains stamps) client oldest) count)
+    × (HasAtLeast (Since (Contains stamps) client oldest) count → count ≤ number_of client (since oldest stamps))
+at_least client oldest stamps count once = (
+  λ enough. record {
+    stamps = filter (is_of client) (since oldest stamps);
+    once = once_kept (is_of client) (since oldest stamps) (once_kept (λ one. not (is_before oldest one)) stamps once);
+    among = λ stamp there. let h = from_filter (is_of client) (since oldest stamps) stamp there in
+        let live = in_set oldest stamps stamp h.0 in (live.0, (live.1, is_from client stamp h.1));
+    enough = enough;
+  },
+  λ has. let fewer = no_longer has.stamps (filter (is_of client) (since oldest stamps)) has.once
+      (λ stamp there. let h = has.among stamp there in
+      into_filter (is_of client) (since oldest stamps) stamp (into_set oldest stamps stamp h.0 h.1.0) (is_of_it client stamp h.1.1)) in
+      let enough = has.enough in
+      omega arith,
+)
+
+cond_both : (q p : Bool) (x : Stamp) (kept both : List Stamp) (P : Stamp → Bool) → P x ≡ p → filter P kept ≡ both
+    → filter P (cond q (x ∷ kept) kept) ≡ cond (q && p) (x ∷ both) both
+cond_both true true x kept both P is same = ap (λ (passes : Bool). cond passes (x ∷ filter P kept) (filter P kept)) is ∙ ap (λ (list : List Stamp). x ∷ list) same
+cond_both true false x kept both P is same = ap (λ (passes : Bool). cond passes (x ∷ filter P kept) (filter P kept)) is ∙ same
+cond_both false p x kept both P is same = same
+
+both_kept : (P Q R : Stamp → Bool) → ((x : Stamp) → (Q x && P x) ≡ R x) → (xs : List Stamp) → filter P (filter Q xs) ≡ filter R xs
+both_kept P Q R is [] = refl
+both_kept P Q R is (x ∷ xs) =
+    cond_both (Q x) (P x) x (filter Q xs) (filter R xs) P refl (both_kept P Q R is xs)
+    ∙ ap (λ (passes : Bool). cond passes (x ∷ filter R xs) (filter R xs)) (is x)
+
+both_recent : (one other later : ℤ) (stamp : Stamp) → one ≤ℤ later → other ≤ℤ later → (later ≡ one) ⊎ (later ≡ other)
+    → (not (is_before one stamp) && not (is_before other stamp)) ≡ not (is_before later stamp)
+both_recent one other later stamp below also (inl is) = grind (arith, ints)
+both_recent one other later stamp below also (inr is) = grind (arith, ints)
+
+-- since the later of two moments
+pub since_later : (one other later : ℤ) (held : List Stamp) → IsLater one other later → since other (since one held) ≡ since later held
+since_later one other later held is =
+    both_kept (λ stamp. not (is_before other stamp)) (λ stamp. not (is_before one stamp)) (λ stamp. not (is_before later stamp))
+    (λ stamp. both_recent one other later stamp is.above_one is.above_other is.either) held
+
+-- what is left after the set forgot what is before a moment
+pub record Forgets (stamps new : List Stamp) (cut : ℤ) : Type 0 where
+  pub none_added : (stamp : Stamp) → Contains new stamp → Contains stamps stamp
+  pub kept : (stamp : Stamp) → Contains stamps stamp → cut ≤ℤ stamp.time → Contains new stamp
+  pub forgets : (stamp : Stamp) → Contains new stamp → cut ≤ℤ stamp.time
+
+pub forgotten : (oldest cut later : ℤ) (old new stamps : List Stamp) → IsLater oldest cut later → since later new ≡ since later old
+    → since oldest old ≡ stamps → Forgets stamps (since later new) cut
+forgotten oldest cut later old new stamps choice same is =
+    let below = choice.above_one in
+    let also = choice.above_other in
+    record {
+      none_added = λ stamp there.
+          let h = in_set later old stamp (subst (λ (list : List Stamp). Contains list stamp) same there) in
+          subst (λ (list : List Stamp). Contains list stamp) is (into_set oldest old stamp h.0 (let recent = h.1 in omega (arith, ints)));
+      kept = λ stamp there recent.
+          let h = in_set oldest old stamp (subst (λ (list : List Stamp). Contains list stamp) (sym is) there) in
+          let here = h.1 in
+          subst (λ (list : List Stamp). Contains list stamp) (sym same)
+          (into_set later old stamp h.0 (elim choice.either [ inl e ↦ omega (arith, ints) | inr e ↦ omega (arith, ints) ]));
+      forgets = λ stamp there. let h = (in_set later new stamp there).1 in omega (arith, ints);
+    }
+
+-- whatever the addition answered
+pub added_reached : {E : Type 0} (oldest reached : ℤ) (old between new stamps : List Stamp) (added : Stamp) (answer : Result (Unit {0}) E)
+    → since reached between ≡ since oldest old → since oldest old ≡ stamps → reached ≤ℤ added.time
+    → OnOk answer (AddsStamp (Contains between) (Contains new) added)
+    → OnOk answer (AddsStamp (Contains stamps) (Contains (since reached new)) added)
+added_reached oldest reached old between new stamps added (Ok x) same is recent adds = reached_adds oldest reached old between new stamps added same is recent adds
+added_reached oldest reached old between new stamps added (Err e) same is recent adds = adds
+
+pub same_reached : {E : Type 0} (oldest reached : ℤ) (old between new stamps : List Stamp) (answer : Result (Unit {0}) E)
+    → since reached between ≡ since oldest old → since oldest old ≡ stamps → OnErr answer (new ≡ between)
+    → OnErr answer (SameStamps (Contains stamps) (Contains (since reached new)))
+same_reached oldest reached old between new stamps (Ok x) same is unchanged = unchanged
+same_reached oldest reached old between new stamps (Err e) same is unchanged = reached_same oldest reached old between new stamps same is unchanged
+
+-- the test of a number of stamps
+pub decided : (client : Option RealmAndName) (since_when : ℤ) (stamps : List Stamp) (count : ℕ) (answer : Bool) → AreOnce stamps
+    → (answer ≡ true → count ≤ number_of client (since since_when stamps)) × (count ≤ number_of client (since since_when stamps) → answer ≡ true)
+    → (answer ≡ true → HasAtLeast (Since (Contains stamps) client since_when) count)
+    × (HasAtLeast (Since (Contains stamps) client since_when) count → answer ≡ true)
+decided client since_when stamps count answer once decides =
+    let both = at_least client since_when stamps count once in
+    (λ yes. both.0 (decides.0 yes), λ has. decides.1 (both.1 has))
+
+-- the set is no larger than what is held
+pub set_fits : (oldest : ℤ) (held : List Stamp) (size : ℕ) → IsSizeOf (Contains (since oldest held)) size → size ≤ length held
+set_fits oldest held size is =
+    let fewer = no_longer is.stamps held is.once (λ stamp there. (in_set oldest held stamp ((is.members stamp).0 there)).0) in
+    let length_is = is.size_is in
+    omega arith

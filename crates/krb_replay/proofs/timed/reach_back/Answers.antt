@@ -1,0 +1,19 @@
+use Rattle.std.proofs.Common.{◌≡◌, ℤ, List, ap, sym, ◌∙◌, arith, to_z, of_z}
+use Rattle.std.specs.Int.{w64}
+use Rattle.std.proofs.lemmas.Int.{ints}
+use Rattle.krb_replay.specs.Stamp.{Stamp}
+use Rattle.krb_replay.specs.Inner.Held.{since}
+use Rattle.krb_replay.proofs.HeldLaws.{recent_before}
+use Rattle.krb_replay.proofs.timed.reach_back.Goals as goal
+
+pub returns-clause-same : goal.returns-clause-same
+returns-clause-same c =
+    let o : to_z w64 (of_z w64 c.args.oldest) ≡ c.args.oldest = omega (arith, ints) in
+    let none = c.free_first.ensures.none c.loop-test.false in
+    let all : since c.args.oldest c.loop.held ≡ c.loop.held = ap (λ (oldest : ℤ). since oldest c.loop.held) (sym o) ∙ none.1 in
+    let later = c.if-oldest-time.false in
+    let t : to_z w64 (of_z w64 c.args.time) ≡ c.args.time = omega (arith, ints) in
+    ap (λ (time : ℤ). since time c.free_first.new.self) t
+    ∙ (ap (λ (stamps : List Stamp). since c.args.time stamps) none.0
+    ∙ (recent_before c.args.oldest c.args.time c.loop.held all (omega (arith, ints))
+    ∙ (sym all ∙ (ap (λ (oldest : ℤ). since oldest c.loop.held) (sym o) ∙ (c.loop.invariant ∙ ap (λ (oldest : ℤ). since oldest c.args.held.now) o)))))

@@ -1,0 +1,213 @@
+//! What a timed memory holds.
+
+ghost use Rattle.std.specs.Prelude.{◌≡◌, ◌↔◌, ◌≤◌, ◌<◌, ◌+◌, [], false, min, length, Contains, IfOk, IsTrue, OnErr, OnOk};
+ghost use Rattle.std.specs.List.Sorted.{IsStrictlySortedBy};
+ghost use Rattle.std.specs.Option.{option_map};
+ghost use Rattle.krb_replay.specs.Inner.Held.{count_of, is_of, number_before, number_of, one_of, since};
+ghost use Rattle.krb_replay.specs.Inner.Order.{TwoNames, names_of, stamp_cmp};
+ghost use Rattle.krb_replay.specs.Memory.{AddsStamp};
+
+use crate::counts::ClientCounts;
+use crate::pair::Pair;
+use crate::tuple::Tuple;
+use std::alloc::{AllocError, Global};
+use std::collections::BTreeSet;
+use std::marker::Model;
+
+/// Tuples in the order of their times. Those with the same names share one copy of them. How many
+/// tuples each client has is counted.
+///
+/// No call moves many tuples: the tuples, the pairs of names and the counts are in trees of small
+/// blocks.
+#[derive(Debug, Drop)]
+pub(crate) struct Held {
+    tuples: BTreeSet<Tuple>,
+    pairs: BTreeSet<Pair>,
+    clients: ClientCounts,
+}
+
+impl Model for Held {
+    ghost use Rattle.std.specs.Prelude.{List};
+    ghost use Rattle.std.specs.BTreeSet.{IsOrdered};
+    ghost use Rattle.krb_replay.specs.Inner.Held.{AreCounted};
+    ghost use Rattle.krb_replay.specs.Inner.Order.{stamp_cmp};
+    ghost use Rattle.krb_replay.specs.Stamp.{Stamp};
+
+    ghost Value = { List Stamp };
+
+    ghost view = { λ held. held.tuples.keys };
+
+    ghost invariant = { λ held. IsOrdered stamp_cmp held.tuples × AreCounted held.tuples.keys held.clients.counts };
+}
+
+impl Held {
+    pub(crate) fn new(alloc: Global) -> Held
+        ensures { result ≡ [] }
+    {
+        Held {
+            tuples: BTreeSet::new(alloc),
+            pairs: BTreeSet::new(alloc),
+            clients: ClientCounts::new(alloc),
+        }
+    }
+
+    pub(crate) fn contains(&self, tuple: &Tuple) -> bool
+        ensures { IsTrue result ↔ Contains self.now tuple.now }
+    {
+        self.tuples.contains(tuple)
+    }
+
+    pub(crate) fn len(&self) -> usize
+        ensures len { result ≡ length self.now }
+        ensures ordered { IsStrictlySortedBy stamp_cmp self.now }
+    {
+        self.tuples.len()
+    }
+
+    /// Returns about how many bytes are taken: up to 40 for a tuple, and 200 for two short names.
+    pub(crate) fn bytes(&self) -> usize {
+        let tuples = self.tuples.len().saturating_mul(40);
+        tuples.saturating_add(self.pairs.len().saturating_mul(200))
+    }
+
+    /// Adds the tuple, if it isn't held.
+    pub(crate) fn add(&mut self, tuple: Tuple) -> Result<(), AllocError>
+        ensures ok { OnOk result (AddsStamp (Contains self.old) (Contains self.new) tuple) }
+        ensures err { OnErr result (self.new ≡ self.old) }
+    {
+        if self.tuples.contains(&tuple) {
+            return Ok(());
+        }
+        let tuple = share_names(&mut self.pairs, tuple)?;
+        match self.clients.add(tuple.names().pair()) {
+            Ok(()) => match self.tuples.insert(tuple) {
+                Ok(_) => Ok(()),
+                Err(failed) => {
+                    uncount(&mut self.clients, &mut self.pairs, failed.value);
+                    Err(AllocError)
+                }
+            },
+            Err(_) => {
+                forget(&mut self.pairs, tuple.into_pair());
+                Err(AllocError)
+            }
+        }
+    }
+
+    /// Frees the first tuple if its time is before `oldest`, in microseconds since
+    /// 1970-01-01T00:00:00Z, and returns whether it did.
+    pub(crate) fn free_first(&mut self, oldest: i64) -> bool
+        ensures freed { IsTrue result → length self.new + 1 ≡ length self.old }
+        ensures same { since oldest self.new ≡ since oldest self.old }
+        ensures none { result ≡ false → (self.new ≡ self.old) × (since oldest self.old ≡ self.old) }
+    {
+        let Some(first) = self.tuples.first() else {
+            return false;
+        };
+        if first.time().micros() >= oldest {
+            return false;
+        }
+        match self.tuples.pop_first() {
+            Some(tuple) => {
+                uncount(&mut self.clients, &mut self.pairs, tuple);
+                true
+            }
+            None => false,
+        }
+    }
+
+    /// Returns whether there are any tuples, and all are before `oldest`.
+    pub(crate) fn are_before(&self, oldest: i64) -> bool
+        ensures { IsTrue result → since oldest self.now ≡ [] }
+    {
+        match self.tuples.last() {
+            Some(last) => last.time().micros() < oldest,
+            None => false,
+        }
+    }
+
+    /// Returns how many tuples are before `oldest`: of the client of a tuple, or of all clients. It
+    /// counts up to `most`.
+    pub(crate) fn number_before(&self, client_of: Option<&Tuple>, oldest: i64, most: usize) -> usize
+        ensures number { result ≡ min most (number_before (option_map (λ tuple. tuple.now.client) client_of.entry) oldest self.now) }
+        ensures ordered { IsStrictlySortedBy stamp_cmp self.now }
+    {
+        let mut found = 0;
+        for tuple in self.tuples.iter() {
+            if found == most {
+                return found;
+            }
+            if tuple.time().micros() >= oldest {
+                return found;
+            }
+            if tuple.is_of(client_of) {
+                found += 1;
+            }
+        }
+        found
+    }
+
+    // How many tuples are held: of the client of a tuple, or of all clients.
+    fn number(&self, client_of: Option<&Tuple>) -> usize
+        ensures number { result ≡ number_of (option_map (λ tuple. tuple.now.client) client_of.entry) self.now }
+        ensures ordered { IsStrictlySortedBy stamp_cmp self.now }
+    {
+        match client_of {
+            Some(tuple) => self.clients.of(tuple.names()),
+            None => self.tuples.len(),
+        }
+    }
+
+    /// Returns whether at least `count` tuples aren't before `oldest`: of the client of a tuple, or
+    /// of all clients.
+    pub(crate) fn has_at_least(&self, client_of: Option<&Tuple>, count: usize, oldest: i64) -> bool
+        ensures enough { IsTrue result ↔ (count ≤ number_of (option_map (λ tuple. tuple.now.client) client_of.entry) (since oldest self.now)) }
+        ensures ordered { IsStrictlySortedBy stamp_cmp self.now }
+    {
+        let held = self.number(client_of);
+        if count == 0 {
+            return true;
+        }
+        if held < count {
+            return false;
+        }
+        let spare = held - count;
+        self.number_before(client_of, oldest, spare + 1) <= spare
+    }
+}
+
+// The same tuple, which shares its names with those that are held.
+fn share_names(pairs: &mut BTreeSet<Pair>, tuple: Tuple) -> Result<Tuple, AllocError>
+    ensures { IfOk result (λ shared. shared ≡ tuple) }
+{
+    let shared = match pairs.get(tuple.names().pair()) {
+        Some(pair) => pair.share()?,
+        None => {
+            pairs.insert(tuple.names().pair().share()?)?;
+            return Ok(tuple);
+        }
+    };
+    Ok(tuple.with_names(shared))
+}
+
+// Frees the tuple, which is counted, and its names if no other tuple has them.
+fn uncount(clients: &mut ClientCounts, pairs: &mut BTreeSet<Pair>, tuple: Tuple)
+    requires { 0 < count_of clients.old.counts (names_of tuple) }
+    ensures { (other : TwoNames) → count_of clients.new.counts other + one_of (names_of tuple) other ≡ count_of clients.old.counts other }
+{
+    if let Some(client) = clients.remove(tuple.names()) {
+        forget(pairs, client.into_pair());
+    }
+    forget(pairs, tuple.into_pair());
+}
+
+// Frees the names if no tuple has them: only this holder and `pairs`.
+fn forget(pairs: &mut BTreeSet<Pair>, pair: Pair) {
+    if pair.holders() <= 2 {
+        let _ = pairs.remove(&pair);
+    }
+    // (an emptied tree keeps a block)
+    if pairs.is_empty() {
+        pairs.clear();
+    }
+}

@@ -1,0 +1,181 @@
+//! The names of a tuple, which tuples share.
+
+ghost use Rattle.std.specs.Prelude.{◌≡◌, IfOk};
+ghost use Rattle.std.proofs.Common.{rules};
+ghost use Rattle.std.specs.Cmp.{partial_order_from_own_ties};
+ghost use Rattle.std.specs.Cmp.Rules.{comparing};
+ghost use Rattle.std.specs.Ordering.{as_partial_cmp, eq_by_cmp};
+ghost use Rattle.krb_replay.specs.Stamp.{name_of};
+ghost use Rattle.krb_replay.specs.Inner.Order.{client_cmp, client_total, pair_cmp, pair_total};
+
+use crate::names::Names;
+use krb_name::Principal;
+use std::alloc::{AllocError, Global};
+use std::cmp::Ordering;
+use std::marker::Model;
+use std::rc::Rc;
+
+/// The names of a service and a client. All that share them hold one copy, which is freed with the
+/// last of them.
+#[derive(Debug, Drop)]
+pub(crate) struct Pair {
+    names: Rc<Names>,
+}
+
+impl Model for Pair {
+    ghost use Rattle.krb_replay.specs.Inner.Order.{TwoNames};
+
+    ghost Value = { TwoNames };
+
+    ghost view = { λ pair. pair.names.value };
+}
+
+impl Pair {
+    /// Copies the names into a pair that nothing else shares yet.
+    pub(crate) fn new(
+        alloc: Global,
+        server: &Principal,
+        client: &Principal,
+    ) -> Result<Pair, AllocError>
+        ensures { IfOk result (λ pair. pair ≡ (name_of server.now, name_of client.now)) }
+    {
+        let names = Names::new(alloc, server, client)?;
+        Ok(Pair {
+            names: Rc::new(alloc, names)?,
+        })
+    }
+
+    /// Returns one more holder of the same names. Allocates no memory. It fails only if there are
+    /// too many holders to count.
+    pub(crate) fn share(&self) -> Result<Pair, AllocError>
+        ensures { IfOk result (λ pair. pair ≡ self.now) }
+    {
+        Ok(Pair {
+            names: self.names.clone()?,
+        })
+    }
+
+    /// Returns how many hold the names.
+    pub(crate) fn holders(&self) -> usize {
+        Rc::strong_count(&self.names)
+    }
+
+    pub(crate) fn names(&self) -> &Names
+        ensures { result.now ≡ self.now }
+    {
+        &self.names
+    }
+}
+
+impl Ord for Pair {
+    ghost cmp = { pair_cmp };
+
+    ghost total = { Prim.search (pair_total, comparing, rules) };
+
+    ghost matches_partial_cmp = { Prim.search (comparing, rules) };
+
+    ghost matches_eq = { Prim.search (comparing, rules) };
+
+    fn cmp(&self, other: &Pair) -> Ordering {
+        match self.names().compare_servers(other.names()) {
+            Ordering::Equal => self.names().compare_clients(other.names()),
+            apart => apart,
+        }
+    }
+}
+
+impl PartialOrd for Pair {
+    ghost partial_cmp = { as_partial_cmp pair_cmp };
+
+    ghost laws = { partial_order_from_own_ties (Prim.search (pair_total, comparing, rules)) (Prim.search (comparing, rules)) };
+
+    fn partial_cmp(&self, other: &Pair) -> Option<Ordering> {
+        Some(self.cmp(other))
+    }
+}
+
+impl PartialEq for Pair {
+    ghost eq = { eq_by_cmp pair_cmp };
+
+    ghost laws = { Prim.search (pair_total, comparing, rules) };
+
+    fn eq(&self, other: &Pair) -> bool {
+        self.cmp(other).is_eq()
+    }
+}
+
+impl Eq for Pair {
+    ghost laws = { Prim.search (pair_total, comparing, rules) };
+}
+
+/// The names of a service and a client, ordered by the client alone.
+#[derive(Debug, Drop)]
+pub(crate) struct ByClient {
+    pair: Pair,
+}
+
+impl Model for ByClient {
+    ghost use Rattle.krb_replay.specs.Inner.Order.{TwoNames};
+
+    ghost Value = { TwoNames };
+
+    ghost view = { λ by. by.pair };
+}
+
+impl ByClient {
+    pub(crate) fn new(pair: Pair) -> ByClient
+        ensures { result ≡ pair }
+    {
+        ByClient { pair }
+    }
+
+    pub(crate) fn into_pair(self) -> Pair
+        ensures { result ≡ self }
+    {
+        self.pair
+    }
+
+    pub(crate) fn pair(&self) -> &Pair
+        ensures { result.now ≡ self.now }
+    {
+        &self.pair
+    }
+}
+
+impl Ord for ByClient {
+    ghost cmp = { client_cmp };
+
+    ghost total = { Prim.search (client_total, comparing, rules) };
+
+    ghost matches_partial_cmp = { Prim.search (comparing, rules) };
+
+    ghost matches_eq = { Prim.search (comparing, rules) };
+
+    fn cmp(&self, other: &ByClient) -> Ordering {
+        self.pair.names().compare_clients(other.pair.names())
+    }
+}
+
+impl PartialOrd for ByClient {
+    ghost partial_cmp = { as_partial_cmp client_cmp };
+
+    ghost laws = { partial_order_from_own_ties (Prim.search (client_total, comparing, rules)) (Prim.search (comparing, rules)) };
+
+    fn partial_cmp(&self, other: &ByClient) -> Option<Ordering> {
+        Some(self.cmp(other))
+    }
+}
+
+impl PartialEq for ByClient {
+    ghost eq = { eq_by_cmp client_cmp };
+
+    ghost laws = { Prim.search (client_total, comparing, rules) };
+
+    fn eq(&self, other: &ByClient) -> bool {
+        self.cmp(other).is_eq()
+    }
+}
+
+impl Eq for ByClient {
+    ghost laws = { Prim.search (client_total, comparing, rules) };
+}

@@ -1,0 +1,72 @@
+-- What `explain` makes of a text that was read, or why it makes nothing.
+use Rattle.std.proofs.Common.{◌≡◌, ◌≢◌, ◌≤◌, ◌<◌, ◌+◌, ◌∙◌, ℕ, List, length, Option, Some, None, Result, Ok, Err, refl, sym, subst, ap, arith}
+use Rattle.std.specs.Prelude.{⊤, IfOk, IfErr, IfSome, OnOk}
+use Rattle.krb_name.specs.File.{TakesFile, file_limit}
+use Rattle.krb_explain.specs.Input.{read_of}
+use Rattle.krb_explain.specs.Explained.{IsExplanation}
+use Rattle.krb_explain.specs.declared.input.InputFault.{InputFault}
+use Rattle.krb_explain.specs.declared.input.InputFault.TheVariants.{NoBytes, Symbol, End, OutOfMemory}
+use Rattle.krb_file_commands.specs.Engine.{Makes}
+use Rattle.krb_file_commands.proofs.FaultLaws.{if_some_map, no_ok}
+use Rattle.krb_file_commands.proofs.ReadingLaws.{faulty, lacking}
+use Rattle.krb_service_command.specs.Explaining.{IsExplainedText, IsUnexplained, IsUnread, IsWholeText, explain_reads, explain_status}
+use Rattle.krb_service_command.specs.declared.explain_fault.ExplainFault.{ExplainFault}
+use Rattle.krb_service_command.specs.declared.explain_fault.ExplainFault.TheVariants.{Text, TooLong, Read}
+
+module _ {X : Type 0} (Holds : X → Type 0) (from to : Option (List ℕ)) (before after : ℕ) where
+  abbrev Made : Result X ExplainFault → Type 0
+  Made result = Makes Holds IsUnexplained (λ _. ⊤) explain_status explain_reads from to before after result
+
+  -- the text wasn't read
+  pub unread : (fault : ExplainFault) → IsUnread from fault → after ≡ before + explain_reads fault → TakesFile from to → Made (Err fault)
+  unread (Text input) is reads taken =
+      lacking Holds IsUnexplained (λ _. ⊤) explain_status explain_reads from to before after (Text input) (rw is refl) tt reads taken
+  unread TooLong is reads taken = faulty Holds IsUnexplained (λ _. ⊤) explain_status explain_reads from to before after TooLong is tt reads taken
+  unread Read is reads taken = lacking Holds IsUnexplained (λ _. ⊤) explain_status explain_reads from to before after Read refl tt reads taken
+
+  -- the text spells no bytes
+  met : (text : List ℕ) (fault : InputFault) → IfSome from (λ whole. IsWholeText whole text) → read_of text ≡ Err fault
+      → after ≡ before + 0 → TakesFile from to → Made (Err (Text fault))
+  met text fault whole is reads taken =
+      faulty Holds IsUnexplained (λ _. ⊤) explain_status explain_reads from to before after (Text fault)
+      (if_some_map {P = λ it. IsWholeText it text} {Q = λ it. IsUnexplained it (Text fault)} from
+      (λ it w. (subst (λ (t : List ℕ). length t ≤ file_limit) (sym w.0) w.1, subst (λ (t : List ℕ). read_of t ≡ Err fault) (sym w.0) is)) whole)
+      tt reads taken
+
+  pub unspelled : (text : List ℕ) (fault : InputFault) → IfSome from (λ whole. IsWholeText whole text) → (fault ≢ OutOfMemory → read_of text ≡ Err fault)
+      → after ≡ before + 0 → TakesFile from to → Made (Err (Text fault))
+  unspelled text NoBytes whole is reads taken = met text NoBytes whole (is (λ e. cc)) reads taken
+  unspelled text (Symbol at) whole is reads taken = met text (Symbol at) whole (is (λ e. cc)) reads taken
+  unspelled text (End at) whole is reads taken = met text (End at) whole (is (λ e. cc)) reads taken
+  unspelled text OutOfMemory whole is reads taken =
+      lacking Holds IsUnexplained (λ _. ⊤) explain_status explain_reads from to before after (Text OutOfMemory) refl tt reads taken
+
+-- a text that spells bytes has no fault
+spelled_alone : (text bytes : List ℕ) (fault : ExplainFault) → length text ≤ file_limit → read_of text ≡ Ok bytes → IsUnexplained text fault → ⊥
+spelled_alone text bytes (Text input) within spelled is = no_ok bytes input (sym spelled ∙ is.1)
+spelled_alone text bytes TooLong within spelled is = omega (arith, within, is)
+spelled_alone text bytes Read within spelled is = is
+
+none_met : (from : Option (List ℕ)) (text bytes : List ℕ) → IfSome from (λ whole. IsWholeText whole text) → read_of text ≡ Ok bytes
+    → (given : List ℕ) (fault : ExplainFault) → from ≡ Some given → IsUnexplained given fault → ⊥
+none_met from text bytes whole spelled given fault tells is =
+    let w : IsWholeText given text = subst (λ (o : Option (List ℕ)). IfSome o (λ it. IsWholeText it text)) tells whole in
+    spelled_alone text bytes fault w.1 spelled (subst (λ (t : List ℕ). IsUnexplained t fault) w.0 is)
+
+-- it is explained
+pub explained : (from to : Option (List ℕ)) (before after : ℕ) (made text bytes : List ℕ) → IfSome from (λ whole. IsWholeText whole text)
+    → read_of text ≡ Ok bytes → IsExplanation bytes made → {X : Type 0} (it : X) (items : X → List ℕ) → items it ≡ made
+    → after ≡ before + 0 → TakesFile from to
+    → Makes (λ (x : X). IfSome from (λ whole. IsExplainedText whole (items x))) IsUnexplained (λ _. ⊤) explain_status explain_reads from to before after (Ok it)
+explained from to before after made text bytes whole spelled explains it items is reads taken = record {
+  made = if_some_map {P = λ whole. IsWholeText whole text} {Q = λ whole. IsExplainedText whole (items it)} from (λ whole w. record {
+    bytes = bytes;
+    spelled = subst (λ (t : List ℕ). read_of t ≡ Ok bytes) (sym w.0) spelled;
+    explains = subst (λ (t : List ℕ). IsExplanation bytes t) (sym is) explains;
+  }) whole;
+  fault = tt;
+  faulty = λ given fault tells has. none_met from text bytes whole spelled given fault tells has;
+  allowed = tt;
+  reads = reads;
+  taken = taken;
+}

@@ -1,0 +1,57 @@
+-- What `explain` prints of a text, or why it prints nothing.
+use Rattle.std.specs.Prelude.{◌≡◌, ⊤, ℕ, ◌<◌, ◌≤◌, List, length, Option, Some, None, IfSome, Ok, Err, codes}
+use Rattle.krb_name.specs.File.{file_limit}
+use Rattle.krb_explain.specs.Explained.{IsExplanation}
+use Rattle.krb_explain.specs.Input.{read_of}
+use Rattle.krb_explain.specs.declared.input.InputFault.{InputFault}
+use Rattle.krb_explain.specs.declared.input.InputFault.TheVariants as input
+use Rattle.krb_file_commands.specs.FaultText.{FaultText}
+use Rattle.krb_service_command.specs.declared.explain_fault.ExplainFault.{ExplainFault}
+use Rattle.krb_service_command.specs.declared.explain_fault.ExplainFault.TheVariants.{Text, TooLong, Read}
+
+-- the page explains the bytes that the text spells
+pub record IsExplainedText (text page : List ℕ) : Type 0 where
+  pub bytes : List ℕ
+  pub spelled : read_of text ≡ Ok bytes
+  pub explains : IsExplanation bytes page
+
+-- a text spells no bytes, or is too long
+abbrev pub IsUnexplained : List ℕ → ExplainFault → Type 0
+IsUnexplained text (Text fault) = (length text ≤ file_limit) × (read_of text ≡ Err fault)
+IsUnexplained text TooLong = file_limit < length text
+IsUnexplained text Read = ⊥
+
+-- ---- reading it
+
+-- it was read whole
+abbrev pub IsWholeText : List ℕ → List ℕ → Type 0
+IsWholeText whole text = (whole ≡ text) × (length text ≤ file_limit)
+
+-- why it wasn't read
+abbrev pub IsUnread : Option (List ℕ) → ExplainFault → Type 0
+IsUnread from (Text fault) = fault ≡ input.OutOfMemory
+IsUnread from TooLong = IfSome from (λ whole. file_limit < length whole)
+IsUnread from Read = ⊤
+
+-- how many reads failed, by a fault
+abbrev pub explain_reads : ExplainFault → ℕ
+explain_reads Read = 1
+explain_reads _ = 0
+
+-- ---- what is printed of a fault, and the exit status
+
+abbrev pub input_text : InputFault → FaultText
+input_text input.NoBytes = (codes "NoBytes", None)
+input_text (input.Symbol at) = (codes "Symbol", Some at)
+input_text (input.End at) = (codes "End", Some at)
+input_text input.OutOfMemory = (codes "OutOfMemory", None)
+
+abbrev pub explain_text : ExplainFault → FaultText
+explain_text (Text fault) = input_text fault
+explain_text TooLong = (codes "TooLong", None)
+explain_text Read = (codes "Read", None)
+
+abbrev pub explain_status : ExplainFault → ℕ
+explain_status (Text input.OutOfMemory) = 3
+explain_status Read = 3
+explain_status _ = 1

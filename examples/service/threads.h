@@ -1,0 +1,76 @@
+/* A thread for each connection, with a time limit, and one that waits for SIGHUP. */
+#ifndef THREADS_H
+#define THREADS_H
+
+#include <pthread.h>
+#include <signal.h>
+
+#include "wire.h"
+
+/* How many seconds a peer has for each part of a message. */
+#define SECONDS 10
+
+static pthread_mutex_t one_at_a_time = PTHREAD_MUTEX_INITIALIZER;
+static void (*serve_peer)(int), (*at_hangup)(void);
+
+static inline void lock(void)
+{
+    pthread_mutex_lock(&one_at_a_time);
+}
+
+static inline void unlock(void)
+{
+    pthread_mutex_unlock(&one_at_a_time);
+}
+
+static inline void *serve_one(void *peer)
+{
+    serve_peer((int)(intptr_t)peer);
+    fflush(stdout);
+    close((int)(intptr_t)peer);
+    return NULL;
+}
+
+static inline void *wait_for_hangups(void *hangup)
+{
+    int number;
+
+    while (sigwait(hangup, &number) == 0) {
+        lock();
+        at_hangup();
+        fflush(stdout);
+        unlock();
+    }
+    return NULL;
+}
+
+/* Listens on a free port, serves so many connections, each in a thread of its own, and ends when all have ended. */
+static inline void serve_each(int count, void (*serve)(int), void (*hung_up)(void))
+{
+    static sigset_t hangup;
+    pthread_t waiting, *threads = calloc((size_t)count + 1, sizeof *threads);
+    int at, peer, listener;
+
+    /* A peer that hangs up doesn't end the service. */
+    signal(SIGPIPE, SIG_IGN);
+    serve_peer = serve;
+    at_hangup = hung_up;
+    sigemptyset(&hangup);
+    sigaddset(&hangup, SIGHUP);
+    if (threads == NULL || pthread_sigmask(SIG_BLOCK, &hangup, NULL) != 0 || pthread_create(&waiting, NULL, wait_for_hangups, &hangup) != 0)
+        give_up("threads");
+    listener = listen_on_any();
+    for (at = 0; at < count; at++) {
+        peer = accept_from(listener);
+        limit_time(peer, SECONDS);
+        if (pthread_create(&threads[at], NULL, serve_one, (void *)(intptr_t)peer) != 0)
+            give_up("thread");
+    }
+    for (at = 0; at < count; at++)
+        pthread_join(threads[at], NULL);
+    pthread_cancel(waiting);
+    pthread_join(waiting, NULL);
+    free(threads);
+}
+
+#endif

@@ -1,0 +1,66 @@
+/* The heap of the library for C and of krbtool: what the proved code calls to allocate and to free, over malloc and free. It stands in for the
+ * toolchain's file of these functions, and overwrites each block before it is freed or moved.
+ *
+ * The size of a block stands before it, so nothing is asked of malloc but what C says: any allocator will do. A block that grows is moved by
+ * hand, since realloc may leave a copy behind. */
+#include <stdbool.h>
+#include <stdint.h>
+#include <stdlib.h>
+#include <string.h>
+
+#include "wipe.h"
+
+/* The proved code asks for alignments up to 16, which malloc has too. */
+#define HEAD 16
+
+/* What the proved code gets: whether there was memory, and the block. Without memory it is some address. */
+struct tried {
+    bool ok;
+    uint8_t *block;
+};
+
+struct tried rattle_alloc(size_t size, size_t alignment);
+struct tried rattle_realloc(uint8_t *block, size_t kept, size_t size, size_t alignment);
+void rattle_dealloc(uint8_t *block);
+
+static uint8_t nothing;
+
+static size_t *size_of(uint8_t *block)
+{
+    return (size_t *)(void *)(block - HEAD);
+}
+
+struct tried rattle_alloc(size_t size, size_t alignment)
+{
+    struct tried tried = {false, &nothing};
+    size_t room = size > 0 ? size : alignment;
+    uint8_t *start = malloc(HEAD + room);
+
+    if (start != NULL) {
+        tried.ok = true;
+        tried.block = start + HEAD;
+        *size_of(tried.block) = room;
+    }
+    return tried;
+}
+
+void rattle_dealloc(uint8_t *block)
+{
+    wipe(block, *size_of(block));
+    free(block - HEAD);
+}
+
+/* Makes a block one of another size, with its first `kept` bytes. Without memory it is as it was. */
+struct tried rattle_realloc(uint8_t *block, size_t kept, size_t size, size_t alignment)
+{
+    struct tried tried = {true, block};
+
+    if (size > 0 && size <= *size_of(block))
+        return tried;
+    tried = rattle_alloc(size, alignment);
+    if (tried.ok) {
+        memcpy(tried.block, block, kept);
+        rattle_dealloc(block);
+    }
+    return tried;
+}

@@ -1,0 +1,317 @@
+"""One call for a login: the service's side."""
+from __future__ import annotations
+
+import ctypes
+import os
+from collections.abc import Iterable
+from ctypes import byref
+from dataclasses import dataclass, field
+from typing import Any
+
+from . import _interface
+from ._accepted import Known, known_by
+from ._codes import Code
+from ._errors import Fault
+from ._files import Keytab, kvnos_of
+from ._interface import Answer
+from ._library import Bytes, Handle, Secret, done, fault_of, library, octets, read, text_of
+from ._service import Refused, Serving, options_of
+from ._shown import fit_for_a_line
+from ._tokens import GoOn, bindings_of
+from ._values import CONFOUNDER, Key, When, clock
+
+_IGNORED, _IF_SENT, _REQUIRED = range(3)
+# How many bytes of a key each type has.
+_KEYS = {None: 0, 19: 16, 20: 32}
+# The buffer for an answer: enough, but for very long names.
+_ROOM = 1024
+# The call wasn't made as it should be, so nothing was decided.
+_MISUSE = (Code.EMPTY_HANDLE, Code.BAD_MOMENT, Code.BAD_RANDOM)
+
+
+@dataclass(frozen=True)
+class Asked:
+    """What a request asks for. Nothing of this is sealed, so it is fit for a log, and proves nothing.
+
+    name    the service that its ticket is for, as ``host/web@EX``
+    etype   the encryption type that the ticket is sealed with
+    kvno    the version number of the key that the ticket is sealed with, or None
+    mutual  whether the client asks for a reply
+
+    >>> print(Asked("HTTP/www@EX", 20, 5, True))
+    ticket for HTTP/www@EX, etype 20, kvno 5
+    """
+
+    name: str
+    etype: int
+    kvno: int | None
+    mutual: bool
+
+    @classmethod
+    def read(cls, request: Bytes) -> Asked | None:
+        """Read what a request asks for, without any key. Returns None for bytes that aren't a request.
+
+        >>> from fevstunik import Asked
+        >>> Asked.read(bytes.fromhex(open("examples/calls.txt").readline().split()[2]))
+        Asked(name='host/web@EX', etype=19, kvno=3, mutual=False)
+        """
+        request = octets(request)
+        return _asked(lambda *into: library().call("request_asks", request, len(request), *into))
+
+    def __str__(self) -> str:
+        kvno = "" if self.kvno is None else f", kvno {self.kvno}"
+        return f"ticket for {fit_for_a_line(self.name)}, etype {self.etype}{kvno}"
+
+
+def _asked(call: Any) -> Asked | None:
+    try:
+        found, data = read(_interface.Asked, call)
+    except Fault as fault:
+        # (if memory runs out, there may be no login to ask)
+        if fault.code in (Code.NOTHING_THERE, Code.EMPTY_HANDLE):
+            return None
+        raise
+    return Asked(found.service.text(data), found.etype, found.kvno if found.has_kvno else None, found.wants_reply)
+
+
+@dataclass(frozen=True, kw_only=True)
+class Login(Known):
+    """A client that is let in.
+
+    client          the client, as ``alice@EX``
+    reply           the bytes to send to the client; none if they are empty
+    service_subkey  the key that the reply sends, if the service was made with `subkey`, and the client asks for a reply; else None
+    service         the service that was asked for, as ``host/web@EX``
+    time            the client's time
+    authtime        when the client was authenticated, in seconds
+    starttime       when the ticket becomes valid, in seconds, or None if the ticket doesn't say: then from authtime on
+    endtime         when the ticket expires, in seconds
+    flags           the ticket's flags
+    session_key     the key that client and service share
+    subkey          the key that the client chose, or None; of any type and length
+    seq             the client's first sequence number, or None
+    wants_reply     whether the client asks for a reply
+    client_type     the type of the client's name
+    service_type    the type of the service's name, as the ticket has it
+
+    It is a context manager. At the end of the block, or by close(), the library frees what it holds. Then stamp raises the Fault
+    EMPTY_HANDLE, and so do addresses, authorization, authenticator_authorization, checksum and context, unless they were read before.
+
+    >>> from fevstunik import Client, CredentialCache, Keytab, Service
+    >>> service = Service(Keytab.read("examples/service.keytab"), "host/web@EX", first_life=True)
+    >>> client = Client(CredentialCache.read("examples/client.ccache"), "host/web@EX")
+    >>> login = service.answer(client.first(now=1_700_000_100), now=1_700_000_100)
+    >>> login.client, client.finish(login.reply).client
+    ('alice@EX', 'alice@EX')
+    """
+
+    reply: bytes = field(repr=False)
+    service_subkey: Key | None
+
+
+class Connection(Secret):
+    """A client's login over its rounds, as Service.login returns it. Each client has one of its own.
+
+    >>> from fevstunik import GoOn, Keytab, Service
+    >>> connection = Service(Keytab.read("examples/service.keytab"), "host/web@EX", first_life=True).login()
+    >>> isinstance(connection.answer(bytes.fromhex("601b06062b0601050502a011300fa00d300b06092a864886f712010202")), GoOn)
+    True
+    """
+
+    def __init__(self, service: Service) -> None:
+        self._service, self._handle, self._over = service, _LoginHandle(), False
+
+    def answer(self, data: Bytes, now: When | None = None) -> Login | GoOn | Refused:
+        """Answer the client's next bytes, as Service.answer does. After GoOn, call it again with the client's next token.
+
+        After a Login or a Refused the login is over, and other bytes are refused with NEGOTIATION_OVER.
+
+        >>> from fevstunik import Keytab, Service
+        >>> connection = Service(Keytab.read("examples/service.keytab"), "host/web@EX", first_life=True).login()
+        >>> print(connection.answer(b"hello"))
+        NOT_A_TOKEN: the first byte isn't that of a token
+        >>> print(connection.answer(b"hello"))
+        NEGOTIATION_OVER: the negotiation is over: it has taken a request, or refused a token
+        """
+        data = octets(data)
+        with self._handle.locked():
+            if self._over:
+                return Refused(Code.NEGOTIATION_OVER)
+            random = os.urandom(CONFOUNDER + _KEYS[self._service._subkey])
+            answer, reply = self._answer(data, now, random)
+            self._over = answer.code != Code.GO_ON
+            return self._decision(answer, reply, random)
+
+    def _answer(self, data: bytes, now: When | None, random: bytes) -> tuple[Answer, bytes]:
+        """What the service decides, and the bytes that go back."""
+        buffer, serving = ctypes.create_string_buffer(_ROOM), self._service._handle
+        with serving.locked():
+            # (the clock is read with the lock: otherwise an earlier moment could come after a later one)
+            at = clock(now)
+            answer = serving.call(
+                "service_answer", self._handle.pointer, data, len(data), byref(at), random, len(random), buffer, _ROOM)
+        if answer.code == Code.SHORT_BUFFER:
+            buffer = ctypes.create_string_buffer(answer.size)
+            answer = self._handle.call("login_answer", buffer, answer.size)
+        if answer.code in _MISUSE:
+            raise fault_of(answer)
+        return answer, ctypes.string_at(buffer, answer.size)
+
+    def _decision(self, answer: Answer, reply: bytes, random: bytes) -> Login | GoOn | Refused:
+        if answer.code == Code.GO_ON:
+            return GoOn(reply)
+        if answer.code != Code.OK:
+            asked, held = self._for_a_log(answer.code)
+            self._handle.close()
+            return Refused(answer.code, answer.kerberos, answer.at, reply=reply, asked=asked, held=held)
+        try:
+            known, kind = known_by(self._handle, self._service._skew), self._service._subkey
+        except MemoryError:
+            self._handle.close()
+            return Refused(Code.OUT_OF_MEMORY)
+        sent = None if kind is None or not known["wants_reply"] else Key(kind, random[CONFOUNDER:])
+        return Login(**known, reply=reply, service_subkey=sent)
+
+    def _for_a_log(self, code: int) -> tuple[Asked | None, tuple[int, ...]]:
+        """What a refused request asked for, and which version numbers the keytab has, if there is memory for it."""
+        try:
+            asked = _asked(lambda *into: self._handle.call("login_asked", *into))
+            return asked, self._service._held(asked) if code == Code.BAD_KEY_VERSION else ()
+        except MemoryError:
+            return None, ()
+
+
+class _LoginHandle(Handle):
+    """The handle of a login, whose first member is that of what was accepted."""
+
+    def __init__(self) -> None:
+        super().__init__("login", _interface.LoginHandle)
+
+    def call(self, name: str, *words: Any) -> Any:
+        with self.locked():
+            first = byref(self._opaque.accepted) if name.startswith("accepted_") else self.pointer
+            return self.library.call(name, first, *words)
+
+
+class Service(Serving):
+    """A service that lets clients in, or says why not. Unlike an Acceptor, it takes what a client sends as it is, and makes what goes back.
+
+    keytab      its keys
+    service     the name that is served, as ``host/web@EX``, or None for each name of the keytab, as for Acceptor
+    skew        by how many seconds clocks may differ
+    started     the service's clock at this start, as time.time(); or
+    first_life  True if every key of the keytab is new: Acceptor says what both mean
+    limit, limit_for_client
+                the most requests that it remembers, as for Acceptor
+    bindings    the bindings of the channel, as tls_server_end_point returns them; None looks at no client's
+    bindings_required
+                whether each client must send these bindings. Otherwise one that sends none is let in, but none that sends others
+    anonymous   whether anonymous clients are let in (RFC 8062)
+    realms      the realms of which clients are let in, as ["EX"], or None for any: a KDC checked the realms between
+    subkey      19 or 20 to send a new key of this type with each reply, or None. Those who go on to seal messages want one
+
+    A client that breaks these terms is Refused with ANONYMOUS_CLIENT, FOREIGN_REALM or CHANNEL_BINDINGS.
+
+    Make one and keep it. Any thread may call it, for any number of clients at once. A lock lets one decision run at a time. A Service belongs to
+    the process that made it: after a fork, the child's calls raise RuntimeError.
+
+    It is a context manager. At the end of the block, or by close(), the library frees what it holds. Then calls raise the Fault
+    EMPTY_HANDLE, and `remembered` is 0.
+
+    >>> import time
+    >>> from fevstunik import Keytab, Service
+    >>> with Service(Keytab.read("examples/service.keytab"), "host/web@EX", started=time.time(), realms=["EX"]) as service:
+    ...     print(service.answer(b"hello"))
+    NOT_A_TOKEN: the first byte isn't that of a token
+    """
+
+    def __init__(self, keytab: Keytab, service: str | None, skew: int = 300, *, started: When | None = None, first_life: bool = False,
+                 limit: int | None = None, limit_for_client: int | None = None, bindings: Bytes | None = None,
+                 bindings_required: bool = False, anonymous: bool = False, realms: Iterable[str] | None = None,
+                 subkey: int | None = None) -> None:
+        options = options_of(service, skew, started, first_life, (limit, limit_for_client))
+        _bind(options, bindings, _flag("bindings_required", bindings_required))
+        if subkey not in _KEYS or isinstance(subkey, bool):
+            raise ValueError(f"subkeys are of type 19 or 20, not {subkey!r}")
+        if isinstance(realms, (str, bytes)):
+            raise TypeError("realms are a list of texts")
+        listed = None if realms is None else [text_of(it) for it in realms]
+        options.anonymous, options.only_realms = _flag("anonymous", anonymous), listed is not None
+        options.subkey_type = subkey or 0
+        super().__init__(keytab, service, skew, options)
+        self._subkey, self._keytab = subkey, keytab
+        self._kvnos: tuple[Keytab, dict[tuple[str, int], list[int]]] | None = None
+        for realm in listed or []:
+            done(self._handle.call("acceptor_add_realm", realm, len(realm)))
+
+    def answer(self, data: Bytes, now: When | None = None) -> Login | GoOn | Refused:
+        """Answer what a client sent: a request, a Kerberos token or a token of a negotiation. The first bytes say which it is.
+
+        data  what the client sent, whatever it is
+        now   the service's clock: the machine's clock by default. Time doesn't go back: the latest moment given so far is the one that counts
+
+        Returns a Login, a GoOn or a Refused (it isn't raised); each has the bytes to send back in `reply`, which may be empty. Only a Login is
+        true. A GoOn says that the client has
+        sent no request yet: to take its next token, too, use login(). If memory runs out, the client is Refused with OUT_OF_MEMORY.
+
+        >>> from fevstunik import Keytab, Service
+        >>> request = bytes.fromhex(open("examples/calls.txt").readline().split()[2])
+        >>> service = Service(Keytab.read("examples/service.keytab"), "host/web@EX", first_life=True)
+        >>> service.answer(request, now=1_700_000_100).client
+        'alice@EX'
+        >>> print(service.answer(request, now=1_700_000_100))
+        REPEAT: a request of this service, client and time was seen before (ticket for host/web@EX, etype 19, kvno 3)
+        """
+        return self.login().answer(data, now)
+
+    def login(self) -> Connection:
+        """Return the login of one client, which may take several rounds.
+
+        >>> from fevstunik import Keytab, Service
+        >>> service = Service(Keytab.read("examples/service.keytab"), "host/web@EX", first_life=True)
+        >>> first, second = service.login(), service.login()
+        >>> first.answer(bytes.fromhex("601b06062b0601050502a011300fa00d300b06092a864886f712010202"))
+        GoOn(reply=<22 bytes>)
+        >>> print(second.answer(b"hello"))
+        NOT_A_TOKEN: the first byte isn't that of a token
+        """
+        return Connection(self)
+
+    def replace_keytab(self, keytab: Keytab, service: str | None) -> None:
+        """Take another keytab, as Acceptor.replace_keytab does. The terms stay.
+
+        >>> from fevstunik import Keytab, Service
+        >>> service = Service(Keytab(bytes.fromhex("0502")), "host/web@EX", first_life=True)
+        >>> service.replace_keytab(Keytab.read("examples/service.keytab"), "host/web@EX")
+        >>> request = bytes.fromhex(open("examples/calls.txt").readline().split()[2])
+        >>> service.answer(request, now=1_700_000_100).client
+        'alice@EX'
+        """
+        super().replace_keytab(keytab, service)
+        self._keytab = keytab
+
+    def _held(self, asked: Asked | None) -> tuple[int, ...]:
+        """The version numbers of the keys that the keytab has for a ticket's service and encryption type. Nobody needs them but to find a
+        fault, so they are read when it is there."""
+        keytab, kvnos = self._keytab, self._kvnos
+        if asked is None:
+            return ()
+        if kvnos is None or kvnos[0] is not keytab:
+            self._kvnos = kvnos = keytab, kvnos_of(keytab)
+        return tuple(kvnos[1].get((asked.name, asked.etype), ()))
+
+
+def _bind(options: _interface.AcceptorOptions, bindings: Bytes | None, required: bool) -> None:
+    """Write to the options which bindings a client has to send."""
+    if bindings is None:
+        if required:
+            raise ValueError("bindings_required needs the bindings")
+        return
+    options.bindings = _REQUIRED if required else _IF_SENT
+    options.bindings_hash = type(options.bindings_hash)(*bindings_of(bindings))
+
+
+def _flag(name: str, value: bool) -> bool:
+    if not isinstance(value, bool):
+        raise TypeError(f"{name} is a bool, not {value!r}")
+    return value

@@ -1,0 +1,146 @@
+/* What a service holds: how many bytes for each request, and how much at most while one client sends as many requests as it can. The
+ * arguments are the files of the keytab and of two clients' caches. It is linked with --wrap=malloc, --wrap=realloc and --wrap=free. Each line
+ * of output that begins with `wrong` is one. */
+#include "asked.h"
+#include "checks.h"
+
+/* In front of each piece: its size. */
+#define HEAD 16
+
+void *__real_malloc(size_t size);
+void *__real_realloc(void *at, size_t size);
+void __real_free(void *at);
+void *__wrap_malloc(size_t size);
+void *__wrap_realloc(void *at, size_t size);
+void __wrap_free(void *at);
+
+static size_t held = 0;
+
+static void *sized(uint8_t *at, size_t size)
+{
+    if (at == NULL)
+        return NULL;
+    memcpy(at, &size, sizeof size);
+    held += size;
+    return at + HEAD;
+}
+
+static uint8_t *head(uint8_t *at)
+{
+    size_t size;
+
+    memcpy(&size, at - HEAD, sizeof size);
+    held -= size;
+    return at - HEAD;
+}
+
+void *__wrap_malloc(size_t size)
+{
+    return sized(__real_malloc(size + HEAD), size);
+}
+
+void *__wrap_realloc(void *at, size_t size)
+{
+    return sized(__real_realloc(at == NULL ? NULL : head(at), size + HEAD), size);
+}
+
+void __wrap_free(void *at)
+{
+    if (at != NULL)
+        __real_free(head(at));
+}
+
+static struct bytes keytab;
+static struct client clients[2];
+static fevstunik_acceptor service;
+
+static void make(size_t limit, size_t limit_for_client)
+{
+    fevstunik_acceptor_options options = {.size = sizeof options, .skew = 300, .restarts = FEVSTUNIK_RESTART_FIRST_LIFE, .limit = limit,
+                                          .limit_for_client = limit_for_client};
+
+    is("service", fevstunik_acceptor_new(&service, keytab.at, keytab.size, WEB, &options).code, FEVSTUNIK_OK);
+}
+
+/* At most 40 bytes for a request of known names, and 240 for the first of a client. */
+static void sizes(long requests)
+{
+    size_t before, first;
+    long at;
+
+    /* (what the handles of the clients hold doesn't change any more after their first request) */
+    make(0, 0);
+    (void)sent(&clients[1], &service, START, 0, START);
+    make(2000000, 2000000);
+    (void)sent(&clients[0], &service, START, 0, START);
+    before = held;
+    is("another client", sent(&clients[1], &service, START, 0, START), FEVSTUNIK_OK);
+    (void)sent(&clients[0], &service, START, 1, START);
+    first = held - before;
+    is("bytes of a client's first request", first <= 240 + 40, 1);
+    before = held;
+    for (at = 0; at < requests; at++)
+        if (sent(&clients[0], &service, START + at / 1000 % 300, (uint32_t)(2 + at % 1000 + at / 300000 * 1000), START) != FEVSTUNIK_OK)
+            is("a request", at, -1);
+    is("remembered", (long long)fevstunik_acceptor_count(&service), requests + 3);
+    is("bytes for each", held - before <= 40 * (size_t)requests, 1);
+    is("all expire", sent(&clients[1], &service, START + 1000, 0, START + 1000), FEVSTUNIK_OK);
+    is("one is left", (long long)fevstunik_acceptor_count(&service), 1);
+    for (at = 0; at < requests / 10; at++)
+        (void)sent(&clients[1], &service, START + 1000, (uint32_t)at + 1, START + 1000);
+    is("what expired is freed", held - before <= 40 * (size_t)requests / 5, 1);
+}
+
+/* How much the process held at most, in KiB, or 0. (What getrusage says includes the process that this one was forked from.) */
+static long peak(void)
+{
+    FILE *status = fopen("/proc/self/status", "r");
+    char line[256];
+    long found = 0;
+
+    while (status != NULL && fgets(line, sizeof line, status) != NULL)
+        if (strncmp(line, "VmHWM:", 6) == 0)
+            found = strtol(line + 6, NULL, 10);
+    if (status != NULL)
+        fclose(status);
+    return found;
+}
+
+/* One client sends so many requests a microsecond apart, of times up to the skew ahead. Another one logs in throughout. */
+static void attack(long requests)
+{
+    size_t most = 0;
+    long at, accepted = 0, refused = 0;
+
+    make(0, 0);
+    for (at = 0; at < requests; at++) {
+        unsigned code = sent(&clients[0], &service, START + 299, (uint32_t)(at + 1000000 - requests), START);
+
+        accepted += code == FEVSTUNIK_OK;
+        refused += code == FEVSTUNIK_FULL;
+        most = held > most ? held : most;
+        if (at % 1000 == 0 && sent(&clients[1], &service, START, (uint32_t)at, START) != FEVSTUNIK_OK)
+            is("the other client", at, -1);
+    }
+    is("accepted", accepted, 100000);
+    is("refused", refused, requests - 100000);
+    is("bytes", most < 64 << 20, 1);
+    is("the process", peak() > 0 && peak() < 64 << 10, 1);
+}
+
+int main(int count, char **words)
+{
+    if (count != 6)
+        return 2;
+    from_file(&keytab, words[1]);
+    ready(&clients[0], words[2]);
+    ready(&clients[1], words[3]);
+    attack(atol(words[4]));
+    sizes(atol(words[5]));
+    fevstunik_acceptor_free(&service);
+    done_with(&clients[0]);
+    done_with(&clients[1]);
+    is("all is freed", (long long)held, 0);
+    printf("%d passed, %d failed\n", passed, failed);
+    return failed > 0;
+}

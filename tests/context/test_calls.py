@@ -1,0 +1,13 @@
+"""Calls of per-message tokens: stored tokens of MIT krb5, and those that a model draws."""
+import pytest
+
+from support import calls, context
+
+
+@pytest.mark.parametrize("case", calls.stored("context"), ids=calls.title)
+def test_call(case, checks):
+    checks.all(calls.answered([case]))
+
+
+def test_drawn(checks):
+    checks.all(calls.answered(context.drawn(), checks.word))

@@ -1,0 +1,196 @@
+"""The client's side by one object: each form of an answer, refusals, and channel bindings of TLS."""
+import pickle
+import ssl
+import subprocess
+
+import pytest
+
+from fevstunik import (
+    Acceptor, Client, Code, ContextFlags, CredentialCache, Fault, Keytab, KrbError, Mechanism, Moment, Refused, Says,
+    ServiceError, Token, Verdict, login, tls_server_end_point)
+
+from support import c_cases, der, fixture
+
+NAME, NOW = "host/web@EX", 1_700_000_100
+# How the first bytes are wrapped: in a negotiation, in a token of Kerberos, or not at all.
+FORMS = {"negotiation": {}, "token": {"negotiated": False}, "bare": {"context": None}}
+forms = pytest.mark.parametrize("words", FORMS.values(), ids=FORMS)
+
+
+@pytest.fixture
+def cache():
+    with CredentialCache(fixture.cache()) as made:
+        yield made
+
+
+@pytest.fixture
+def service():
+    with Acceptor(Keytab(fixture.keytab()), NAME, first_life=True) as made:
+        yield made
+
+
+def opened(token):
+    """The request in a client's first bytes, and what wraps a reply and an error as those bytes are."""
+    if token[:1] == b"\x6e":
+        return token, bytes, bytes
+    held = Token.open(token)
+    return held.request, held.reply, held.error
+
+
+@forms
+def test_a_login(cache, service, words):
+    with Client(cache, NAME, **words) as client:
+        request, reply, _ = opened(client.first(now=NOW))
+        accepted = service.accept(request, NOW)
+        agreed = client.finish(reply(accepted.reply(seq=7)))
+    assert (agreed.client, agreed.session_key, agreed.service_seq) == ("alice@EX", accepted.session_key, 7)
+    assert accepted.wants_reply and (accepted.context is None) == ("context" in words)
+    with pytest.raises(RuntimeError):
+        client.finish(b"")
+
+
+@pytest.mark.parametrize("answered", FORMS.values(), ids=FORMS)
+@forms
+def test_each_form_of_an_answer_is_read(cache, service, words, answered):
+    """Also if a service answers in another form than it was asked."""
+    client = Client(cache, NAME, **words)
+    request = opened(client.first(now=NOW))[0]
+    _, reply, error = opened(Client(cache, NAME, **answered).first(now=NOW + 1))
+    assert client.finish(reply(service.accept(request, NOW).reply())).client == "alice@EX"
+    with pytest.raises(ServiceError) as raised:
+        client.finish(error(Refused(Code.SKEW).error(NAME, now=NOW + 400)))
+    assert raised.value.error == KrbError(37, Moment(NOW + 400), NAME)
+    assert raised.value.clock_offset == 400
+    assert str(raised.value) == "host/web@EX refused the request: KRB_AP_ERR_SKEW; its clock is 400 seconds ahead"
+
+
+@pytest.mark.parametrize("says", [None, *Says])
+def test_answers_without_a_proof(cache, service, says):
+    """The client asked for a reply, so it believes nothing else. The reply may still come."""
+    client = Client(cache, NAME)
+    request, reply, _ = opened(client.first(now=NOW))
+    mechanism = Mechanism.KERBEROS if says == Says.INCOMPLETE else None
+    with pytest.raises(ServiceError) as raised:
+        client.finish(b"" if says is None else Verdict(says, mechanism).token())
+    assert (raised.value.error, raised.value.says, raised.value.clock_offset) == (None, says, None)
+    assert client.finish(reply(service.accept(request, NOW).reply())).client == "alice@EX"
+
+
+@pytest.mark.parametrize("answer", [b"\0", b"HTTP", b"\x6f", b"\x7e", b"\x60\x00", b"\xa1\x00", fixture.reply(),
+                                    bytes(2_000_000)])
+def test_what_is_no_answer(cache, answer):
+    client = Client(cache, NAME)
+    client.first(now=NOW + 1)
+    with pytest.raises(Fault):
+        client.finish(answer)
+
+
+def test_the_reply_to_another_request(cache, service):
+    client = Client(cache, NAME)
+    first = opened(client.first(now=NOW))
+    second = opened(client.first(now=NOW + 1))
+    with pytest.raises(Fault, match="REPLY_MISMATCH"):
+        client.finish(first[1](service.accept(first[0], NOW).reply()))
+    assert client.finish(second[1](service.accept(second[0], NOW).reply())).client == "alice@EX"
+
+
+def test_nothing_was_sent(cache):
+    client = Client(cache, NAME)
+    with pytest.raises(RuntimeError, match="first"):
+        client.finish(fixture.reply())
+    client.close()
+    with pytest.raises(Fault, match="NO_CREDENTIAL"):
+        Client(cache, "host/mail@EX").first(now=NOW)
+    with pytest.raises(Fault, match="CREDENTIAL_EXPIRED"):
+        Client(cache, NAME).first()
+    cache.close()
+    with pytest.raises(Fault, match="EMPTY_HANDLE"):
+        client.first(now=NOW)
+
+
+def test_bindings_of_a_client(cache, service):
+    bindings = tls_server_end_point(bytes.fromhex("3014 3000 300d 06092a864886f70d01010c 0500 030100"))
+    accepted = service.accept(opened(Client(cache, NAME, bindings=bindings).first(now=NOW))[0], NOW)
+    assert accepted.context.is_bound_to(bindings) and not accepted.context.is_bound_to(bindings[:-1])
+    with pytest.raises(ValueError):
+        Client(cache, NAME, bindings=bindings, context=None).first(now=NOW)
+
+
+def test_an_error_of_a_hostile_service(cache):
+    """What it names can't begin a line of a log, nor colour a terminal, nor fill a disk."""
+    client = Client(cache, NAME)
+    client.first(now=NOW)
+    hostile = der.error(77, NOW, 7, b"EX", der.name(3, b"host\n\x1b[31mroot logged in", b"x" * 100_000))
+    with pytest.raises(ServiceError) as raised:
+        client.finish(hostile)
+    text = str(raised.value)
+    assert text.isprintable() and len(text) < 400 and text.endswith("refused the request: error 77")
+    assert raised.value.error.name == "error 77"
+
+
+def test_errors_are_kept_for_later():
+    error = ServiceError(KrbError(37, Moment(NOW), NAME), -3.5)
+    again = pickle.loads(pickle.dumps(error))
+    assert (again.error, again.clock_offset, str(again)) == (error.error, -3.5, str(error))
+
+
+@forms
+def test_login_by_each_form(cache, service, words):
+    sent = []
+
+    def send(token):
+        request, reply, error = opened(token)
+        sent.append(request)
+        try:
+            return reply(service.accept(request, NOW).reply())
+        except Refused as refused:
+            return error(refused.error(NAME, now=NOW))
+    assert login(cache, NAME, send, now=NOW + 400, adjust_clock=True, **words).client == "alice@EX"
+    assert len(sent) == 2
+
+
+def test_a_client_of_another_thread_of_its_cache(cache, service):
+    """Two clients over one cache don't meet."""
+    clients = [Client(cache, NAME, context=ContextFlags(0)) for _ in range(20)]
+    tokens = [opened(it.first(now=NOW + at)) for at, it in enumerate(clients)]
+    for client, (request, reply, _) in reversed(list(zip(clients, tokens))):
+        assert client.finish(reply(service.accept(request, NOW).reply())).client == "alice@EX"
+
+
+# ---------------------------------------------------------------- tls-server-end-point (RFC 5929, section 4)
+
+RSA, EC = ["rsa:2048"], ["ec", "-pkeyopt", "ec_paramgen_curve:P-256"]
+PSS = ["-sigopt", "rsa_padding_mode:pss", "-sigopt", "rsa_pss_saltlen:20"]
+
+
+@pytest.mark.parametrize("key, words, hash_name", [
+    (RSA, ["-md5"], "sha256"), (RSA, ["-sha1"], "sha256"), (RSA, ["-sha224"], "sha224"), (RSA, ["-sha256"], "sha256"),
+    (RSA, ["-sha384"], "sha384"), (RSA, ["-sha512"], "sha512"), (RSA, ["-sha512-256"], "sha512-256"),
+    (EC, ["-sha1"], "sha256"), (EC, ["-sha224"], "sha224"), (EC, ["-sha256"], "sha256"), (EC, ["-sha384"], "sha384"),
+    (EC, ["-sha512"], "sha512"),
+    (RSA, ["-sha384", *PSS], "sha384"), (RSA, ["-sha1", *PSS], "sha256"), (["ed25519"], [], None)],
+    ids=lambda it: "-".join(it).strip("-") if isinstance(it, list) else str(it))
+def test_bindings_of_certificates(tmp_path, key, words, hash_name):
+    """A certificate that openssl signs is hashed as openssl hashes it."""
+    subprocess.run(["openssl", "req", "-x509", "-newkey", *key, "-nodes", "-keyout", tmp_path / "key", "-subj", "/CN=x",
+                    "-out", tmp_path / "pem", *words], check=True, capture_output=True)
+    certificate = ssl.PEM_cert_to_DER_cert((tmp_path / "pem").read_text())
+    if hash_name is None:
+        with pytest.raises(ValueError, match="isn't signed with one hash"):
+            tls_server_end_point(certificate)
+        return
+    (tmp_path / "der").write_bytes(certificate)
+    digest = subprocess.run(["openssl", "dgst", f"-{hash_name}", "-binary", tmp_path / "der"], check=True,
+                            capture_output=True).stdout
+    assert tls_server_end_point(certificate) == b"tls-server-end-point:" + digest
+
+
+def test_what_is_no_certificate():
+    whole = bytes.fromhex("3014 3000 300d 06092a864886f70d01010c 0500 030100")
+    for size in range(len(whole)):
+        with pytest.raises(ValueError):
+            tls_server_end_point(whole[:size])
+    for wrong in (whole + b"\0", c_cases.ticket(), b"-----BEGIN CERTIFICATE-----", bytes(100), b"\x30\xff" + bytes(300),
+                  b"\x30\x84" + b"\xff" * 4):
+        with pytest.raises(ValueError):
+            tls_server_end_point(wrong)

@@ -1,0 +1,75 @@
+"""No jump and no address depends on a key or on a plain text, except those below. valgrind looks at the machine code of
+each build, while it takes keys and plain texts for memory that was never written (timed.c)."""
+import xml.etree.ElementTree as ElementTree
+from collections import Counter
+
+import pytest
+
+from support.builds import CPUS
+from support.c_programs import run
+
+JUMP, ADDRESS = "UninitCondition", "UninitValue"
+# The jumps: how often the run makes each. What it decides is the answer, or which keys are derived again.
+JUMPS = {
+    # whether a key is the one that a handle keeps: two keys if a request is accepted, and one if a request is made; all
+    # bytes are compared before the jump
+    "krb_enc::usage_key::UsageKey::is_for": 6,
+    # whether the checksum is the tag
+    "proved_checksum_check": 2,
+}
+# The addresses: the build for every x86-64 has no instruction that permutes bytes, so it looks them up in tables.
+TABLES = {
+    "krb_aes::expansion::sub_word",
+    "krb_aes::lanes::decrypt_four_blocks",
+    "krb_aes::schedule::KeySchedule::decrypt_block",
+    "krb_aes::schedule::KeySchedule::encrypt_block",
+    "krb_cts::after_first::decrypt_two_after",
+    "krb_enc::key::Key::for_usage",
+}
+STEPS = 34
+
+
+def dependences(build, room, over=None):
+    """How often a jump or an address depends on a secret, by its kind and by the function that it is in."""
+    program, report = build.linked("timed", room / "timed", over=over), room / "report.xml"
+    ran = run("valgrind", "-q", "--error-limit=no", "--xml=yes", f"--xml-file={report}", program, room)
+    assert ran.returncode == 0 and len(ran.stdout.splitlines()) == STEPS, ran.stdout + ran.stderr
+    report = ElementTree.parse(report)
+    counts = {it.findtext("unique"): int(it.findtext("count")) for it in report.iterfind("errorcounts/pair")}
+    found = Counter()
+    for it in report.iterfind("error"):
+        found[it.findtext("kind"), it.find("stack/frame").findtext("fn")] += counts[it.findtext("unique")]
+    return found
+
+
+@pytest.mark.parametrize("cpu", CPUS)
+def test_time_depends_on_no_secret(built, room, cpu):
+    found = dependences(built[cpu], room)
+    assert {name: count for (kind, name), count in found.items() if kind == JUMP} == JUMPS
+    tables = {name for kind, name in found if kind == ADDRESS}
+    assert tables == (TABLES if cpu == "x86-64" else set())
+    assert {kind for kind, _ in found} <= {JUMP, ADDRESS}
+
+
+BRANCH = """    if (key_size > 0 && key[0] == 7)
+        __asm__ volatile("nop");
+    fevstunik_answer answer = proved_seal("""
+CHECKS = "".join(("    fevstunik_answer answer = ",
+                  "proved_checksum_check(key_type, key, key_size, usage, text, text_size, tag, tag_size);\n"))
+ENDS_EARLY = """    uint8_t sum[24];
+    size_t at = 0;
+    fevstunik_answer answer = proved_checksum(key_type, key, key_size, usage, text, text_size, sum, sizeof sum);
+
+    while (at < tag_size && sum[at] == tag[at])
+        at++;
+    answer.code = at == tag_size ? FEVSTUNIK_OK : FEVSTUNIK_TEXT_INTEGRITY;
+"""
+
+
+@pytest.mark.parametrize("old, new, function", [
+    ("    fevstunik_answer answer = proved_seal(", BRANCH, "fevstunik_seal"),
+    (CHECKS, ENDS_EARLY, "fevstunik_checksum_check"),
+], ids=["a branch on a byte of a key", "a comparison that ends early"])
+def test_a_dependence_is_noticed(built, room, old, new, function):
+    build = built["x86-64-v2"]
+    assert dependences(build, room, build.planted(room, "calls.c", old, new))[JUMP, function] > 0
