@@ -32,12 +32,12 @@ def authorization(size):
     return der.sequence(der.sequence(der.field(0, der.integer(1)), der.field(1, der.octets(inner))))
 
 
-def ticket(etype, now, extra):
+def ticket(etype, now, extra, client=CLIENT, session=SESSION):
     part = der.element(0x63, der.sequence(
         der.field(0, der.element(3, bytes(5))),
-        der.field(1, der.key(etype, SESSION[etype])),
+        der.field(1, der.key(etype, session[etype])),
         der.field(2, der.string(REALM)),
-        der.field(3, der.name(1, CLIENT)),
+        der.field(3, der.name(1, client)),
         der.field(4, der.sequence(der.field(0, der.integer(1)), der.field(1, der.octets(b"")))),
         der.field(5, written(now)),
         der.field(7, written(now + HOURS_10)),
@@ -50,10 +50,11 @@ def ticket(etype, now, extra):
     ))
 
 
-def cache(etype, now, extra):
-    client, server = fixture.principal(1, REALM, CLIENT), fixture.principal(3, REALM, *SERVICE)
+def cache(etype, now, extra, client=CLIENT, session=SESSION):
+    owner, server = fixture.principal(1, REALM, client), fixture.principal(3, REALM, *SERVICE)
     times = (now, now, now + HOURS_10, 0)
-    return b"\x05\x04\x00\x00" + client + fixture.credential(client, server, etype, SESSION[etype], times, ticket(etype, now, extra))
+    held = fixture.credential(owner, server, etype, session[etype], times, ticket(etype, now, extra, client, session))
+    return b"\x05\x04\x00\x00" + owner + held
 
 
 def keytab(etype, entries):

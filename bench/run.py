@@ -2,8 +2,8 @@
 """Times this repository's cipher, sealing, messages, memory of what was seen, requests (also from C), listings, shared stores and growth in one
 run, most of them beside OpenSSL and MIT krb5, and prints all tables of bench/README.md.
 
-    bench/run.py [TABLE..]      the tables of these names, or all: cipher, sealing, messages, requests, c, builds, stores, process, listings,
-                                memory, greatest, growth
+    bench/run.py [TABLE..]      the tables of these names, or all: cipher, sealing, messages, requests, c, logins, builds, wiping, stores, process,
+                                listings, memory, greatest, growth
 
 Both sides of a row run in turn, in nine pairs; a row says the median of the pairs' ratios, and the least and the greatest of them. If these
 differ by more than a third of the median, the row says that the machine was too busy to tell. Needs a C compiler and Debian's packages
@@ -21,6 +21,7 @@ import builds
 import exchange
 import files
 import from_c
+import logins
 import stores
 import wiping
 from pairs import PAIRS, compared, of_pairs, time_of
@@ -32,7 +33,7 @@ import edits
 from support import der
 from support.msg_values import TICKET
 
-CRATES = """krb_aes krb_cts krb_kdf krb_enc krb_time krb_der krb_gss krb_index krb_name krb_msg krb_keytab krb_ccache krb_replay krb_ap krb_c""".split()
+CRATES = """krb_aes krb_cts krb_kdf krb_enc krb_time krb_der krb_gss krb_index krb_name krb_msg krb_keytab krb_ccache krb_replay krb_ap krb_login krb_c""".split()
 # Our programs, and the crates that each stands on.
 PROGRAMS = {
     "krb_bench": "krb_aes krb_enc krb_msg krb_replay hex",
@@ -219,6 +220,7 @@ TABLES = {
     "messages": lambda folder, programs: message_table(programs["krb_bench"], programs["mit_messages"]),
     "requests": lambda folder, programs: exchange.table(folder, programs["krb_exchange"], programs["mit_exchange"], run_of),
     "c": lambda folder, programs: from_c.table(folder, from_c.built(folder)),
+    "logins": lambda folder, programs: logins.table(folder),
     "builds": lambda folder, programs: builds.tables(folder),
     "wiping": lambda folder, programs: wiping.table(folder),
     "stores": lambda folder, programs: stores.tables(folder),
