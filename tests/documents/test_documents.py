@@ -222,6 +222,14 @@ def test_names():
     assert len(parts) >= 9
 
 
+@pytest.mark.parametrize("name", LINKING)
+def test_functions(name):
+    """The functions of the library for C that a document names are in its header."""
+    header = (TOP / "include/fevstunik.h").read_text()
+    named = set(re.findall(r"\bfevstunik_[a-z_]+[a-z]\b", text_of(name)))
+    assert sorted(it for it in named if it not in header) == []
+
+
 def test_toolchain():
     """README names the toolchain that is used here."""
     version = subprocess.run(["rt", "version"], capture_output=True, text=True).stdout.strip()
