@@ -2,8 +2,8 @@
 """Times this repository's cipher, sealing, messages, memory of what was seen, requests (also from C), listings, shared stores and growth in one
 run, most of them beside OpenSSL and MIT krb5, and prints all tables of bench/README.md.
 
-    bench/run.py [TABLE..]      the tables of these names, or all: cipher, sealing, messages, requests, c, logins, builds, wiping, stores, process,
-                                listings, memory, greatest, growth
+    bench/run.py [TABLE..]      the tables of these names, or all: cipher, sealing, messages, requests, c, logins, refused, builds, wiping, stores,
+                                process, listings, memory, greatest, growth
 
 Both sides of a row run in turn, in nine pairs; a row says the median of the pairs' ratios, and the least and the greatest of them. If these
 differ by more than a third of the median, the row says that the machine was too busy to tell. Needs a C compiler and Debian's packages
@@ -22,6 +22,7 @@ import exchange
 import files
 import from_c
 import logins
+import refused
 import stores
 import wiping
 from pairs import PAIRS, compared, of_pairs, time_of
@@ -221,6 +222,7 @@ TABLES = {
     "requests": lambda folder, programs: exchange.table(folder, programs["krb_exchange"], programs["mit_exchange"], run_of),
     "c": lambda folder, programs: from_c.table(folder, from_c.built(folder)),
     "logins": lambda folder, programs: logins.table(folder),
+    "refused": lambda folder, programs: refused.table(folder),
     "builds": lambda folder, programs: builds.tables(folder),
     "wiping": lambda folder, programs: wiping.table(folder),
     "stores": lambda folder, programs: stores.tables(folder),
