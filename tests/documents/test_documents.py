@@ -165,7 +165,9 @@ def test_commands(program, tmp_path, checks, name):
 
 
 def headings(path):
-    """The names by which the headings of a document are linked to."""
+    """The names by which the headings of a document are linked to, or the lines of another file."""
+    if path.suffix != ".md":
+        return {f"L{at}" for at in range(1, len(path.read_text().splitlines()) + 1)}
     text = re.sub(r"^ *```.*?^ *```", "", path.read_text(), flags=re.S | re.M)
     return {re.sub(r"[^\w\- ]", "", it.lower()).replace(" ", "-") for it in re.findall(r"^#+ (.*)$", text, re.M)}
 
