@@ -9,6 +9,7 @@
 #include <errno.h>
 #include <gssapi/gssapi_ext.h>
 #include <gssapi/gssapi_krb5.h>
+#include <krb5.h>
 #include <stdio.h>
 #include <stdlib.h>
 #include <string.h>
@@ -176,14 +177,27 @@ static double by_its_parts(void)
     return took / count;
 }
 
+/* The keytab, in memory. */
 static gss_cred_id_t acquired(const char *path)
 {
-    gss_key_value_element_desc element = {"keytab", path};
+    krb5_context context;
+    krb5_keytab file, memory;
+    krb5_kt_cursor cursor;
+    krb5_keytab_entry entry;
+    must(krb5_init_context(&context) == 0, "a context", 0);
+    must(krb5_kt_resolve(context, path, &file) == 0, "the keytab", 0);
+    must(krb5_kt_resolve(context, "MEMORY:logins", &memory) == 0, "a keytab in memory", 0);
+    must(krb5_kt_start_seq_get(context, file, &cursor) == 0, "the keytab", 0);
+    while (krb5_kt_next_entry(context, file, &entry, &cursor) == 0)
+        must(krb5_kt_add_entry(context, memory, &entry) == 0, "an entry", 0);
+    must(krb5_kt_end_seq_get(context, file, &cursor) == 0, "the keytab", 0);
+
+    gss_key_value_element_desc element = {"keytab", "MEMORY:logins"};
     gss_key_value_set_desc store = {1, &element};
     gss_cred_id_t credential = GSS_C_NO_CREDENTIAL;
     OM_uint32 minor;
     is_done(gss_acquire_cred_from(&minor, GSS_C_NO_NAME, GSS_C_INDEFINITE, GSS_C_NO_OID_SET, GSS_C_ACCEPT, &store, &credential, NULL, NULL),
-            "a keytab");
+            "a credential");
     return credential;
 }
 

@@ -27,7 +27,7 @@ EXTRAS = (0, exchange.PAC)
 
 def built(folder):
     """The path of the program over the build that the loader takes here."""
-    flags = said(["pkg-config", "--cflags", "--libs", "krb5-gssapi"]).split()
+    flags = said(["pkg-config", "--cflags", "--libs", "krb5-gssapi", "krb5"]).split()
     program = folder / "logins"
     archive = builds.archive_of(folder, builds.supported()[-1])
     said(["cc", "-O2", f"-I{TOP}/include", HERE / "logins.c", archive, *flags, "-o", program])
