@@ -2,3 +2,5 @@ pub mod LoginLaws
 pub mod Following
 pub mod Written
 pub mod Completed
+pub mod Stepping
+pub mod AtTheStore
