@@ -63,7 +63,7 @@ impl ReplayMemory for ListMemory {
 
     ghost counts_since = { λ memory oldest. Unit {0} };
 
-    ghost refusals = { λ memory. 0 };
+    ghost refusals = { λ memory. [] };
 
     fn contains(&self, tuple: &Tuple) -> bool {
         self.tuples.contains(tuple)

@@ -96,7 +96,7 @@ impl ReplayMemory for TimedMemory {
 
     ghost counts_since = { λ memory oldest. Unit {0} };
 
-    ghost refusals = { λ memory. 0 };
+    ghost refusals = { λ memory. [] };
 
     fn contains(&self, tuple: &Tuple) -> bool {
         tuple.time().micros() >= self.oldest && self.held.contains(tuple)
