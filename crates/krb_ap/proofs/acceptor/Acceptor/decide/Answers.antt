@@ -150,9 +150,15 @@ returns-in-Err-remember-clause-limit g c = λ history stands.
       full = λ stamp past. refl;
       counted = elim (rw c.judge.ensures.same at c.in-Err-remember.ensures.refused) [
         | inl e ↦ inl e
-        | inr h ↦ inr (h.0, (refl, (
-          c.in-Ok.judged.tuple,
-          (judged.shows, subst (λ (at : ℤ). IsPast at c.in-Ok.judged.tuple) (counted_at _ history c.args.now c.effective-now.result c.effective-now.ensures stands.latest_is) h.1.1),
-        )))
+        | inr h ↦ inr (
+          h.0,
+          (
+            refl,
+            (
+              c.in-Ok.judged.tuple,
+              (judged.shows, subst (λ (at : ℤ). IsPast at c.in-Ok.judged.tuple) (counted_at _ history c.args.now c.effective-now.result c.effective-now.ensures stands.latest_is) h.1.1),
+            ),
+          ),
+        )
       ];
     }
