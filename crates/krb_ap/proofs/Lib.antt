@@ -25,6 +25,7 @@ pub mod OneRequest
 pub mod Once
 pub mod Limits
 pub mod Undecided
+pub mod UndecidedLife
 pub mod NewKeytab
 pub mod Life
 pub mod Sharing

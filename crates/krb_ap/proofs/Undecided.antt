@@ -19,11 +19,11 @@ named_after : (history : List Arrival) (call : Arrival) (r : Refusal) → is_dec
 named_after history call r decided = grind arith
 
 -- the history stays, or it has one call more
-undecided_after : (history : List Arrival) (call : Arrival) (a : Answer) → is_decided a ≡ false → after history call a ≡ history
+pub undecided_after : (history : List Arrival) (call : Arrival) (a : Answer) → is_decided a ≡ false → after history call a ≡ history
 undecided_after history call (Ok x) lacks = absurd (cc)
 undecided_after history call (Err r) lacks = lacking_after history call r lacks
 
-decided_after : (history : List Arrival) (call : Arrival) (a : Answer) → is_decided a ≡ true → after history call a ≡ decided_now call ∷ history
+pub decided_after : (history : List Arrival) (call : Arrival) (a : Answer) → is_decided a ≡ true → after history call a ≡ decided_now call ∷ history
 decided_after history call (Ok x) decided = refl
 decided_after history call (Err r) decided = named_after history call r decided
 
@@ -47,7 +47,7 @@ others setup history [] (a ∷ rest) end run = absurd run
 others setup history (c ∷ cs) [] end run = absurd run
 
 module _ (facts : Facts) (setup : Setup) where
-  said : (history : List Arrival) (call : Arrival) (a o : Answer) → Answers setup history call a → Answers setup history call o
+  pub said : (history : List Arrival) (call : Arrival) (a o : Answer) → Answers setup history call a → Answers setup history call o
       → is_decided a ≡ true → is_decided o ≡ true → SaysTheSame a o
   said history call (Ok x) (Ok y) one other decided also = one_taken facts setup history call (taken_of y) (taken_of x) other one
   said history call (Ok x) (Err s) one other decided also = not_both facts setup history call (taken_of x) s one (other (named s also))

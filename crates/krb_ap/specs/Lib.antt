@@ -7,6 +7,7 @@ pub mod Taken
 pub mod Causes
 pub mod Answer
 pub mod Undecided
+pub mod UndecidedLife
 pub mod Service
 pub mod Once
 pub mod Living

@@ -1,14 +1,15 @@
 //! The service's side.
 
 ghost use Rattle.std.specs.Prelude.{◌≡◌, ◌↔◌, ◌⊎◌, List, None, Some, [], IsErr, IsErrAnd, IfOk, IfErr, IsErrOf, IsTrue, map, MatchResult, OnOk, OnErr};
+ghost use Rattle.krb_replay.specs.Limit.{CountsOne};
 ghost use Rattle.krb_replay.specs.Memory.{later_of, AddsStamp, IsRecent, SameStamps};
 ghost use Rattle.krb_replay.specs.Stamp.{Stamp};
 ghost use Rattle.krb_ap.specs.Setup.{Arrival, arrival};
 ghost use Rattle.krb_ap.specs.Opened.{AsksFor, IsOrdinary};
-ghost use Rattle.krb_ap.specs.History.{IsShown, IsShownLately, Shows, effective};
-ghost use Rattle.krb_ap.specs.Service.{IsPastLimit, SameMemory, Stands};
+ghost use Rattle.krb_ap.specs.History.{IsShown, IsShownLately};
+ghost use Rattle.krb_ap.specs.Service.{HeedsLimits, IsPastLimit, SameMemory, Stands};
 ghost use Rattle.krb_ap.specs.Taken.{Accept, Taken};
-ghost use Rattle.krb_ap.specs.Causes.{Cause, TellsPlaceWithin, place};
+ghost use Rattle.krb_ap.specs.Causes.{Cause, IsRemembered, TellsPlaceWithin, place};
 ghost use Rattle.krb_ap.specs.Inner.GoingOn.{GoesOn};
 ghost use Rattle.krb_ap.specs.Inner.Judging.{IsNamed, IsPlacedWithin, JudgedBy};
 ghost use Rattle.krb_ap.specs.Answer.{Answers, MemoryWantedByRequests, Served, TellsPlacesWithin, after, arrival_of, taken_of};
@@ -171,19 +172,17 @@ impl<M: ReplayMemory> Acceptor<M> {
         // The offset in a refusal is that of one of the bytes, or their end.
         ensures offset { IfErr result (TellsPlaceWithin bytes.now) }
 
-        // A request that is shown for the first time is answered with out of memory if it is past a limit of the memory.
-        // Nothing else is counted as refused for a limit.
-        ensures full { (history : List Arrival) (stamp : Stamp)
-            → Stands M.has M.newest self.old history
-            → Shows self.old.setup (effective history now) bytes.now stamp
-            → ¬ M.has self.old.memory stamp
-            → IsPastLimit M.has (M.limits self.old.memory) self.old (later_of (M.newest self.old.memory) now) stamp
-            → IsErrOf result OutOfMemory }
+        // A request that the memory hasn't yet is answered with out of memory if it is past a limit, and no other is counted
+        // as refused for a limit. So one that has a cause before it is remembered, as a repeat, isn't counted.
         ensures limit { (history : List Arrival)
             → Stands M.has M.newest self.old history
-            → (M.refusals self.new.memory ≡ M.refusals self.old.memory)
-            ⊎ (IsErrOf result OutOfMemory × ((stamp : Stamp) × (Shows self.old.setup (effective history now) bytes.now stamp
-            × IsPastLimit M.has (M.limits self.old.memory) self.old (later_of (M.newest self.old.memory) now) stamp))) }
+            → HeedsLimits (M.has self.old.memory) (M.limits self.old.memory) (M.refusals self.old.memory) (M.refusals self.new.memory)
+            self.old.setup history (arrival bytes.now now) (IsErrOf result OutOfMemory) }
+        ensures uncounted { (history : List Arrival) (cause : Refusal)
+            → Stands M.has M.newest self.old history
+            → Cause self.old.setup history (arrival bytes.now now) cause
+            → ¬ IsRemembered cause
+            → M.refusals self.new.memory ≡ M.refusals self.old.memory }
         ensures limits { M.limits self.new.memory ≡ M.limits self.old.memory }
 
         // Out of memory is answered for requests of the ordinary kind alone, and changes nothing.
@@ -245,17 +244,10 @@ impl<M: ReplayMemory> Acceptor<M> {
         ensures offset { IfErr result (TellsPlaceWithin bytes.now) }
         ensures memory { IsErrOf result OutOfMemory → IsOrdinary bytes.now }
         ensures service { IfOk result (λ accepted. AsksFor bytes.now accepted.service) }
-        ensures full { (history : List Arrival) (stamp : Stamp)
-            → Stands M.has M.newest self.old history
-            → Shows self.old.setup (effective history now) bytes.now stamp
-            → ¬ M.has self.old.memory stamp
-            → IsPastLimit M.has (M.limits self.old.memory) self.old (later_of (M.newest self.old.memory) now) stamp
-            → IsErrOf result OutOfMemory }
         ensures limit { (history : List Arrival)
             → Stands M.has M.newest self.old history
-            → (M.refusals self.new.memory ≡ M.refusals self.old.memory)
-            ⊎ (IsErrOf result OutOfMemory × ((stamp : Stamp) × (Shows self.old.setup (effective history now) bytes.now stamp
-            × IsPastLimit M.has (M.limits self.old.memory) self.old (later_of (M.newest self.old.memory) now) stamp))) }
+            → HeedsLimits (M.has self.old.memory) (M.limits self.old.memory) (M.refusals self.old.memory) (M.refusals self.new.memory)
+            self.old.setup history (arrival bytes.now now) (IsErrOf result OutOfMemory) }
         ensures limits { M.limits self.new.memory ≡ M.limits self.old.memory }
         ensures unchanged { IsErrOf result OutOfMemory → SameMemory M.has M.newest self.old.memory self.new.memory }
     {
@@ -307,9 +299,11 @@ impl<M: ReplayMemory> Acceptor<M> {
         ensures newest { M.newest self.new.memory ≡ M.newest self.old.memory }
         ensures ok { OnOk result (AddsStamp (M.has self.old.memory) (M.has self.new.memory) tuple) }
         ensures err { OnErr result (SameStamps (M.has self.old.memory) (M.has self.new.memory)) }
-        ensures full { IsPastLimit M.has (M.limits self.old.memory) self.old (later_of (M.newest self.old.memory) now) tuple → IsErr result }
+        ensures full { IsPastLimit (M.has self.old.memory) (M.limits self.old.memory) self.old.setup (later_of (M.newest self.old.memory) now) tuple
+            → IsErr result × CountsOne (M.refusals self.old.memory) (M.refusals self.new.memory) }
         ensures refused { (M.refusals self.new.memory ≡ M.refusals self.old.memory)
-            ⊎ (IsErr result × IsPastLimit M.has (M.limits self.old.memory) self.old (later_of (M.newest self.old.memory) now) tuple) }
+            ⊎ (CountsOne (M.refusals self.old.memory) (M.refusals self.new.memory) × (IsErr result
+            × IsPastLimit (M.has self.old.memory) (M.limits self.old.memory) self.old.setup (later_of (M.newest self.old.memory) now) tuple)) }
         ensures limits { M.limits self.new.memory ≡ M.limits self.old.memory }
     {
         self.state.judge.memory.expect(now, self.state.judge.skew);

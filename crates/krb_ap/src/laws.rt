@@ -24,6 +24,7 @@ ghost use Rattle.krb_ap.specs.Once.{HasStamp, TakesAmong, TakesOnce};
 ghost use Rattle.krb_ap.specs.Opened.{stamp_at};
 ghost use Rattle.krb_ap.specs.Sharing.{Asked, AskedAmong, ClocksAgree, Has, InTime, IsLetInNext, LetsInAmong, LetsInOnce, SaysNew, Share, StoreEvent, asked_by, asked_stamp, forgets};
 ghost use Rattle.krb_ap.specs.Undecided.{AreDecided, SayTheSame, decided_answers, decided_calls};
+ghost use Rattle.krb_ap.specs.UndecidedLife.{DecidesEach, SayTheSameInLife, decided_steps};
 ghost use Rattle.krb_ap.specs.World.{BothAgree, Comes, Event, IsHeldInEachWorld, IsHeldOnce, IsOf, World, nothing_yet};
 ghost use Rattle.krb_ccache.specs.declared.credential.Credential.{Credential};
 ghost use Rattle.krb_ap.specs.declared.accepted.Accepted.{Accepted};
@@ -135,8 +136,8 @@ pub fn no_stamp_twice()
 }
 
 /// States that a call that is answered with `OutOfMemory` changes no other answer. There was no
-/// memory, or the memory of what was seen has a limit, which is reached (clauses `full` and `limit`
-/// of `accept`).
+/// memory, or the memory of what was seen has a limit, which is reached (clause `limit` of
+/// `accept`).
 ///
 /// Clause `others`: without these calls, the other calls have right answers too, which are the same
 /// ones, and lead to the same history. Clause `alone`: if another service with the same setup and
@@ -148,6 +149,21 @@ pub fn undecided_calls_change_nothing()
         (end other_end : List Arrival) → Run setup history calls answers end
         → Run setup history (decided_calls calls answers) others other_end → AreDecided others
         → SayTheSame (decided_answers answers) others × (other_end ≡ end) }
+{
+    facts();
+}
+
+/// States the same of a service whose keytab is replaced, however often.
+///
+/// Clause `others`: without the calls that are answered with `OutOfMemory`, the others have right
+/// answers too, which are the same ones. Clause `alone`: if another service with the same setup and
+/// history gets the other calls and the same keytabs, and decides all of them, its answers say the
+/// same.
+pub fn undecided_calls_change_no_life()
+    ensures others { (setup : Setup) (history : List Arrival) (steps : List Step)
+        → Lives setup history steps → Lives setup history (decided_steps steps) }
+    ensures alone { (setup : Setup) (history : List Arrival) (steps others : List Step) → Lives setup history steps
+        → Lives setup history others → DecidesEach (decided_steps steps) others → SayTheSameInLife (decided_steps steps) others }
 {
     facts();
 }

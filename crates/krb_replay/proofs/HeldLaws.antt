@@ -132,6 +132,17 @@ counted_more old new before after added counted absent is more names =
     let now = more names in
     subst (λ (stamps : List Stamp). count_of after names ≡ number_of (Some names.1) stamps) (sym is) (omega arith)
 
+-- one more that isn't before a moment
+pub none_before : (oldest : ℤ) (old new now : List Stamp) (added : Stamp) → list_any (is_at (stamp_cmp added)) old ≡ false
+    → new ≡ insert_key stamp_cmp old added → old ≡ now → oldest ≤ℤ added.time → number_before None oldest new ≡ number_before None oldest now
+none_before oldest old new now added absent is same recent =
+    let placed = placed_weighs stamp_cmp (is_before oldest) old added absent in
+    let later : weighed (is_before oldest added) ≡ 0 = ap weighed (late_is oldest added recent) in
+    let few = all_of_none (filter (is_before oldest) (insert_key stamp_cmp old added)) in
+    let were = all_of_none (filter (is_before oldest) old) in
+    subst (λ (stamps : List Stamp). number_before None oldest stamps ≡ number_before None oldest now) (sym is)
+    (subst (λ (stamps : List Stamp). number_before None oldest (insert_key stamp_cmp old added) ≡ number_before None oldest stamps) same (omega arith))
+
 -- each has its own client
 pub own : (names : TwoNames) → one_of names names ≡ 1
 own names = ap (λ (o : Ordering). cond (is_eq o) 1 0) (tied_itself client_total names)

@@ -3,6 +3,7 @@ pub mod CountLaws
 pub mod DropLaws
 pub mod HeldLaws
 pub mod KeepingLaws
+pub mod LimitLaws
 pub mod NamesLaws
 pub mod OrderLaws
 pub mod SetLaws

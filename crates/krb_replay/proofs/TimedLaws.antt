@@ -1,5 +1,5 @@
 -- The set of a timed memory: what is held and isn't before a moment.
-use Rattle.std.proofs.Common.{◌≡◌, ◌≢◌, ◌⊎◌, inl, inr, ℕ, ℤ, zero, suc, ◌-◌, ◌≤◌, ◌≤ℤ◌, ◌<ℤ◌, min, Bool, true, false, not, cond, ◌&&◌, Option, Some, None, List, [], ◌∷◌, length, get_or, Contains, refl, sym, subst, ap, ◌∙◌, arith}
+use Rattle.std.proofs.Common.{◌≡◌, ◌≢◌, ◌⊎◌, inl, inr, ℕ, ℤ, zero, suc, ◌+◌, ◌-◌, ◌≤◌, ◌≤ℤ◌, ◌<ℤ◌, min, Bool, true, false, not, cond, ◌&&◌, Option, Some, None, List, [], ◌∷◌, length, get_or, Contains, refl, sym, subst, ap, ◌∙◌, arith}
 use Rattle.std.specs.List.{filter}
 use Rattle.std.specs.Prelude.{Result, Ok, Err, OnOk, OnErr}
 use Rattle.std.specs.List.Sorted.{IsStrictlySortedBy}
@@ -10,9 +10,9 @@ use Rattle.std.proofs.lemmas.List.Elements.{Contains-get_or}
 use Rattle.std.proofs.lemmas.Map.Views.{tells_apart}
 use Rattle.krb_replay.specs.Stamp.{RealmAndName, Stamp}
 use Rattle.krb_replay.specs.Limit.{HasAtLeast, IsOf, Since}
-use Rattle.krb_replay.specs.Memory.{AddsStamp, IsSizeOf, SameStamps}
+use Rattle.krb_replay.specs.Memory.{AddsStamp, FreesSome, IsSizeOf, SameStamps}
 use Rattle.krb_replay.specs.Inner.Order.{name_cmp, name_total, stamp_cmp}
-use Rattle.krb_replay.specs.Inner.Held.{IsLater, is_before, is_of, number_before, number_of, since}
+use Rattle.krb_replay.specs.Inner.Held.{AreLive, IsLater, is_before, is_of, number_before, number_of, since}
 use Rattle.krb_replay.proofs.HeldLaws.{all_of_none, from_filter, into_filter, recent_from, recent_is, two_sides}
 use Rattle.krb_replay.proofs.OrderLaws.{exact_names, once_from_ordered}
 use Rattle.krb_replay.proofs.SizeLaws.{AreOnce, first_apart, no_longer, once_rest}
@@ -197,4 +197,67 @@ pub set_fits : (oldest : ℤ) (held : List Stamp) (size : ℕ) → IsSizeOf (Con
 set_fits oldest held size is =
     let fewer = no_longer is.stamps held is.once (λ stamp there. (in_set oldest held stamp ((is.members stamp).0 there)).0) in
     let length_is = is.size_is in
+    omega arith
+
+-- ---- what takes room: what is held, and what is aside
+
+pub all_held : (oldest : ℤ) (held aside : List Stamp)
+    → length (since oldest held) + (number_before None oldest held + length aside) ≡ length held + length aside
+all_held oldest held aside =
+    let sides = two_sides None oldest held in
+    let all = all_of_none held in
+    let live = all_of_none (since oldest held) in
+    omega arith
+
+-- nothing is left to free
+none_unfreed : (oldest : ℤ) (held aside : List Stamp) → AreLive oldest held aside → number_before None oldest held + length aside ≡ 0
+none_unfreed oldest held aside live =
+    let all = all_held oldest held aside in
+    let kept : length (since oldest held) ≡ length held = ap (λ (stamps : List Stamp). length stamps) live.0 in
+    let none : length aside ≡ 0 = ap (λ (stamps : List Stamp). length stamps) live.1 in
+    omega arith
+
+-- what a new stamp frees: the set may reach back, some are freed, and the stamp is added
+pub frees_some : (oldest reached : ℤ) (old back between new aside left : List Stamp) → since reached back ≡ since oldest old → length back ≤ length old
+    → since reached between ≡ since reached back → AreLive reached between left ⊎ (length between + length left + 16 ≤ length back + length aside)
+    → number_before None reached new ≡ number_before None reached between
+    → FreesSome 16 (number_before None oldest old + length aside) (number_before None reached new + length left)
+frees_some oldest reached old back between new aside left same fewer still either is = elim either [
+  | inl live ↦ (let none = none_unfreed reached between left live in inl (omega arith))
+  | inr some ↦ (let before = all_held oldest old aside in
+      let after = all_held reached between left in
+      let kept : length (since reached between) ≡ length (since oldest old) = ap (λ (stamps : List Stamp). length stamps) (still ∙ same) in
+      inr (omega arith))
+]
+
+-- what is freed between two stamps
+pub frees_between : (oldest : ℤ) (old new aside left : List Stamp) → since oldest new ≡ since oldest old
+    → AreLive oldest new left ⊎ (length new + length left + 16 ≤ length old + length aside)
+    → FreesSome 16 (number_before None oldest old + length aside) (number_before None oldest new + length left)
+frees_between oldest old new aside left same either = frees_some oldest oldest old old new new aside left refl (omega arith) same either refl
+
+pub grows_by_one : (oldest reached : ℤ) (old back between new aside left : List Stamp) → length back ≤ length old
+    → length between + length left ≤ length back + length aside → length new ≤ length between + 1
+    → length (since reached new) + (number_before None reached new + length left) ≤ length (since oldest old) + (number_before None oldest old + length aside) + 1
+grows_by_one oldest reached old back between new aside left fewer less one =
+    let before = all_held oldest old aside in
+    let after = all_held reached new left in
+    omega arith
+
+-- what a moment frees: all may be put aside, and some are freed
+pub frees_dropped : (oldest later : ℤ) (old between new aside put left : List Stamp) → length between + length put ≡ length old + length aside
+    → AreLive later new left ⊎ (length new + length left + 16 ≤ length between + length put)
+    → (number_before None later new + length left ≡ 0)
+    ⊎ (length (since later new) + (number_before None later new + length left) + 16 ≤ length (since oldest old) + (number_before None oldest old + length aside))
+frees_dropped oldest later old between new aside put left all either = elim either [
+  | inl live ↦ inl (none_unfreed later new left live)
+  | inr some ↦ (let before = all_held oldest old aside in let after = all_held later new left in inr (omega arith))
+]
+
+pub shrinks : (oldest later : ℤ) (old between new aside put left : List Stamp) → length between + length put ≡ length old + length aside
+    → length new + length left ≤ length between + length put
+    → length (since later new) + (number_before None later new + length left) ≤ length (since oldest old) + (number_before None oldest old + length aside)
+shrinks oldest later old between new aside put left all less =
+    let before = all_held oldest old aside in
+    let after = all_held later new left in
     omega arith

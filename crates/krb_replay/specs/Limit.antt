@@ -33,6 +33,16 @@ abbrev pub ReachesAny : (Stamp → Type 0) → ℤ → Stamp → List Limits →
 ReachesAny has oldest stamp [] = ⊥
 ReachesAny has oldest stamp (limits ∷ more) = Reaches has oldest stamp limits ⊎ ReachesAny has oldest stamp more
 
+-- a stamp is past one of several limits: the set hasn't it yet, and reaches a limit
+abbrev pub IsPastAny : (Stamp → Type 0) → ℤ → Stamp → List Limits → Type 0
+IsPastAny has oldest stamp limits = ¬ has stamp × ReachesAny has oldest stamp limits
+
+-- Of several counts, one for each of several limits, exactly one has gone up, by one. They are
+-- modulo 2 to the 64.
+abbrev pub CountsOne : List ℕ → List ℕ → Type 0
+CountsOne (old ∷ olds) (new ∷ news) = ((new ≡ (old + 1) % 2 ^ 64) × (news ≡ olds)) ⊎ ((new ≡ old) × CountsOne olds news)
+CountsOne _ _ = ⊥
+
 -- A memory with limits: the memory that it limits, the most stamps that it takes, and the most of
 -- one client; the moment since which stamps count; and how often it has refused one for a limit,
 -- modulo 2 to the 64.
@@ -56,9 +66,10 @@ limited memory limit limit_for_client = record {
 abbrev pub limits_of : {M : Type 0} → Limited M → Limits
 limits_of limited = record { all = limited.limit; of_client = limited.limit_for_client }
 
--- a limit is reached: so many stamps count, or so many of the stamp's client
+-- there is no room for a stamp: the memory hasn't it yet, and so many stamps count, or so many of
+-- its client
 abbrev pub IsFull : {M : Type 0} → (M → Stamp → Type 0) → Limited M → Stamp → Type 0
-IsFull has limited stamp = Reaches (has limited.memory) limited.oldest stamp (limits_of limited)
+IsFull has limited stamp = ¬ has limited.memory stamp × Reaches (has limited.memory) limited.oldest stamp (limits_of limited)
 
 -- one more was refused, and nothing else has changed
 abbrev pub counts_refusal : {M : Type 0} → Limited M → Limited M

@@ -1,14 +1,23 @@
 -- Memories of seen requests: a set of stamps, and the latest moment that the memory was given.
 -- Moments and times are microseconds since 1970-01-01T00:00:00Z. A skew is a number of
 -- microseconds.
-use Rattle.std.specs.Prelude.{◌≡◌, ℕ, ℤ, pos, ◌-ℤ◌, ◌≤ℤ◌, ◌↔◌, ◌⊎◌, ◌≢◌, int_lt, if◌then◌else◌, Option, Some, None, List, length, AllPairs, Contains}
+use Rattle.std.specs.Prelude.{◌≡◌, ◌+◌, ◌≤◌, ℕ, ℤ, pos, ◌-ℤ◌, ◌≤ℤ◌, ◌↔◌, ◌⊎◌, ◌≢◌, int_lt, if◌then◌else◌, Option, Some, None, List, length, AllPairs, Contains}
 use Rattle.krb_replay.specs.Stamp.{Stamp}
 
--- a memory: what it holds, each stamp once and in any order, and the latest moment, if it was given
--- any
+-- a memory: what it holds, each stamp once and in any order; the latest moment, if it was given any;
+-- and how many more stamps take room: they are dropped, and not freed yet
 pub record Memory : Type 0 where
   pub stamps : List Stamp
   pub latest : Option ℤ
+  pub unfreed : ℕ
+
+-- how many stamps take room
+abbrev pub held_of : Memory → ℕ
+held_of memory = length memory.stamps + memory.unfreed
+
+-- nothing is left to free, or at least so many fewer
+abbrev pub FreesSome : ℕ → ℕ → ℕ → Type 0
+FreesSome some old new = (new ≡ 0) ⊎ (new + some ≤ old)
 
 -- the later of the latest moment so far, if any, and a new moment
 abbrev pub later_of : Option ℤ → ℤ → ℤ

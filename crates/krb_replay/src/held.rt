@@ -1,6 +1,6 @@
 //! What a timed memory holds.
 
-ghost use Rattle.std.specs.Prelude.{◌≡◌, ◌↔◌, ◌≤◌, ◌<◌, ◌+◌, [], false, min, length, Contains, IfOk, IsTrue, OnErr, OnOk};
+ghost use Rattle.std.specs.Prelude.{◌≡◌, ◌↔◌, ◌≤◌, ◌≤ℤ◌, ◌<◌, ◌+◌, ◌*◌, ◌^◌, ℤ, None, [], drop, false, min, length, Contains, IfOk, IsTrue, OnErr, OnOk};
 ghost use Rattle.std.specs.List.Sorted.{IsStrictlySortedBy};
 ghost use Rattle.std.specs.Option.{option_map};
 ghost use Rattle.krb_replay.specs.Inner.Held.{count_of, is_of, number_before, number_of, one_of, since};
@@ -59,21 +59,30 @@ impl Held {
 
     pub(crate) fn len(&self) -> usize
         ensures len { result ≡ length self.now }
+        ensures small { result < 2 ^ 63 }
         ensures ordered { IsStrictlySortedBy stamp_cmp self.now }
     {
         self.tuples.len()
     }
 
-    /// Returns about how many bytes are taken: up to 40 for a tuple, and 200 for two short names.
-    pub(crate) fn bytes(&self) -> usize {
-        let tuples = self.tuples.len().saturating_mul(40);
-        tuples.saturating_add(self.pairs.len().saturating_mul(200))
+    /// Returns about how many bytes are taken: up to 40 for a tuple, and 200 for two short names. A
+    /// tuple has at most two names of its own.
+    pub(crate) fn bytes(&self) -> usize
+        ensures { result ≤ 240 * length self.now }
+    {
+        let tuples = self.tuples.len();
+        let pairs = tuples.min(self.pairs.len());
+        tuples
+            .saturating_mul(40)
+            .saturating_add(pairs.saturating_mul(200))
     }
 
     /// Adds the tuple, if it isn't held.
     pub(crate) fn add(&mut self, tuple: Tuple) -> Result<(), AllocError>
         ensures ok { OnOk result (AddsStamp (Contains self.old) (Contains self.new) tuple) }
         ensures err { OnErr result (self.new ≡ self.old) }
+        ensures grows { length self.new ≤ length self.old + 1 }
+        ensures before { (oldest : ℤ) → oldest ≤ℤ tuple.time → number_before None oldest self.new ≡ number_before None oldest self.old }
     {
         if self.tuples.contains(&tuple) {
             return Ok(());
@@ -107,6 +116,14 @@ impl Held {
         if first.time().micros() >= oldest {
             return false;
         }
+        self.pop_first()
+    }
+
+    /// Frees the first tuple, if there is one, and returns whether it did.
+    pub(crate) fn pop_first(&mut self) -> bool
+        ensures freed { IsTrue result ↔ (0 < length self.old) }
+        ensures rest { self.new ≡ drop 1 self.old }
+    {
         match self.tuples.pop_first() {
             Some(tuple) => {
                 uncount(&mut self.clients, &mut self.pairs, tuple);

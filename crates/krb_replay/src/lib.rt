@@ -16,7 +16,6 @@
 #![tactic(auto)]
 
 mod counts;
-mod dropped;
 mod held;
 pub mod laws;
 mod limited;

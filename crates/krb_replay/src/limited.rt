@@ -1,7 +1,7 @@
 //! A memory that takes only so many tuples.
 
 ghost use Rattle.std.specs.Prelude.{◌≡◌, ◌⊎◌, ◌∷◌, ◌-ℤ◌, ◌↔◌, ℤ, IsErr, IsTrue, OnErr, OnOk, Some, pos};
-ghost use Rattle.krb_replay.specs.Limit.{IsFull, ReachesAny, counts_refusal, limited, limits_of};
+ghost use Rattle.krb_replay.specs.Limit.{CountsOne, IsFull, IsPastAny, Reaches, counts_refusal, limited, limits_of};
 ghost use Rattle.krb_replay.specs.Memory.{AddsStamp, IsRecent, SameStamps, later_of};
 ghost use Rattle.krb_replay.specs.Stamp.{Stamp};
 
@@ -15,9 +15,9 @@ use std::marker::Model;
 /// A memory over another one that takes at most so many tuples, and at most so many of one client.
 ///
 /// Past a limit `remember` answers `AllocError`, and nothing changes: see
-/// [`LimitedMemory::refused`]. A tuple counts while it is in the set and its time isn't before the
-/// moment that [`ReplayMemory::expect`] was last given, less the skew. So what the next `advance`
-/// drops doesn't count any more.
+/// [`LimitedMemory::refused`]. A tuple that is in the set already isn't refused. A tuple counts
+/// while it is in the set and its time isn't before the moment that [`ReplayMemory::expect`] was
+/// last given, less the skew. So what the next `advance` drops doesn't count any more.
 #[derive(Debug, Drop)]
 pub struct LimitedMemory<M> {
     memory: M,
@@ -84,9 +84,17 @@ impl<M: ReplayMemory> LimitedMemory<M> {
         self.refused
     }
 
-    /// Returns whether a limit is reached for this tuple, so that `remember` refuses it.
+    /// Returns whether a limit is reached for this tuple and it isn't in the set, so that `remember`
+    /// refuses it.
     pub fn is_full(&self, tuple: &Tuple) -> bool
         ensures { IsTrue result ↔ IsFull M.has self.now tuple.now }
+    {
+        self.reaches(tuple) && !self.memory.contains(tuple)
+    }
+
+    // Returns whether a limit is reached for this tuple.
+    fn reaches(&self, tuple: &Tuple) -> bool
+        ensures { IsTrue result ↔ Reaches (M.has self.now.memory) self.now.oldest tuple.now (limits_of self.now) }
     {
         if self.memory.has_at_least(None, self.limit, self.oldest) {
             return true;
@@ -111,7 +119,7 @@ impl<M: ReplayMemory> ReplayMemory for LimitedMemory<M> {
 
     ghost counts_since = { λ limited oldest. (limited.oldest ≡ oldest) × M.counts_since limited.memory oldest };
 
-    ghost refusals = { λ limited. limited.refused };
+    ghost refusals = { λ limited. limited.refused ∷ M.refusals limited.memory };
 
     fn contains(&self, tuple: &Tuple) -> bool {
         self.memory.contains(tuple)
@@ -130,6 +138,7 @@ impl<M: ReplayMemory> ReplayMemory for LimitedMemory<M> {
         ensures limit_for_client { self.new.limit_for_client ≡ self.old.limit_for_client }
         ensures limits { M.limits self.new.memory ≡ M.limits self.old.memory }
         ensures refused { self.new.refused ≡ self.old.refused }
+        ensures refusals { M.refusals self.new.memory ≡ M.refusals self.old.memory }
     {
         self.oldest = later(self.memory.latest(), moment).micros() - skew.micros();
         self.memory.expect(moment, skew);
@@ -143,13 +152,18 @@ impl<M: ReplayMemory> ReplayMemory for LimitedMemory<M> {
         // A tuple past a limit is refused, and that is counted.
         ensures full { IsFull M.has self.old tuple → IsErr result × (self.new ≡ counts_refusal self.old) }
 
-        // So is one past a limit of the memory that is limited, if the same stamps count for that.
-        ensures full_within { M.counts_since self.old.memory self.old.oldest
-            → ReachesAny (M.has self.old.memory) self.old.oldest tuple (M.limits self.old.memory) → IsErr result }
-
         // Nothing else is counted as a refusal.
         ensures room { (IsFull M.has self.old tuple → ⊥) → self.new.refused ≡ self.old.refused }
-        ensures refused { (self.new.refused ≡ self.old.refused) ⊎ (IsErr result × IsFull M.has self.old tuple) }
+
+        // So is one past a limit of the memory that is limited, if the same stamps count for that.
+        ensures full_any { (oldest : ℤ) → (self.old.oldest ≡ oldest) × M.counts_since self.old.memory oldest
+            → IsPastAny (M.has self.old.memory) oldest tuple (limits_of self.old ∷ M.limits self.old.memory)
+            → IsErr result × CountsOne (self.old.refused ∷ M.refusals self.old.memory) (self.new.refused ∷ M.refusals self.new.memory) }
+        ensures room_any { (oldest : ℤ) → (self.old.oldest ≡ oldest) × M.counts_since self.old.memory oldest
+            → ((self.new.refused ∷ M.refusals self.new.memory) ≡ (self.old.refused ∷ M.refusals self.old.memory))
+            ⊎ (CountsOne (self.old.refused ∷ M.refusals self.old.memory) (self.new.refused ∷ M.refusals self.new.memory)
+            × (IsErr result × IsPastAny (M.has self.old.memory) oldest tuple (limits_of self.old ∷ M.limits self.old.memory))) }
+        ensures counts { (oldest : ℤ) → M.counts_since self.old.memory oldest → M.counts_since self.new.memory oldest }
         ensures limit { self.new.limit ≡ self.old.limit }
         ensures limit_for_client { self.new.limit_for_client ≡ self.old.limit_for_client }
         ensures limits { M.limits self.new.memory ≡ M.limits self.old.memory }
@@ -175,6 +189,8 @@ impl<M: ReplayMemory> ReplayMemory for LimitedMemory<M> {
         ensures limits { M.limits self.new.memory ≡ M.limits self.old.memory }
         ensures oldest { self.new.oldest ≡ self.old.oldest }
         ensures refused { self.new.refused ≡ self.old.refused }
+        ensures refusals { M.refusals self.new.memory ≡ M.refusals self.old.memory }
+        ensures counts { (oldest : ℤ) → M.counts_since self.old.memory oldest → M.counts_since self.new.memory oldest }
     {
         self.memory.advance(moment, skew);
     }

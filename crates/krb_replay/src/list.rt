@@ -25,7 +25,7 @@ impl Model for ListMemory {
 
     ghost Value = { Memory };
 
-    ghost view = { λ memory. record { stamps = memory.tuples.items; latest = memory.latest } };
+    ghost view = { λ memory. record { stamps = memory.tuples.items; latest = memory.latest; unfreed = 0 } };
 
     ghost invariant = { λ memory. AllPairs (λ one other. one ≢ other) memory.tuples.items };
 }
@@ -35,7 +35,7 @@ impl ListMemory {
 
     /// Makes an empty memory, which was given no moment. Allocates nothing yet.
     pub fn new(alloc: Global) -> ListMemory
-        ensures value { result ≡ record { stamps = []; latest = None } }
+        ensures value { result ≡ record { stamps = []; latest = None; unfreed = 0 } }
         ensures empty { HasNone (⟦<ListMemory as ReplayMemory>⟧.has result) }
         ensures newest { ⟦<ListMemory as ReplayMemory>⟧.newest result ≡ None }
     {
@@ -63,7 +63,7 @@ impl ReplayMemory for ListMemory {
 
     ghost counts_since = { λ memory oldest. Unit {0} };
 
-    ghost refusals = { λ memory. 0 };
+    ghost refusals = { λ memory. [] };
 
     fn contains(&self, tuple: &Tuple) -> bool {
         self.tuples.contains(tuple)

@@ -2,7 +2,7 @@
 
 ghost use Rattle.std.specs.Prelude.{◌≡◌, ◌↔◌, ◌⊎◌, ◌-ℤ◌, ℕ, ℤ, pos, Bool, List, Option, Some, IsErr, IsTrue, OnOk, OnErr};
 ghost use Rattle.std.specs.Option.{option_map};
-ghost use Rattle.krb_replay.specs.Limit.{HasAtLeast, Limits, ReachesAny, Since};
+ghost use Rattle.krb_replay.specs.Limit.{CountsOne, HasAtLeast, IsPastAny, Limits, Since};
 ghost use Rattle.krb_replay.specs.Stamp.{Stamp};
 ghost use Rattle.krb_replay.specs.Memory.{later_of, IsRecent, SameStamps, AddsStamp, IsSizeOf};
 
@@ -35,8 +35,8 @@ pub trait ReplayMemory {
     /// Whether exactly the stamps whose time isn't before a moment count for the limits.
     ghost counts_since: { Self → ℤ → Type 0 };
 
-    /// How many tuples were refused for a limit.
-    ghost refusals: { Self → ℕ };
+    /// How many tuples were refused for each of the limits, modulo 2 to the 64.
+    ghost refusals: { Self → List ℕ };
 
     /// Returns whether the set has the tuple.
     fn contains(&self, tuple: &Tuple) -> bool
@@ -59,18 +59,20 @@ pub trait ReplayMemory {
     /// Adds the tuple to the set, and changes nothing else.
     ///
     /// # Errors
-    /// `AllocError`: there is no memory for the tuple, or the memory has a limit, which is reached.
-    /// The memory is unchanged.
+    /// `AllocError`: there is no memory for the tuple; or the memory has a limit, which is reached,
+    /// and doesn't have the tuple yet. The memory is unchanged.
     fn remember(&mut self, tuple: Tuple) -> Result<(), AllocError>
         ensures ok { OnOk result (AddsStamp (has self.old) (has self.new) tuple) }
         ensures err { OnErr result (SameStamps (has self.old) (has self.new)) }
         ensures newest { newest self.new ≡ newest self.old }
 
-        // A tuple past a limit is refused. Nothing else is counted as refused for a limit.
-        ensures full { (oldest : ℤ) → counts_since self.old oldest → ReachesAny (has self.old) oldest tuple (limits self.old) → IsErr result }
+        // A tuple past a limit is refused, and that is counted. Nothing else is counted.
+        ensures full { (oldest : ℤ) → counts_since self.old oldest → IsPastAny (has self.old) oldest tuple (limits self.old)
+            → IsErr result × CountsOne (refusals self.old) (refusals self.new) }
         ensures refused { (oldest : ℤ) → counts_since self.old oldest → (refusals self.new ≡ refusals self.old)
-            ⊎ (IsErr result × ReachesAny (has self.old) oldest tuple (limits self.old)) }
-        ensures limits { limits self.new ≡ limits self.old };
+            ⊎ (CountsOne (refusals self.old) (refusals self.new) × (IsErr result × IsPastAny (has self.old) oldest tuple (limits self.old))) }
+        ensures limits { limits self.new ≡ limits self.old }
+        ensures counts { (oldest : ℤ) → counts_since self.old oldest → counts_since self.new oldest };
 
     /// Gives the memory a moment. The latest moment becomes the later of this moment and the one so
     /// far, if there was one. The memory may drop each tuple whose time is before the latest moment
@@ -86,7 +88,8 @@ pub trait ReplayMemory {
         ensures forgets { IsTrue FORGETS → (stamp : Stamp) → has self.new stamp
             → IsRecent (later_of (newest self.old) moment) skew stamp }
         ensures limits { limits self.new ≡ limits self.old }
-        ensures refusals { refusals self.new ≡ refusals self.old };
+        ensures refusals { refusals self.new ≡ refusals self.old }
+        ensures counts { (oldest : ℤ) → counts_since self.old oldest → counts_since self.new oldest };
 
     /// Returns the number of tuples in the set.
     fn len(&self) -> usize

@@ -1,9 +1,8 @@
 //! A memory that forgets what is old.
 
-ghost use Rattle.std.specs.Prelude.{◌≡◌, ◌≤ℤ◌, [], None, true, false};
-ghost use Rattle.krb_replay.specs.Inner.Held.{IsLater, since};
+ghost use Rattle.std.specs.Prelude.{◌≡◌, ◌⊎◌, ◌+◌, ◌≤◌, ◌≤ℤ◌, [], IsTrue, None, length, true, false};
+ghost use Rattle.krb_replay.specs.Inner.Held.{AreLive, IsLater, since};
 
-use crate::dropped::Dropped;
 use crate::held::Held;
 use crate::memory::{ReplayMemory, later};
 use crate::skew::Skew;
@@ -11,8 +10,9 @@ use crate::tuple::Tuple;
 use krb_time::Moment;
 use std::alloc::{AllocError, Global};
 use std::marker::Model;
+use std::mem;
 
-// How many dropped tuples a call frees at most. A call adds at most one.
+// How many dropped tuples a call frees, if there are as many. A call adds at most one.
 const FREED_AT_ONCE: usize = 16;
 
 /// The memory for a service that runs for a long time: `advance` drops all tuples whose time is
@@ -21,66 +21,78 @@ const FREED_AT_ONCE: usize = 16;
 /// Tuples may come in any order of time. The time for a look-up and a new tuple grows with the
 /// logarithm of how many tuples are held. (This is measured, and not proved.)
 ///
-/// What `advance` drops is out of the set at once, and is freed later: each call of `advance` frees
-/// up to 16 tuples. If all tuples are too old, as after an idle time, they are put aside, and no
-/// other call sees them. If only some are, the rest takes longer to count until these are freed:
-/// `len` and `has_at_least` pass them one by one. A tuple that is older than what was dropped is
-/// remembered only after that is freed.
+/// What `advance` drops is out of the set at once, and is freed later: each call of `expect`,
+/// `remember` and `advance` frees 16 tuples, if there are as many. If all tuples are too old, as after an idle
+/// time, they are put aside, and no other call sees them. If only some are, the rest takes longer to
+/// count until these are freed: `len` and `has_at_least` pass them one by one. A tuple that is older
+/// than what was dropped is remembered only after that is freed.
 ///
 /// Tuples of one service and one client share the two names. The names are freed with the last such
 /// tuple.
 #[derive(Debug, Drop)]
 pub struct TimedMemory {
     held: Held,
-    dropped: Dropped,
+    // What was dropped all at once, and isn't freed yet.
+    aside: Held,
     // Held tuples before this time, in microseconds since 1970-01-01T00:00:00Z, are dropped.
     oldest: i64,
     latest: Option<Moment>,
 }
 
 impl Model for TimedMemory {
-    ghost use Rattle.krb_replay.specs.Inner.Held.{since};
+    ghost use Rattle.std.specs.Prelude.{◌+◌, None, length};
+    ghost use Rattle.krb_replay.specs.Inner.Held.{number_before, since};
     ghost use Rattle.krb_replay.specs.Memory.{Memory};
 
     ghost Value = { Memory };
 
-    ghost view = { λ memory. record { stamps = since memory.oldest memory.held; latest = memory.latest } };
+    ghost view = { λ memory. record {
+      stamps = since memory.oldest memory.held;
+      latest = memory.latest;
+      unfreed = number_before None memory.oldest memory.held + length memory.aside;
+    } };
 }
 
 impl TimedMemory {
-    ghost use Rattle.std.specs.Prelude.{ℕ, ◌≤◌, Contains};
-    ghost use Rattle.krb_replay.specs.Memory.{HasNone, IsSizeOf};
+    ghost use Rattle.std.specs.Prelude.{ℕ, ◌≤◌, ◌*◌, Contains};
+    ghost use Rattle.krb_replay.specs.Memory.{HasNone, IsSizeOf, held_of};
 
     /// Makes an empty memory, which was given no moment. Allocates nothing yet.
     pub fn new(alloc: Global) -> TimedMemory
-        ensures value { result ≡ record { stamps = []; latest = None } }
+        ensures value { result ≡ record { stamps = []; latest = None; unfreed = 0 } }
         ensures empty { HasNone (⟦<TimedMemory as ReplayMemory>⟧.has result) }
         ensures newest { ⟦<TimedMemory as ReplayMemory>⟧.newest result ≡ None }
     {
         TimedMemory {
             held: Held::new(alloc),
-            dropped: Dropped::new(alloc),
+            aside: Held::new(alloc),
             oldest: i64::MIN,
             latest: None,
         }
     }
 
-    /// Returns how many tuples are in the set, and were dropped but aren't freed yet.
+    /// Returns how many tuples take room: those in the set, and those that were dropped and aren't
+    /// freed yet.
     pub fn held(&self) -> usize
-        ensures { (size : ℕ) → IsSizeOf (Contains self.now.stamps) size → size ≤ result }
+        ensures least { (size : ℕ) → IsSizeOf (Contains self.now.stamps) size → size ≤ result }
+        ensures exact { result ≡ held_of self.now }
     {
-        self.held.len().saturating_add(self.dropped.len())
+        self.held.len() + self.aside.len()
     }
 
     /// Returns about how many bytes these take. It is an estimate: up to 40 for a tuple, and 200
     /// for the two names that tuples share.
-    pub fn bytes(&self) -> usize {
-        self.held.bytes().saturating_add(self.dropped.bytes())
+    pub fn bytes(&self) -> usize
+        ensures { result ≤ 240 * held_of self.now }
+    {
+        self.held.bytes().saturating_add(self.aside.bytes())
     }
 }
 
 impl ReplayMemory for TimedMemory {
-    ghost use Rattle.std.specs.Prelude.{Contains};
+    ghost use Rattle.std.specs.Prelude.{◌+◌, ◌≤◌, ◌-ℤ◌, pos, Contains, OnErr, OnOk, Some};
+    ghost use Rattle.krb_replay.specs.Memory.{AddsStamp, FreesSome, IsRecent, SameStamps, held_of, later_of};
+    ghost use Rattle.krb_replay.specs.Stamp.{Stamp};
 
     const KEEPS: bool = false;
 
@@ -96,7 +108,7 @@ impl ReplayMemory for TimedMemory {
 
     ghost counts_since = { λ memory oldest. Unit {0} };
 
-    ghost refusals = { λ memory. 0 };
+    ghost refusals = { λ memory. [] };
 
     fn contains(&self, tuple: &Tuple) -> bool {
         tuple.time().micros() >= self.oldest && self.held.contains(tuple)
@@ -107,22 +119,46 @@ impl ReplayMemory for TimedMemory {
             .has_at_least(client_of, count, later_moment(self.oldest, oldest))
     }
 
-    fn expect(&mut self, _moment: Moment, _skew: Skew) {}
+    fn expect(&mut self, _moment: Moment, _skew: Skew)
+        ensures set { SameStamps (Contains self.old.stamps) (Contains self.new.stamps) }
+        ensures newest { self.new.latest ≡ self.old.latest }
+        ensures frees { FreesSome 16 self.old.unfreed self.new.unfreed }
+    {
+        free_some(&mut self.held, &mut self.aside, self.oldest);
+    }
 
-    fn remember(&mut self, tuple: Tuple) -> Result<(), AllocError> {
-        self.dropped.make_room_for(&self.held)?;
+    fn remember(&mut self, tuple: Tuple) -> Result<(), AllocError>
+        ensures ok { OnOk result (AddsStamp (Contains self.old.stamps) (Contains self.new.stamps) tuple) }
+        ensures err { OnErr result (SameStamps (Contains self.old.stamps) (Contains self.new.stamps)) }
+        ensures newest { self.new.latest ≡ self.old.latest }
+
+        // 16 that were dropped are freed, or all.
+        ensures frees { FreesSome 16 self.old.unfreed self.new.unfreed }
+        ensures grows { held_of self.new ≤ held_of self.old + 1 }
+    {
         let oldest = reach_back(&mut self.held, self.oldest, tuple.time().micros());
+        free_some(&mut self.held, &mut self.aside, oldest);
         let added = self.held.add(tuple);
         self.oldest = oldest;
         added
     }
 
-    fn advance(&mut self, moment: Moment, skew: Skew) {
+    fn advance(&mut self, moment: Moment, skew: Skew)
+        ensures newest { self.new.latest ≡ Some (later_of self.old.latest moment) }
+        ensures none_added { (stamp : Stamp) → Contains self.new.stamps stamp → Contains self.old.stamps stamp }
+        ensures kept { (stamp : Stamp) → Contains self.old.stamps stamp
+            → IsRecent (later_of self.old.latest moment) skew stamp → Contains self.new.stamps stamp }
+        ensures forgets { (stamp : Stamp) → Contains self.new.stamps stamp → IsRecent (later_of self.old.latest moment) skew stamp }
+
+        // 16 that are dropped are freed, or all.
+        ensures frees { (self.new.unfreed ≡ 0) ⊎ (held_of self.new + 16 ≤ held_of self.old) }
+        ensures shrinks { held_of self.new ≤ held_of self.old }
+    {
         let latest = later(self.latest, moment);
         let cut = latest.micros() - skew.micros();
         let oldest = later_moment(self.oldest, cut);
-        drop_all(&mut self.held, &mut self.dropped, oldest);
-        free_some(&mut self.held, &mut self.dropped, oldest);
+        put_aside(&mut self.held, &mut self.aside, oldest);
+        free_some(&mut self.held, &mut self.aside, oldest);
         self.oldest = oldest;
         self.latest = Some(latest);
     }
@@ -148,6 +184,7 @@ fn later_moment(one: i64, other: i64) -> i64
 fn reach_back(held: &mut Held, oldest: i64, time: i64) -> i64
     ensures same { since result held.new ≡ since oldest held.old }
     ensures reached { result ≤ℤ time }
+    ensures shrinks { length held.new ≤ length held.old }
 {
     if oldest <= time {
         return oldest;
@@ -156,22 +193,39 @@ fn reach_back(held: &mut Held, oldest: i64, time: i64) -> i64
     time
 }
 
-// Puts all that is held aside, if all of it is dropped, and it is more than a call frees.
-fn drop_all(held: &mut Held, dropped: &mut Dropped, oldest: i64)
-    ensures { since oldest held.new ≡ since oldest held.old }
+// Puts all that is held aside, if all of it is dropped, it is more than a call frees, and nothing is
+// aside yet.
+fn put_aside(held: &mut Held, aside: &mut Held, oldest: i64)
+    ensures same { since oldest held.new ≡ since oldest held.old }
+    ensures all { length held.new + length aside.new ≡ length held.old + length aside.old }
 {
-    if held.len() > FREED_AT_ONCE && held.are_before(oldest) {
-        dropped.take(held);
+    if aside.len() == 0 && held.len() > FREED_AT_ONCE && held.are_before(oldest) {
+        mem::swap(held, aside);
     }
 }
 
-// Frees some of what is dropped.
-fn free_some(held: &mut Held, dropped: &mut Dropped, oldest: i64)
-    ensures { since oldest held.new ≡ since oldest held.old }
+// Frees some of what is dropped, or all.
+fn free_some(held: &mut Held, aside: &mut Held, oldest: i64)
+    ensures same { since oldest held.new ≡ since oldest held.old }
+    ensures frees { AreLive oldest held.new aside.new
+        ⊎ (length held.new + length aside.new + 16 ≤ length held.old + length aside.old) }
+    ensures shrinks { length held.new + length aside.new ≤ length held.old + length aside.old }
 {
     for _ in 0..FREED_AT_ONCE {
-        if !held.free_first(oldest) && !dropped.free_one() {
+        if !free_one(held, aside, oldest) {
             return;
         }
     }
+}
+
+// Frees one tuple that is dropped, if there is one, and returns whether it did.
+fn free_one(held: &mut Held, aside: &mut Held, oldest: i64) -> bool
+    ensures same { since oldest held.new ≡ since oldest held.old }
+    ensures freed { IsTrue result → length held.new + length aside.new + 1 ≡ length held.old + length aside.old }
+    ensures none { result ≡ false → AreLive oldest held.new aside.new × ((held.new ≡ held.old) × (aside.new ≡ aside.old)) }
+{
+    if held.free_first(oldest) {
+        return true;
+    }
+    aside.pop_first()
 }

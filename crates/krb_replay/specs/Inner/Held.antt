@@ -1,6 +1,6 @@
 -- What a timed memory holds: its tuples in order, and how many of them each client has. Tuples that
 -- are too old are dropped at once, and freed later.
-use Rattle.std.specs.Prelude.{◌≡◌, ◌⊎◌, ◌≤ℤ◌, ℕ, ℤ, Bool, true, cond, not, int_lt, Option, Some, None, List, length}
+use Rattle.std.specs.Prelude.{◌≡◌, ◌⊎◌, ◌≤ℤ◌, ℕ, ℤ, Bool, true, cond, not, int_lt, Option, Some, None, List, [], length}
 use Rattle.std.specs.List.{filter}
 use Rattle.std.specs.BTreeMap.{BTreeMap, get, is_at}
 use Rattle.std.specs.Map.{count_at}
@@ -27,6 +27,10 @@ number_of client stamps = length (filter (is_of client) stamps)
 -- how many of them are before a moment
 abbrev pub number_before : Option RealmAndName → ℤ → List Stamp → ℕ
 number_before client oldest stamps = number_of client (filter (is_before oldest) stamps)
+
+-- nothing of what is held is before a moment, and nothing is aside
+abbrev pub AreLive : ℤ → List Stamp → List Stamp → Type 0
+AreLive oldest held aside = (since oldest held ≡ held) × (aside ≡ [])
 
 -- what is counted for a client
 abbrev pub count_of : BTreeMap TwoNames ℕ → TwoNames → ℕ

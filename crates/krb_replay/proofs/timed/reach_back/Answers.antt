@@ -1,4 +1,4 @@
-use Rattle.std.proofs.Common.{◌≡◌, ℤ, List, ap, sym, ◌∙◌, arith, to_z, of_z}
+use Rattle.std.proofs.Common.{◌≡◌, ℤ, List, length, ap, sym, ◌∙◌, arith, to_z, of_z}
 use Rattle.std.specs.Int.{w64}
 use Rattle.std.proofs.lemmas.Int.{ints}
 use Rattle.krb_replay.specs.Stamp.{Stamp}
@@ -16,4 +16,10 @@ returns-clause-same c =
     ap (λ (time : ℤ). since time c.free_first.new.self) t
     ∙ (ap (λ (stamps : List Stamp). since c.args.time stamps) none.0
     ∙ (recent_before c.args.oldest c.args.time c.loop.held all (omega (arith, ints))
-    ∙ (sym all ∙ (ap (λ (oldest : ℤ). since oldest c.loop.held) (sym o) ∙ (c.loop.invariant ∙ ap (λ (oldest : ℤ). since oldest c.args.held.now) o)))))
+    ∙ (sym all ∙ (ap (λ (oldest : ℤ). since oldest c.loop.held) (sym o) ∙ (c.loop.invariant.same ∙ ap (λ (oldest : ℤ). since oldest c.args.held.now) o)))))
+
+pub returns-clause-shrinks : goal.returns-clause-shrinks
+returns-clause-shrinks c =
+    let same : length c.free_first.new.self ≡ length c.loop.held = ap (λ (stamps : List Stamp). length stamps) (c.free_first.ensures.none c.loop-test.false).0 in
+    let less = c.loop.invariant.shrinks in
+    omega arith

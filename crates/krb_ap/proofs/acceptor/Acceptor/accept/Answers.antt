@@ -2,6 +2,7 @@ use Rattle.std.proofs.Common.{subst}
 use Rattle.krb_ap.specs.Setup.{Setup, arrival}
 use Rattle.krb_ap.specs.History.{StandsFor}
 use Rattle.krb_ap.specs.Answer.{after}
+use Rattle.krb_ap.proofs.Limits.{not_counted}
 use Rattle.krb_ap.proofs.OneAnswer.{taken_by, refused_for}
 use Rattle.krb_ap.proofs.acceptor.Acceptor.accept.Goals as goal
 
@@ -26,3 +27,7 @@ returns-clause-forgets g c = λ forgetting history stands named stamp.
     subst (λ (s : Setup). StandsFor s (g.M.ReplayMemory.has c.decide.new.self.memory) (g.M.ReplayMemory.newest c.decide.new.self.memory)
     (after history (arrival c.args.bytes.now c.args.now) c.decide.result)) c.decide.ensures.setup (c.decide.ensures.goes_on history stands).stands in
     (λ new. (on.only stamp new, (c.decide.ensures.goes_on history stands).forgets forgetting named stamp new), λ shown. on.all stamp shown.0 shown.1)
+
+pub returns-clause-uncounted : goal.returns-clause-uncounted
+returns-clause-uncounted g c = λ history cause stands holds early.
+    not_counted c.facts.ensures _ _ _ _ _ c.args.self.now.setup history (arrival c.args.bytes.now c.args.now) cause _ stands (c.decide.ensures.limit history stands) holds early

@@ -1,4 +1,4 @@
-use Rattle.std.proofs.Common.{◌≡◌, ℤ, List, ap, sym, ◌∙◌, subst, refl, inl, inr, Err}
+use Rattle.std.proofs.Common.{◌≡◌, ℤ, List, Option, ap, sym, ◌∙◌, subst, refl, inl, inr, Err}
 use Rattle.std.specs.Prelude.{IsErrOf}
 use Rattle.krb_replay.specs.Memory.{later_of, IsRecent}
 use Rattle.krb_replay.specs.Stamp.{Stamp}
@@ -6,7 +6,7 @@ use Rattle.krb_ap.specs.Setup.{Setup, Arrival, arrival}
 use Rattle.krb_ap.specs.Inner.GoingOn.{GoesOn}
 use Rattle.krb_ap.specs.declared.accepted.Accepted.{Accepted}
 use Rattle.krb_ap.specs.declared.refusal.Refusal.TheVariants.{OutOfMemory}
-use Rattle.krb_ap.specs.History.{StandsFor, Shows, effective}
+use Rattle.krb_ap.specs.History.{StandsFor, Shows, effective, greatest}
 use Rattle.krb_ap.specs.Answer.{after_refusal}
 use Rattle.krb_ap.specs.Inner.Judging.{IsJudged, IsTurnedAway}
 use Rattle.krb_ap.specs.declared.refusal.Refusal.{Refusal}
@@ -95,55 +95,70 @@ returns-in-Err-remember-clause-goes_on g c = λ history stands. record {
   forgets = λ forgetting named. absurd (named refl);
 }
 
-pub returns-then-is_memory-clause-full : goal.returns-then-is_memory-clause-full
-returns-then-is_memory-clause-full g c = λ history stamp stands shows fresh past. ap Err (is_so _ _ c.is_memory.ensures c.if-is_memory.true)
+pub returns-then-is_memory-clause-limit : goal.returns-then-is_memory-clause-limit
+returns-then-is_memory-clause-limit g c = rw c.judge.ensures.same (λ history stands. record {
+  full = λ stamp past. ap Err (is_so _ _ c.is_memory.ensures c.if-is_memory.true);
+  counted = inl refl;
+})
 
-pub returns-in-Err-clause-full : goal.returns-in-Err-clause-full
-returns-in-Err-clause-full g c = λ history stamp stands shows fresh past.
+pub returns-in-Err-clause-limit : goal.returns-in-Err-clause-limit
+returns-in-Err-clause-limit g c = λ history stands.
     let named : _ = is_not _ _ c.is_memory.ensures c.if-is_memory.false in
     let eff : c.effective-now.result ≡ effective history c.args.now = c.effective-now.ensures ∙ ap (λ l. later_of l c.args.now) stands.latest_is in
     let turned : IsTurnedAway c.args.self.now.setup history (arrival c.args.bytes.now c.args.now) (g.M.ReplayMemory.has c.args.self.now.memory) c.in-Err.refusal =
     c.in-Err.ensures.judged history c.args.now stands eff named in
-    absurd (fresh (turned.had stamp shows))
+    record {
+      full = λ stamp past. absurd (past.1.0 (turned.had stamp past.0));
+      counted = inl (rw c.judge.ensures.same at c.advance.ensures.refusals);
+    }
 
-pub returns-in-Ok-remember-clause-full : goal.returns-in-Ok-remember-clause-full
-returns-in-Ok-remember-clause-full g c = λ history stamp stands shows fresh past.
+-- the moment that counts, as the memory has it
+counted_at : (latest : Option ℤ) (history : List Arrival) (moment now : ℤ) → now ≡ later_of latest moment → latest ≡ greatest history
+    → later_of latest now ≡ effective history moment
+counted_at latest history moment now is same =
+    ap (later_of latest) is ∙ (counts_once latest moment ∙ ap (λ (l : Option ℤ). later_of l moment) same)
+
+pub returns-in-Ok-remember-clause-limit : goal.returns-in-Ok-remember-clause-limit
+returns-in-Ok-remember-clause-limit g c = λ history stands.
     let eff : c.effective-now.result ≡ effective history c.args.now = c.effective-now.ensures ∙ ap (λ l. later_of l c.args.now) stands.latest_is in
     let judged : IsJudged c.args.self.now.setup history (arrival c.args.bytes.now c.args.now) c.in-Ok.judged.tuple c.in-Ok.judged.answer =
     c.in-Ok.ensures.judged history c.args.now stands eff in
-    let count : later_of (g.M.ReplayMemory.newest c.args.self.now.memory) c.effective-now.result ≡ later_of (g.M.ReplayMemory.newest c.args.self.now.memory) c.args.now =
-    ap (later_of (g.M.ReplayMemory.newest c.args.self.now.memory)) c.effective-now.ensures ∙ counts_once (g.M.ReplayMemory.newest c.args.self.now.memory) c.args.now in
-    let same : stamp ≡ c.in-Ok.judged.tuple =
-    one_stamp c.facts.ensures c.args.self.now.setup history c.args.bytes.now c.args.now (effective history c.args.now) c.in-Ok.judged.tuple stamp judged.shows shows in
-    let IsPast : ℤ → Stamp → Type 0 = λ at one. IsPastLimit g.M.ReplayMemory.has (g.M.ReplayMemory.limits c.args.self.now.memory) c.args.self.now at one in
-    let failed = (rw c.judge.ensures.same at c.in-Ok-remember.ensures.full)
-    (subst (λ (at : ℤ). IsPast at c.in-Ok.judged.tuple) (sym count) (subst (IsPast (later_of (g.M.ReplayMemory.newest c.args.self.now.memory) c.args.now)) same past)) in
-    absurd (cc)
-
-pub returns-in-Err-remember-clause-full : goal.returns-in-Err-remember-clause-full
-returns-in-Err-remember-clause-full g c = λ history stamp stands shows fresh past. refl
-
-pub returns-then-is_memory-clause-limit : goal.returns-then-is_memory-clause-limit
-returns-then-is_memory-clause-limit g c = rw c.judge.ensures.same (λ history stands. inl refl)
-
-pub returns-in-Err-clause-limit : goal.returns-in-Err-clause-limit
-returns-in-Err-clause-limit g c = λ history stands. inl (rw c.judge.ensures.same at c.advance.ensures.refusals)
-
-pub returns-in-Ok-remember-clause-limit : goal.returns-in-Ok-remember-clause-limit
-returns-in-Ok-remember-clause-limit g c = λ history stands. elim (rw c.judge.ensures.same at c.in-Ok-remember.ensures.refused) [
-  | inl e ↦ inl (c.advance-in-Ok-remember.ensures.refusals ∙ e)
-  | inr h ↦ (let failed = h.0 in absurd (cc))
-]
+    let IsPast : ℤ → Stamp → Type 0 = λ at one.
+    IsPastLimit (g.M.ReplayMemory.has c.args.self.now.memory) (g.M.ReplayMemory.limits c.args.self.now.memory) c.args.self.now.setup at one in
+    record {
+      full = λ stamp past.
+          let same : stamp ≡ c.in-Ok.judged.tuple =
+          one_stamp c.facts.ensures c.args.self.now.setup history c.args.bytes.now c.args.now (effective history c.args.now) c.in-Ok.judged.tuple stamp judged.shows past.0 in
+          let failed = ((rw c.judge.ensures.same at c.in-Ok-remember.ensures.full)
+          (subst (λ (at : ℤ). IsPast at c.in-Ok.judged.tuple) (sym (counted_at _ history c.args.now c.effective-now.result c.effective-now.ensures stands.latest_is))
+          (subst (IsPast (effective history c.args.now)) same past.1))).0 in
+          absurd (cc);
+      counted = elim (rw c.judge.ensures.same at c.in-Ok-remember.ensures.refused) [
+        | inl e ↦ inl (c.advance-in-Ok-remember.ensures.refusals ∙ e)
+        | inr h ↦ (let failed = h.1.0 in absurd (cc))
+      ];
+    }
 
 pub returns-in-Err-remember-clause-limit : goal.returns-in-Err-remember-clause-limit
 returns-in-Err-remember-clause-limit g c = λ history stands.
     let eff : c.effective-now.result ≡ effective history c.args.now = c.effective-now.ensures ∙ ap (λ l. later_of l c.args.now) stands.latest_is in
     let judged : IsJudged c.args.self.now.setup history (arrival c.args.bytes.now c.args.now) c.in-Ok.judged.tuple c.in-Ok.judged.answer =
     c.in-Ok.ensures.judged history c.args.now stands eff in
-    let count : later_of (g.M.ReplayMemory.newest c.args.self.now.memory) c.effective-now.result ≡ later_of (g.M.ReplayMemory.newest c.args.self.now.memory) c.args.now =
-    ap (later_of (g.M.ReplayMemory.newest c.args.self.now.memory)) c.effective-now.ensures ∙ counts_once (g.M.ReplayMemory.newest c.args.self.now.memory) c.args.now in
-    let IsPast : ℤ → Stamp → Type 0 = λ at one. IsPastLimit g.M.ReplayMemory.has (g.M.ReplayMemory.limits c.args.self.now.memory) c.args.self.now at one in
-    elim (rw c.judge.ensures.same at c.in-Err-remember.ensures.refused) [
-      | inl e ↦ inl e
-      | inr h ↦ inr (refl, (c.in-Ok.judged.tuple, (judged.shows, subst (λ (at : ℤ). IsPast at c.in-Ok.judged.tuple) count h.1)))
-    ]
+    let IsPast : ℤ → Stamp → Type 0 = λ at one.
+    IsPastLimit (g.M.ReplayMemory.has c.args.self.now.memory) (g.M.ReplayMemory.limits c.args.self.now.memory) c.args.self.now.setup at one in
+    record {
+      full = λ stamp past. refl;
+      counted = elim (rw c.judge.ensures.same at c.in-Err-remember.ensures.refused) [
+        | inl e ↦ inl e
+        | inr h ↦ inr (
+          h.0,
+          (
+            refl,
+            (
+              c.in-Ok.judged.tuple,
+              (judged.shows, subst (λ (at : ℤ). IsPast at c.in-Ok.judged.tuple) (counted_at _ history c.args.now c.effective-now.result c.effective-now.ensures stands.latest_is) h.1.1),
+            ),
+          ),
+        )
+      ];
+    }

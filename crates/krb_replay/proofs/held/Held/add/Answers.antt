@@ -1,11 +1,11 @@
-use Rattle.std.proofs.Common.{◌≡◌, ◌+◌, ◌<◌, ◌∙◌, true, false, sym, ap, subst, arith}
+use Rattle.std.proofs.Common.{◌≡◌, ◌≤ℤ◌, ◌+◌, ◌<◌, ◌∙◌, true, false, sym, ap, subst, arith}
 use Rattle.std.specs.List.{list_any}
 use Rattle.std.specs.BTreeMap.{is_at}
 use Rattle.std.specs.BTreeSet.{Updates}
 use Rattle.krb_replay.specs.Inner.Order.{TwoNames, names_of, stamp_cmp}
 use Rattle.krb_replay.specs.Inner.Held.{count_of, one_of}
 use Rattle.krb_replay.proofs.SetLaws.{adds_nothing, added_to_set, set_found}
-use Rattle.krb_replay.proofs.HeldLaws.{counted_more, own}
+use Rattle.krb_replay.proofs.HeldLaws.{counted_more, none_before, own}
 use Rattle.krb_replay.proofs.held.Held.add.Goals as goal
 
 pub returns-then-contains-clause-ok : goal.returns-then-contains-clause-ok
@@ -37,3 +37,10 @@ returns-in-Ok-insert-clause-ok c =
     added_to_set c.self.inside.tuples c.insert.new.self c.args.self.now c.args.tuple
     (subst (λ tuple. Updates stamp_cmp c.self.inside.tuples c.insert.new.self tuple true) c.in_ok-tuple.ensures c.in-Ok-insert.ensures.updates)
     c.self.view_is
+
+pub returns-in-Ok-insert-clause-before : goal.returns-in-Ok-insert-clause-before
+returns-in-Ok-insert-clause-before c = λ oldest recent.
+    let same : c.in_ok-tuple.tuple ≡ c.args.tuple = c.in_ok-tuple.ensures in
+    none_before oldest c.self.inside.tuples.keys c.insert.new.self.keys c.args.self.now c.in_ok-tuple.tuple
+    (subst (λ tuple. list_any (is_at (stamp_cmp tuple)) c.self.inside.tuples.keys ≡ false) (sym same) (sym c.contains.ensures ∙ c.if-contains.false))
+    c.in-Ok-insert.ensures.keys c.self.view_is (subst (λ tuple. oldest ≤ℤ tuple.time) (sym same) recent)

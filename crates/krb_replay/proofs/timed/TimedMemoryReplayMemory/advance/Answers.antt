@@ -1,9 +1,9 @@
-use Rattle.std.proofs.Common.{◌≡◌, ◌-ℤ◌, ◌∙◌, ℤ, pos, Option, ap, sym, subst, arith, to_z, of_z}
+use Rattle.std.proofs.Common.{◌≡◌, ◌⊎◌, ◌+◌, ◌≤◌, ◌-ℤ◌, ◌∙◌, ℤ, None, length, pos, Option, ap, sym, subst, arith, to_z, of_z}
 use Rattle.std.specs.Int.{w64}
 use Rattle.std.proofs.lemmas.Int.{ints}
-use Rattle.krb_replay.specs.Memory.{later_of}
-use Rattle.krb_replay.specs.Inner.Held.{IsLater, since}
-use Rattle.krb_replay.proofs.TimedLaws.{Forgets, forgotten}
+use Rattle.krb_replay.specs.Memory.{Memory, held_of, later_of}
+use Rattle.krb_replay.specs.Inner.Held.{IsLater, number_before, since}
+use Rattle.krb_replay.proofs.TimedLaws.{Forgets, forgotten, frees_dropped, shrinks}
 use Rattle.krb_replay.proofs.timed.TimedMemoryReplayMemory.advance.Goals as goal
 
 left : (c : goal.After-self-2-1)
@@ -26,7 +26,7 @@ left c =
     (subst (λ (other : ℤ). IsLater (to_z w64 (of_z w64 c.self.inside.oldest)) other (to_z w64 (of_z w64 c.later_moment-oldest.result))) (cut ∙ value)
     (subst (λ (result : ℤ). IsLater (to_z w64 (of_z w64 c.self.inside.oldest)) (to_z w64 (of_z w64 (to_z w64 (of_z w64 c.micros.result) -ℤ to_z w64 (of_z w64 c.micros-2.result)))) result) (sym r)
     c.later_moment-oldest.ensures)))
-    (c.free_some.ensures ∙ c.drop_all.ensures) (ap (λ memory. memory.stamps) c.self.view_is)
+    (c.free_some.ensures.same ∙ c.put_aside.ensures.same) (ap (λ memory. memory.stamps) c.self.view_is)
 
 pub returns-clause-none_added : goal.returns-clause-none_added
 returns-clause-none_added c = (left c).none_added
@@ -35,4 +35,19 @@ pub returns-clause-kept : goal.returns-clause-kept
 returns-clause-kept c = (left c).kept
 
 pub returns-clause-forgets : goal.returns-clause-forgets
-returns-clause-forgets c = λ yes. (left c).forgets
+returns-clause-forgets c = (left c).forgets
+
+pub returns-clause-frees : goal.returns-clause-frees
+returns-clause-frees c =
+    let later : ℤ = to_z w64 (of_z w64 c.later_moment-oldest.result) in
+    subst (λ (memory : Memory). (number_before None later c.free_some.new.held + length c.free_some.new.aside ≡ 0)
+    ⊎ (length (since later c.free_some.new.held) + (number_before None later c.free_some.new.held + length c.free_some.new.aside) + 16 ≤ held_of memory)) c.self.view_is
+    (frees_dropped c.self.inside.oldest later c.self.inside.held c.put_aside.new.held c.free_some.new.held c.self.inside.aside c.put_aside.new.aside c.free_some.new.aside
+    c.put_aside.ensures.all c.free_some.ensures.frees)
+
+pub returns-clause-shrinks : goal.returns-clause-shrinks
+returns-clause-shrinks c =
+    let later : ℤ = to_z w64 (of_z w64 c.later_moment-oldest.result) in
+    subst (λ (memory : Memory). length (since later c.free_some.new.held) + (number_before None later c.free_some.new.held + length c.free_some.new.aside) ≤ held_of memory) c.self.view_is
+    (shrinks c.self.inside.oldest later c.self.inside.held c.put_aside.new.held c.free_some.new.held c.self.inside.aside c.put_aside.new.aside c.free_some.new.aside
+    c.put_aside.ensures.all c.free_some.ensures.shrinks)

@@ -1,0 +1,20 @@
+-- Limits over limits: what a memory refuses for its own limit, and what the memory refuses that it limits.
+use Rattle.std.proofs.Common.{◌≡◌, ◌⊎◌, inl, inr, ℕ, ℤ, List, ◌∷◌, refl, ap}
+use Rattle.krb_replay.specs.Limit.{CountsOne, IsPastAny, Limits, Reaches}
+use Rattle.krb_replay.specs.Stamp.{Stamp}
+
+module _ (Has : Stamp → Type 0) (oldest : ℤ) (stamp : Stamp) (one : Limits) (more : List Limits) (refused : ℕ) (old new : List ℕ) (Refused : Type 0) where
+  -- there is room by the first limits
+  pub full_within : (¬ Has stamp × Reaches Has oldest stamp one → ⊥) → (IsPastAny Has oldest stamp more → Refused × CountsOne old new)
+      → IsPastAny Has oldest stamp (one ∷ more) → Refused × CountsOne (refused ∷ old) (refused ∷ new)
+  full_within room refuses past = elim past.1 [
+    | inl reaches ↦ absurd (room (past.0, reaches))
+    | inr within ↦ (let h = refuses (past.0, within) in (h.0, inr (refl, h.1)))
+  ]
+
+  pub counted_within : (new ≡ old) ⊎ (CountsOne old new × (Refused × IsPastAny Has oldest stamp more))
+      → ((refused ∷ new) ≡ (refused ∷ old)) ⊎ (CountsOne (refused ∷ old) (refused ∷ new) × (Refused × IsPastAny Has oldest stamp (one ∷ more)))
+  counted_within counted = elim counted [
+    | inl e ↦ inl (ap (λ (counts : List ℕ). refused ∷ counts) e)
+    | inr h ↦ inr (inr (refl, h.0), (h.1.0, (h.1.1.0, inr h.1.1.1)))
+  ]
