@@ -276,6 +276,11 @@ static fevstunik_answer adding_realm(void)
     return fevstunik_acceptor_add_realm(&service, (const uint8_t *)"EX", 2);
 }
 
+static fevstunik_answer replacing_bindings(void)
+{
+    return fevstunik_acceptor_replace_bindings(&service, FEVSTUNIK_BINDINGS_IF_SENT, confounder, sizeof confounder);
+}
+
 static fevstunik_answer counting_items(void)
 {
     return fevstunik_accepted_count(&accepted, FEVSTUNIK_LIST_CHECKSUM);
@@ -484,6 +489,7 @@ static const struct step steps[] = {
     {"acceptor_free", freeing_service, FEVSTUNIK_OK},
     {"acceptor_new for logins", making_service, FEVSTUNIK_OK},
     {"acceptor_add_realm", adding_realm, FEVSTUNIK_OK},
+    {"acceptor_replace_bindings", replacing_bindings, FEVSTUNIK_OK},
     {"service_answer to a negotiation", beginning, FEVSTUNIK_GO_ON},
     {"login_free of a negotiation", freeing_login, FEVSTUNIK_OK},
     {"service_answer to another ticket", deciding_on_another_ticket, FEVSTUNIK_TICKET_INTEGRITY},

@@ -16,7 +16,7 @@ def lines(build, room, *more, over=None):
     """What the program writes."""
     program = build.linked("left", room / "left", *WRAPPED, *more, over=over)
     written = well(run(program, room)).stdout.splitlines()
-    assert re.fullmatch(r"122 steps, \d+ secrets, 0 blocks held", written[-1]), written[-1]
+    assert re.fullmatch(r"124 steps, \d+ secrets, 0 blocks held", written[-1]), written[-1]
     return written
 
 
@@ -43,8 +43,9 @@ def test_what_is_left_without_wiping_is_found(built, room):
 
 def test_each_call_with_a_key_or_a_handle_is_a_step():
     made = re.findall(r'^    {"(\w+)', (TOP / "tests/secrets/flow.h").read_text(), re.M)
-    handles_keys = (it.name for it in INTERFACE.functions if any(name == "key" or kind.startswith("handle ") for name, kind in it.parts))
-    assert set(handles_keys) <= set(made)
+    has_secrets = (it.name for it in INTERFACE.functions
+                   if any(name == "key" or kind.startswith("handle ") for name, kind in it.parts))
+    assert set(has_secrets) <= set(made)
 
 
 # The frames of the program's own functions, above that of a function of the library.

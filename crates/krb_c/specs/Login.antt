@@ -20,7 +20,7 @@ use Rattle.krb_login.specs.declared.decision.Decision.{Decision}
 use Rattle.krb_login.specs.declared.decision.Decision.TheVariants.{LetIn, GoOn, Refused}
 use Rattle.krb_login.specs.declared.terms.Realms.{Realms}
 use Rattle.krb_login.specs.declared.terms.Realms.TheVariants.{Any, Only}
-use Rattle.krb_c.specs.Accepting.{IsMomentOf, Stands, full_of}
+use Rattle.krb_c.specs.Service.{IsMomentOf, Stands, full_of}
 use Rattle.krb_c.specs.Answer.{Tells, plain, refused, sized}
 use Rattle.krb_c.specs.Choice.{key_value}
 use Rattle.krb_c.specs.Codes.{bad_moment, bad_random, breach_code, empty_handle, full, go_on, nothing_there, ok, out_of_memory, short_buffer}
