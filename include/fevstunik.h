@@ -133,7 +133,7 @@ typedef enum fevstunik_code {
     FEVSTUNIK_NO_NAME = 417,        /* no name to serve is given; `any_name` isn't set either */
     FEVSTUNIK_NO_START = 418,       /* it isn't said how repeats are refused after a start; `restarts` isn't a fevstunik_restart */
     FEVSTUNIK_EARLY_START = 419,    /* the start is before the year 2020; `any_start` isn't set */
-    FEVSTUNIK_BAD_BINDINGS = 420,   /* the number isn't that of a rule for channel bindings; `bindings` isn't a fevstunik_bindings */
+    FEVSTUNIK_BAD_BINDINGS = 420,   /* there is no such rule for channel bindings, or it has no bindings to compare with; `bindings` isn't a fevstunik_bindings, or the hash isn't 16 bytes, or is all zero */
     FEVSTUNIK_BAD_RANDOM = 421,     /* there are fewer or more random bytes than the service needs; 16, and those of its subkey */
 
     /* What is wrong with a file. */
@@ -319,7 +319,7 @@ static inline const char *fevstunik_code_text(uint32_t code)
     case FEVSTUNIK_NO_NAME: return "no name to serve is given";
     case FEVSTUNIK_NO_START: return "it isn't said how repeats are refused after a start";
     case FEVSTUNIK_EARLY_START: return "the start is before the year 2020";
-    case FEVSTUNIK_BAD_BINDINGS: return "the number isn't that of a rule for channel bindings";
+    case FEVSTUNIK_BAD_BINDINGS: return "there is no such rule for channel bindings, or it has no bindings to compare with";
     case FEVSTUNIK_BAD_RANDOM: return "there are fewer or more random bytes than the service needs";
     case FEVSTUNIK_FILE_VERSION: return "the file doesn't begin with 05 02 (a keytab), or with 05 03 or 05 04 (a cache)";
     case FEVSTUNIK_FILE_HEADER: return "the header of the cache is malformed";
@@ -417,7 +417,8 @@ typedef enum fevstunik_list {
     FEVSTUNIK_LIST_ADDRESSES = 1,                   /* the ticket's addresses, which were compared with nothing */
     FEVSTUNIK_LIST_TICKET_AUTHORIZATION = 2,        /* the ticket's authorization data; each item is of type 1 (AD-IF-RELEVANT) */
     FEVSTUNIK_LIST_AUTHENTICATOR_AUTHORIZATION = 3, /* the authenticator's, likewise */
-    FEVSTUNIK_LIST_CHECKSUM = 4                     /* the authenticator's checksum, a list of one; it wasn't verified */
+    FEVSTUNIK_LIST_CHECKSUM = 4,                    /* the authenticator's checksum, a list of one; it wasn't verified */
+    FEVSTUNIK_LIST_TRANSITED = 5                    /* the realms that the ticket passed through, as it encodes them, a list of one; they weren't checked */
 } fevstunik_list;
 
 /* What a client and a service agreed on. The spans are places in the buffer of the call. */
@@ -585,7 +586,7 @@ typedef struct fevstunik_acceptor_options {
     size_t limit_for_client;   /* the most of one client; 0 stands for a tenth of the limit, but at least 1 */
     uint32_t bindings;         /* a fevstunik_bindings */
     uint32_t subkey_type;      /* the encryption type of the subkey that a reply sends: 19, 20, or 0 for no subkey */
-    uint8_t bindings_hash[16]; /* the MD5 hash of the channel's bindings (RFC 4121, section 4.1.1.2) */
+    uint8_t bindings_hash[16]; /* the MD5 hash of the channel's bindings (RFC 4121, section 4.1.1.2); not all zero, unless they are ignored */
     bool anonymous;            /* whether anonymous clients are let in (RFC 8062) */
     bool only_realms;          /* whether only clients of the realms that fevstunik_acceptor_add_realm adds are let in */
 } fevstunik_acceptor_options;
@@ -992,8 +993,8 @@ fevstunik_answer fevstunik_accepted_count(fevstunik_accepted *accepted, uint32_t
 
 /* Reads one item of a list of the accepted request; `index` counts from 0. Writes the item's type
  * to `kind` and its bytes to the buffer. The type is that of an address (RFC 4120, section 7.5.3),
- * of authorization data (section 7.5.4) or of a checksum (section 7.5.6). `kind` is written even if
- * the buffer is too short. The call allocates no memory.
+ * of authorization data (section 7.5.4), of a checksum (section 7.5.6) or of the encoding of realms
+ * (section 7.5.5). `kind` is written even if the buffer is too short. The call allocates no memory.
  *
  * Returns FEVSTUNIK_OK or FEVSTUNIK_SHORT_BUFFER; or writes nothing and returns
  * FEVSTUNIK_EMPTY_HANDLE, FEVSTUNIK_NOTHING_THERE, or FEVSTUNIK_NO_SUCH_ENTRY if the request
@@ -1097,6 +1098,20 @@ fevstunik_answer fevstunik_acceptor_latest(fevstunik_acceptor *handle, fevstunik
  *     answer = fevstunik_acceptor_add_realm(&service, (const uint8_t *)"EX", 2);
  */
 fevstunik_answer fevstunik_acceptor_add_realm(fevstunik_acceptor *handle, const uint8_t *realm, size_t realm_size);
+
+/* Gives a service other channel bindings, for example when its certificate is renewed. `bindings`
+ * is a fevstunik_bindings, and `hash` the 16 bytes of the options' `bindings_hash`, which aren't
+ * looked at with FEVSTUNIK_BINDINGS_IGNORED. The service keeps all else. The next call of
+ * fevstunik_service_answer compares with the new hash: a client of a connection that was opened
+ * before still sends the old one.
+ *
+ * Returns FEVSTUNIK_OK; or leaves the service unchanged and returns FEVSTUNIK_EMPTY_HANDLE, or
+ * FEVSTUNIK_BAD_BINDINGS if there is no such rule, or the rule compares and `hash` isn't 16 bytes
+ * or is all zero: sixteen zeros say that a client has no bindings.
+ *
+ *     answer = fevstunik_acceptor_replace_bindings(&service, FEVSTUNIK_BINDINGS_IF_SENT, hash, 16);
+ */
+fevstunik_answer fevstunik_acceptor_replace_bindings(fevstunik_acceptor *handle, uint32_t bindings, const uint8_t *hash, size_t hash_size);
 
 /* Frees what the handle holds. The handle is empty then, and may be used again. Calling it with an
  * empty handle has no effect. It can't fail.

@@ -1,5 +1,5 @@
 /* A service over TCP on the loopback, for several clients at once. A client that is let in sends a text under the key of the service's reply,
- * and gets a receipt. It has ten seconds for each part of a message. At SIGHUP the service reads its keytab again.
+ * and gets a receipt. It has ten seconds for all of that. At SIGHUP the service reads its keytab again.
  *
  *     service KEYTAB NAME COUNT [first]      NAME as host/web@EX; it ends after so many connections
  *
@@ -16,43 +16,56 @@ static char **given;
 static void load(void)
 {
     size_t size, length = strlen(given[2]);
-    uint8_t *keytab, *name = (uint8_t *)given[2];
-    int is_new = service.opaque == NULL;
+    uint8_t *keytab = whole_file(given[1], &size), *name = (uint8_t *)given[2];
 
-    if (!is_new && access(given[1], R_OK) != 0) {
-        perror("the keys stay");
-        return;
+    if (keytab == NULL)
+        perror(given[1]);
+    else {
+        fevstunik_answer answer = service.opaque == NULL ? fevstunik_acceptor_new(&service, keytab, size, name, length, &options)
+                                                         : fevstunik_acceptor_replace_keytab(&service, keytab, size, name, length, false);
+
+        fprintf(stderr, "keytab: %s\n", fevstunik_code_text(answer.code));
+        explicit_bzero(keytab, size);
+        free(keytab);
     }
-    keytab = whole_file(given[1], &size);
-    fevstunik_answer answer = is_new ? fevstunik_acceptor_new(&service, keytab, size, name, length, &options)
-                                     : fevstunik_acceptor_replace_keytab(&service, keytab, size, name, length, false);
-
-    free(keytab);
-    fprintf(stderr, "keytab: %s\n", fevstunik_code_text(answer.code));
-    if (is_new && answer.code != FEVSTUNIK_OK)
+    if (service.opaque == NULL)
         exit(2);
+}
+
+/* Decides about what a client sent, and sends what goes back. */
+static fevstunik_answer decide(int peer, fevstunik_login *login, const struct bytes *input, const uint8_t *random, size_t random_size)
+{
+    lock();
+    fevstunik_time now = clock_now();
+    fevstunik_answer answer = fevstunik_service_answer(&service, login, input->at, input->size, &now, random, random_size, NULL, 0);
+    unlock();
+    if (answer.code != FEVSTUNIK_SHORT_BUFFER)
+        return answer;
+    uint8_t *out = malloc(answer.size);
+    if (out == NULL)
+        give_up("memory");
+    answer = fevstunik_login_answer(login, out, answer.size);
+    (void)transmit(peer, out, answer.size);
+    free(out);
+    return answer;
 }
 
 static void serve(int peer)
 {
     struct bytes input;
-    uint8_t random[16 + SUBKEY_SIZE], out[4096];
+    uint8_t random[16 + SUBKEY_SIZE];
     fevstunik_login login = FEVSTUNIK_LOGIN_INIT;
     fevstunik_answer answer = {FEVSTUNIK_GO_ON, 0, 0, 0};
 
     while (answer.code == FEVSTUNIK_GO_ON && receive(peer, &input)) {
         draw(random, sizeof random);
-        lock();
-        fevstunik_time now = clock_now();
-        answer = fevstunik_service_answer(&service, &login, input.at, input.size, &now, random, sizeof random, out, sizeof out);
-        unlock();
-        if (answer.code != FEVSTUNIK_SHORT_BUFFER && answer.size > 0)
-            (void)transmit(peer, out, answer.size);
+        answer = decide(peer, &login, &input, random, sizeof random);
     }
     if (answer.code == FEVSTUNIK_OK)
         hear(peer, &login.accepted, random + 16);
     else
         printf("refused %s\n", fevstunik_code_name(answer.code));
+    explicit_bzero(random, sizeof random);
     fevstunik_login_free(&login);
 }
 

@@ -2,8 +2,9 @@
 #ifndef SOURCES_H
 #define SOURCES_H
 
+#include <fcntl.h>
 #include <sys/random.h>
-#include <time.h>
+#include <sys/stat.h>
 
 #include "fevstunik.h"
 #include "wire.h"
@@ -18,21 +19,21 @@ static inline void read_file(const char *name, struct bytes *bytes)
     fclose(file);
 }
 
-/* The bytes of a file of any size, which the caller frees. */
+/* The bytes of a file of any size, which the caller overwrites and frees, or NULL. There is no other copy of them. */
 static inline uint8_t *whole_file(const char *name, size_t *size)
 {
-    FILE *file = fopen(name, "rb");
-    uint8_t *bytes = NULL, *longer;
+    int file = open(name, O_RDONLY);
+    struct stat found;
+    uint8_t *bytes = file >= 0 && fstat(file, &found) == 0 ? malloc((size_t)found.st_size + 1) : NULL;
+    ssize_t count = bytes == NULL ? -1 : read(file, bytes, (size_t)found.st_size + 1);
 
-    *size = 0;
-    do {
-        if (file == NULL || (longer = realloc(bytes, *size + MOST)) == NULL)
-            give_up(name);
-        bytes = longer;
-        *size += fread(bytes + *size, 1, MOST, file);
-    } while (!feof(file) && !ferror(file));
-    fclose(file);
-    return bytes;
+    if (file >= 0)
+        close(file);
+    *size = count < 0 ? 0 : (size_t)count;
+    if (count >= 0 && count == found.st_size)
+        return bytes;
+    free(bytes);
+    return NULL;
 }
 
 static inline fevstunik_time clock_now(void)

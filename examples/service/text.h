@@ -25,24 +25,32 @@ static inline int say(int peer, const char *text, const fevstunik_agreement *agr
 }
 
 /* Reads a text under the subkey of the reply, and sends its checksum under the client's subkey, or under the session key if it chose none. */
-static inline void hear(int peer, fevstunik_accepted *accepted, const uint8_t *subkey)
+static inline void take_text(int peer, const fevstunik_known *known, const uint8_t *bytes, const uint8_t *subkey)
 {
+    fevstunik_span key = known->has_subkey ? known->subkey : known->session_key;
+    int type = known->has_subkey ? known->subkey_type : known->session_type;
     struct bytes text;
-    uint8_t bytes[4096], plain[MOST], tag[24];
-    fevstunik_known known;
-    fevstunik_span key;
+    uint8_t plain[MOST], tag[24];
     fevstunik_answer opened, answer;
 
-    if (fevstunik_accepted_known(accepted, &known, bytes, sizeof bytes).code != FEVSTUNIK_OK || !known.wants_reply || !receive(peer, &text))
+    if (!receive(peer, &text))
         return;
-    key = known.has_subkey ? known.subkey : known.session_key;
     opened = fevstunik_open(SUBKEY_TYPE, subkey, SUBKEY_SIZE, TEXT_USAGE, text.at, text.size, plain, sizeof plain);
-    answer = fevstunik_checksum(known.has_subkey ? known.subkey_type : known.session_type, bytes + key.at, key.size, RECEIPT_USAGE, plain,
-                                opened.size, tag, sizeof tag);
+    answer = fevstunik_checksum(type, bytes + key.at, key.size, RECEIPT_USAGE, plain, opened.size, tag, sizeof tag);
     if (opened.code == FEVSTUNIK_OK && answer.code == FEVSTUNIK_OK && transmit(peer, tag, answer.size))
-        printf("%.*s: %.*s\n", (int)known.client.size, (const char *)bytes + known.client.at, (int)opened.size, (const char *)plain);
+        printf("%.*s: %.*s\n", (int)known->client.size, (const char *)bytes + known->client.at, (int)opened.size, (const char *)plain);
     else
         printf("a damaged text\n");
+}
+
+static inline void hear(int peer, fevstunik_accepted *accepted, const uint8_t *subkey)
+{
+    uint8_t bytes[4096];
+    fevstunik_known known;
+
+    if (fevstunik_accepted_known(accepted, &known, bytes, sizeof bytes).code == FEVSTUNIK_OK && known.wants_reply)
+        take_text(peer, &known, bytes, subkey);
+    explicit_bzero(bytes, sizeof bytes);
 }
 
 #endif

@@ -7,8 +7,10 @@
 
 #include "wire.h"
 
-/* How many seconds a peer has for each part of a message. */
+/* How many seconds a peer has for its login and its text together. */
+#ifndef SECONDS
 #define SECONDS 10
+#endif
 
 static pthread_mutex_t one_at_a_time = PTHREAD_MUTEX_INITIALIZER;
 static void (*serve_peer)(int), (*at_hangup)(void);
@@ -25,6 +27,7 @@ static inline void unlock(void)
 
 static inline void *serve_one(void *peer)
 {
+    limit_time(SECONDS);
     serve_peer((int)(intptr_t)peer);
     fflush(stdout);
     close((int)(intptr_t)peer);
@@ -62,7 +65,6 @@ static inline void serve_each(int count, void (*serve)(int), void (*hung_up)(voi
     listener = listen_on_any();
     for (at = 0; at < count; at++) {
         peer = accept_from(listener);
-        limit_time(peer, SECONDS);
         if (pthread_create(&threads[at], NULL, serve_one, (void *)(intptr_t)peer) != 0)
             give_up("thread");
     }

@@ -6,12 +6,13 @@
 
 #include <arpa/inet.h>
 #include <netinet/in.h>
+#include <poll.h>
 #include <stdint.h>
 #include <stdio.h>
 #include <stdlib.h>
 #include <string.h>
 #include <sys/socket.h>
-#include <sys/time.h>
+#include <time.h>
 #include <unistd.h>
 
 /* The usages of the text and of its receipt; an application chooses from 1024 on (RFC 4120, section 7.5.1). */
@@ -75,19 +76,37 @@ static inline int accept_from(int listener)
     return peer;
 }
 
-/* Gives a peer so many seconds for each part of what it sends or receives. */
-static inline void limit_time(int peer, int seconds)
+/* Milliseconds since some moment; setting the clock doesn't change them. */
+static inline int64_t milliseconds(void)
 {
-    struct timeval time = {seconds, 0};
+    struct timespec time;
 
-    if (setsockopt(peer, SOL_SOCKET, SO_RCVTIMEO, &time, sizeof time) != 0 || setsockopt(peer, SOL_SOCKET, SO_SNDTIMEO, &time, sizeof time) != 0)
-        give_up("time limit");
+    if (clock_gettime(CLOCK_MONOTONIC, &time) != 0)
+        give_up("clock");
+    return (int64_t)time.tv_sec * 1000 + time.tv_nsec / 1000000;
+}
+
+/* When the conversation of this thread ends at the latest, or 0 if it may take any time. */
+static __thread int64_t ends;
+
+static inline void limit_time(int seconds)
+{
+    ends = milliseconds() + (int64_t)seconds * 1000;
+}
+
+/* Waits until a peer has sent something, or takes something; returns 0 if that takes too long. */
+static inline int is_ready(int peer, short what)
+{
+    struct pollfd one = {peer, what, 0};
+    int64_t left = ends == 0 ? -1 : ends - milliseconds();
+
+    return (ends == 0 || left > 0) && poll(&one, 1, (int)left) == 1;
 }
 
 static inline int receive_all(int from, uint8_t *at, size_t size)
 {
     while (size > 0) {
-        ssize_t count = read(from, at, size);
+        ssize_t count = is_ready(from, POLLIN) ? recv(from, at, size, 0) : 0;
 
         if (count <= 0)
             return 0;
@@ -111,7 +130,7 @@ static inline int receive(int from, struct bytes *bytes)
 static inline int send_all(int to, const uint8_t *at, size_t size)
 {
     while (size > 0) {
-        ssize_t count = write(to, at, size);
+        ssize_t count = is_ready(to, POLLOUT) ? send(to, at, size, MSG_DONTWAIT) : 0;
 
         if (count <= 0)
             return 0;

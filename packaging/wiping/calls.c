@@ -309,6 +309,15 @@ fevstunik_answer fevstunik_acceptor_add_realm(fevstunik_acceptor *handle, const 
     return answer;
 }
 
+fevstunik_answer proved_acceptor_replace_bindings(fevstunik_acceptor *handle, uint32_t bindings, const uint8_t *hash, size_t hash_size);
+fevstunik_answer fevstunik_acceptor_replace_bindings(fevstunik_acceptor *handle, uint32_t bindings, const uint8_t *hash, size_t hash_size)
+{
+    fevstunik_answer answer = proved_acceptor_replace_bindings(handle, bindings, hash, hash_size);
+
+    wipe_below(DEPTH_OF_ACCEPTOR_REPLACE_BINDINGS);
+    return answer;
+}
+
 void proved_acceptor_free(fevstunik_acceptor *handle);
 void fevstunik_acceptor_free(fevstunik_acceptor *handle)
 {

@@ -20,6 +20,7 @@ class _List(enum.IntEnum):
     TICKET_AUTHORIZATION = 2
     AUTHENTICATOR_AUTHORIZATION = 3
     CHECKSUM = 4
+    TRANSITED = 5
 
 
 @dataclass(frozen=True, repr=False)
@@ -106,6 +107,18 @@ class Known(Secret):
         found = self._items(_List.CHECKSUM)
         return found[0] if found else None
 
+    @property
+    def transited(self) -> TypedData:
+        """The realms that the ticket passed through between the client's and the service's, as the ticket encodes them (RFC 4120, section
+        5.3). They weren't checked. If there are none, `data` is empty. They are read on first use.
+
+        >>> from fevstunik import Acceptor, Keytab
+        >>> request = bytes.fromhex(open("examples/calls.txt").readline().split()[2])
+        >>> Acceptor(Keytab.read("examples/service.keytab"), "host/web@EX", first_life=True).accept(request, now=1_700_000_100).transited
+        TypedData(kind=1, data=<0 bytes>)
+        """
+        return self._items(_List.TRANSITED)[0]
+
     def _items(self, which: _List) -> tuple[TypedData, ...]:
         if which not in self._lists:
             self._lists[which] = _items(self._handle, which)
@@ -180,7 +193,8 @@ class Accepted(Known):
     service_type  the type of the service's name, as the ticket has it
 
     It is a context manager. At the end of the block, or by close(), the library frees what it holds. Then reply and stamp raise the
-    Fault EMPTY_HANDLE, and so do addresses, authorization, authenticator_authorization, checksum and context, unless they were read before.
+    Fault EMPTY_HANDLE, and so do addresses, authorization, authenticator_authorization, checksum, transited and context, unless they were
+    read before.
 
     >>> from fevstunik import Acceptor, Keytab
     >>> request = bytes.fromhex(open("examples/calls.txt").readline().split()[2])

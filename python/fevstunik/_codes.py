@@ -152,7 +152,7 @@ _TEXTS = {
     Code.NO_NAME: "no name to serve is given",
     Code.NO_START: "it isn't said how repeats are refused after a start",
     Code.EARLY_START: "the start is before the year 2020",
-    Code.BAD_BINDINGS: "the number isn't that of a rule for channel bindings",
+    Code.BAD_BINDINGS: "there is no such rule for channel bindings, or it has no bindings to compare with",
     Code.BAD_RANDOM: "there are fewer or more random bytes than the service needs",
     Code.FILE_VERSION: "the file doesn't begin with 05 02 (a keytab), or with 05 03 or 05 04 (a cache)",
     Code.FILE_HEADER: "the header of the cache is malformed",

@@ -385,6 +385,7 @@ FUNCTIONS: dict[str, tuple[Any, tuple[Any, ...]]] = {
     "acceptor_usage": (Answer, (HANDLE, POINTER(Usage))),  # Acceptor.usage
     "acceptor_latest": (Answer, (HANDLE, POINTER(Time))),  # Acceptor.latest
     "acceptor_add_realm": (Answer, (HANDLE, *DATA)),  # Service
+    "acceptor_replace_bindings": (Answer, (HANDLE, c_uint32, *DATA)),  # Service.replace_bindings
     "acceptor_free": (None, (HANDLE,)),  # Acceptor.close
     "service_answer": (Answer, (HANDLE, POINTER(LoginHandle), *DATA, POINTER(Time), *DATA, *INTO)),  # Service.answer
     "login_answer": (Answer, (POINTER(LoginHandle), *INTO)),  # Service.answer

@@ -740,13 +740,13 @@ static void is_no_item(const char *what, uint32_t list, size_t index, unsigned c
     is("no byte", buffer[0], 0xaa);
 }
 
-/* How many items each list has; -1 if it isn't there. */
+/* How many items each list has; -1 if it isn't there. The realms between are always there. */
 static void are_counted(long long addresses, long long ticket, long long authenticator, long long checksum)
 {
-    const long long wanted[] = {-1, addresses, ticket, authenticator, checksum, -1};
+    const long long wanted[] = {-1, addresses, ticket, authenticator, checksum, 1, -1};
     uint32_t list;
 
-    for (list = 0; list < 6; list++)
+    for (list = 0; list < 7; list++)
         if (wanted[list] < 0) {
             is_answer("no list", fevstunik_accepted_count(&accepted, list), FEVSTUNIK_NO_SUCH_ENTRY, 0, 0, 0);
             is_no_item("no list's item", list, 0, FEVSTUNIK_NO_SUCH_ENTRY);
@@ -789,9 +789,11 @@ static void lists(void)
     is_item("the third", FEVSTUNIK_LIST_TICKET_AUTHORIZATION, 2, 1, "the third", 9);
     is_item("the authenticator's", FEVSTUNIK_LIST_AUTHENTICATOR_AUTHORIZATION, 0, 1, "alone", 5);
     is_item("the checksum", FEVSTUNIK_LIST_CHECKSUM, 0, -138, sum, 16);
+    is_item("the realms between", FEVSTUNIK_LIST_TRANSITED, 0, 1, "EDU,MIT.", 8);
     is_answer("new again", first_life(&service, keytab.at, keytab.size, 300, EACH_NAME), FEVSTUNIK_OK, 0, 0, 0);
     is_answer("accept one without", fevstunik_acceptor_accept(&service, &accepted, request.at, request.size, &now), FEVSTUNIK_OK, 0, 0, 0);
     are_counted(-1, -1, -1, -1);
+    is_item("no realms between", FEVSTUNIK_LIST_TRANSITED, 0, 1, "", 0);
     fevstunik_acceptor_free(&service);
 }
 

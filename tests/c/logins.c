@@ -12,6 +12,7 @@ static const fevstunik_time now = {START + 1, 0};
 static const fevstunik_wrapped wrappings[EACH_WRAPPING] = {{0, 0}, {FEVSTUNIK_MECHANISM_KERBEROS, FEVSTUNIK_MECHANISM_NONE},
                                                            {FEVSTUNIK_MECHANISM_WINDOWS, FEVSTUNIK_MECHANISM_KERBEROS}};
 static struct bytes keytab, cache, asking, going_on;
+static const uint8_t none[16];
 static uint8_t hash[16], out[4096], token[1 << 16], random_bytes[48];
 static fevstunik_acceptor service;
 
@@ -125,22 +126,29 @@ static void one(const char *line)
         one_login(terms, wrapping, request, size, code, kerberos);
 }
 
-/* A request of the cache's client, that asks for a reply; and what it expects. */
-static size_t requested(fevstunik_pending *pending, uint32_t micros)
+/* A request of the cache's client with channel bindings, that asks for a reply; and what it expects. */
+static size_t bound(fevstunik_pending *pending, uint32_t micros, const uint8_t *bindings)
 {
     static uint8_t request[4096];
     fevstunik_cache credentials = FEVSTUNIK_CACHE_INIT;
     const fevstunik_time at = {START, micros};
     const fevstunik_choice choice = {0, 0, true, true};
-    const fevstunik_context_choice context = {0, {0}};
+    fevstunik_context_choice context = {0, {0}};
     fevstunik_answer answer;
 
+    memcpy(context.bindings, bindings, sizeof context.bindings);
     is("cache", fevstunik_cache_new(&credentials, cache.at, cache.size).code, FEVSTUNIK_OK);
     answer = fevstunik_context_request(&credentials, pending, WEB, &at, random_bytes, 16, &choice, random_bytes, 0, &context, request,
                                        sizeof request);
     is("request", answer.code, FEVSTUNIK_OK);
     fevstunik_cache_free(&credentials);
     return wrapped_in(&wrappings[2], request, answer.size);
+}
+
+/* One without bindings. */
+static size_t requested(fevstunik_pending *pending, uint32_t micros)
+{
+    return bound(pending, micros, none);
 }
 
 /* The client gets a reply with the subkey of the random bytes; and if the answer is sent again, an error that says so. */
@@ -339,12 +347,50 @@ static void options_for_terms(void)
     options.bindings = 3;
     options.subkey_type = 18;
     is_answer("bindings", fevstunik_acceptor_new(&service, keytab.at, 1, WEB, &options), FEVSTUNIK_BAD_BINDINGS, 0, 0, 0);
-    options.bindings = FEVSTUNIK_BINDINGS_REQUIRED;
+    options.bindings = FEVSTUNIK_BINDINGS_IF_SENT;
+    memcpy(options.bindings_hash, none, sizeof none);
+    is_answer("no hash", fevstunik_acceptor_new(&service, keytab.at, 1, WEB, &options), FEVSTUNIK_BAD_BINDINGS, 0, 0, 0);
+    memcpy(options.bindings_hash, hash, sizeof hash);
     is_answer("subkey", fevstunik_acceptor_new(&service, keytab.at, 1, WEB, &options), FEVSTUNIK_KEY_TYPE, 0, 0, 0);
     options.size = 56;
     make(options);
     is("no bindings", decided(&login, token, size, 16).code, FEVSTUNIK_OK);
     fevstunik_login_free(&login);
+    fevstunik_pending_free(&pending);
+}
+
+/* Channel bindings are replaced while a service runs. There are none that a client without bindings meets. */
+static void replaced_bindings(void)
+{
+    static const struct {
+        uint32_t rule;
+        const uint8_t *hash;
+        size_t size;
+        uint32_t code, without, with;
+    } rows[] = {
+        {FEVSTUNIK_BINDINGS_REQUIRED, hash, 16, FEVSTUNIK_OK, FEVSTUNIK_CHANNEL_BINDINGS, FEVSTUNIK_OK},
+        {FEVSTUNIK_BINDINGS_REQUIRED, none, 16, FEVSTUNIK_BAD_BINDINGS, FEVSTUNIK_CHANNEL_BINDINGS, FEVSTUNIK_OK},
+        {FEVSTUNIK_BINDINGS_IF_SENT, none, 16, FEVSTUNIK_BAD_BINDINGS, FEVSTUNIK_CHANNEL_BINDINGS, FEVSTUNIK_OK},
+        {FEVSTUNIK_BINDINGS_IF_SENT, hash, 15, FEVSTUNIK_BAD_BINDINGS, FEVSTUNIK_CHANNEL_BINDINGS, FEVSTUNIK_OK},
+        {3, hash, 16, FEVSTUNIK_BAD_BINDINGS, FEVSTUNIK_CHANNEL_BINDINGS, FEVSTUNIK_OK},
+        {FEVSTUNIK_BINDINGS_REQUIRED, random_bytes, 16, FEVSTUNIK_OK, FEVSTUNIK_CHANNEL_BINDINGS, FEVSTUNIK_CHANNEL_BINDINGS},
+        {FEVSTUNIK_BINDINGS_IF_SENT, random_bytes, 16, FEVSTUNIK_OK, FEVSTUNIK_OK, FEVSTUNIK_CHANNEL_BINDINGS},
+        {FEVSTUNIK_BINDINGS_IGNORED, NULL, 0, FEVSTUNIK_OK, FEVSTUNIK_OK, FEVSTUNIK_OK},
+    };
+    fevstunik_login login = FEVSTUNIK_LOGIN_INIT;
+    fevstunik_pending pending = FEVSTUNIK_PENDING_INIT;
+    size_t row;
+
+    make(terms_of("plain"));
+    for (row = 0; row < sizeof rows / sizeof rows[0]; row++) {
+        is_answer("bindings", fevstunik_acceptor_replace_bindings(&service, rows[row].rule, rows[row].hash, rows[row].size), rows[row].code, 0, 0, 0);
+        is("a client without bindings", decided(&login, token, requested(&pending, 100 + (uint32_t)row), 16).code, rows[row].without);
+        fevstunik_login_free(&login);
+        is("a client with the hash", decided(&login, token, bound(&pending, 200 + (uint32_t)row, hash), 16).code, rows[row].with);
+        fevstunik_login_free(&login);
+    }
+    fevstunik_acceptor_free(&service);
+    is_answer("none", fevstunik_acceptor_replace_bindings(&service, 0, none, 16), FEVSTUNIK_EMPTY_HANDLE, 0, 0, 0);
     fevstunik_pending_free(&pending);
 }
 
@@ -371,6 +417,7 @@ int main(int count, char **words)
     other_services();
     realms();
     options_for_terms();
+    replaced_bindings();
     for (at = 0; fgets(line, sizeof line, stdin) != NULL; at++)
         one(line);
     is("lines", at > 20, 1);

@@ -12,22 +12,26 @@ from support import TOP, c_programs
 from support.c_programs import KEYTAB, linked, run
 
 SERVICE = "host/web@EX"
+# How many seconds a client has that waits for a hasty service.
+HASTE = 2
 
 
 @pytest.fixture(scope="module")
 def room(archive, tmp_path_factory):
     """A folder with both programs, and a cache with a ticket that is valid now."""
     folder = tmp_path_factory.mktemp("service")
+    words = "-D_DEFAULT_SOURCE", "-pthread"
     for name in ("service", "client"):
-        linked(archive, folder / name, "-D_DEFAULT_SOURCE", "-pthread", TOP / f"examples/service/{name}.c")
+        linked(archive, folder / name, *words, TOP / f"examples/service/{name}.c")
+    linked(archive, folder / "hasty", *words, f"-DSECONDS={HASTE}", TOP / "examples/service/service.c")
     (folder / "cache").write_bytes(c_programs.current_cache(int(time.time()) - 60))
     return folder
 
 
 @contextlib.contextmanager
-def serving(room, *words):
+def serving(room, *words, program="service"):
     pipe = subprocess.PIPE
-    service = subprocess.Popen([room / "service", KEYTAB, SERVICE, *words], stdout=pipe, stderr=pipe, text=True)
+    service = subprocess.Popen([room / program, KEYTAB, SERVICE, *words], stdout=pipe, stderr=pipe, text=True)
     try:
         yield service, service.stdout.readline().strip()
     finally:
@@ -64,3 +68,15 @@ def test_several_clients(room):
         said, noted = service.communicate(timeout=60)
         assert sorted(said.splitlines()) == ["alice@EX: hello", "refused FEVSTUNIK_GO_ON"]
         assert noted.splitlines() == ["keytab: success"] * 2
+
+
+def test_slow_client(room):
+    """A client that sends byte after byte has no more time than one that is silent."""
+    with serving(room, "1", "first", program="hasty") as (service, port):
+        began = time.monotonic()
+        with socket.create_connection(("127.0.0.1", int(port))) as peer, contextlib.suppress(ConnectionError):
+            for byte in b"\0\1\0\0" + bytes(100):
+                peer.sendall(bytes([byte]))
+                time.sleep(0.2)
+        assert HASTE <= time.monotonic() - began < 15
+        assert service.communicate(timeout=60)[0] == "refused FEVSTUNIK_GO_ON\n"

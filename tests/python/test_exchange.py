@@ -83,6 +83,7 @@ def test_lists(service):
     assert accepted.authorization == (TypedData(1, b"first"), TypedData(1, b""), TypedData(1, b"the third"))
     assert accepted.authenticator_authorization == (TypedData(1, b"alone"),)
     assert accepted.checksum == TypedData(-138, bytes(range(0x50, 0x60)))
+    assert accepted.transited == TypedData(1, b"EDU,MIT.")
 
 
 KERBEROS = {"MESSAGE_TYPE": 40, "MALFORMED": 60, "USER_TO_USER": 45, "TICKET_ETYPE": 14, "NOT_US": 35, "NO_KEY": 45,

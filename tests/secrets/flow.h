@@ -34,20 +34,23 @@ enum {
     SUBKEY = CHOSEN + 2,
     PLAIN = SUBKEY + 2,
     SERVICE_KEY = PLAIN + 2,
-    SESSION_KEY = SERVICE_KEY + 2
+    SESSION_KEY = SERVICE_KEY + 2,
+    RANDOM = SESSION_KEY + 2
 };
 static struct file files[] = {
     {.name = "keytab"},         {.name = "request-19"},     {.name = "request-20"},     {.name = "reply-19"},
     {.name = "reply-20"},       {.name = "cache-19"},       {.name = "cache-20"},       {.name = "sealed-19"},
     {.name = "sealed-20"},      {.name = "key-chosen-19"},  {.name = "key-chosen-20"},  {.name = "key-subkey-19"},
     {.name = "key-subkey-20"},  {.name = "key-plain-19"},   {.name = "key-plain-20"},   {.name = "key-service-19"},
-    {.name = "key-service-20"}, {.name = "key-session-19"}, {.name = "key-session-20"},
+    {.name = "key-service-20"}, {.name = "key-session-19"}, {.name = "key-session-20"}, {.name = "key-random-19"},
+    {.name = "key-random-20"},
 };
 #define FILES (sizeof files / sizeof files[0])
 
 static uint8_t buffer[ROOM], tag[24], confounder[16] = {1, 2, 3, 4, 5, 6, 7, 8, 9, 10, 11, 12, 13, 14, 15, 16};
 static fevstunik_acceptor service;
 static fevstunik_accepted accepted;
+static fevstunik_login login;
 static fevstunik_keytab keytab;
 static fevstunik_cache cache;
 static fevstunik_pending pending;
@@ -169,8 +172,10 @@ static fevstunik_answer freeing_cache(void)
 
 static fevstunik_answer making_service(void)
 {
-    fevstunik_acceptor_options options = {.size = sizeof options, .skew = 300, .restarts = FEVSTUNIK_RESTART_FIRST_LIFE};
+    fevstunik_acceptor_options options = {
+        .size = sizeof options, .skew = 300, .restarts = FEVSTUNIK_RESTART_FIRST_LIFE};
 
+    options.subkey_type = (uint32_t)type();
     return fevstunik_acceptor_new(&service, files[KEYTAB].at, files[KEYTAB].size, WEB, &options);
 }
 
@@ -184,24 +189,34 @@ static fevstunik_answer accepting(void)
     return fevstunik_acceptor_accept(&service, &accepted, file(REQUEST)->at, file(REQUEST)->size, &now);
 }
 
-/* A request with a byte of its ticket or of its authenticator changed, which lies so many bytes before the end. */
-static fevstunik_answer accepting_changed(size_t before_end)
+/* The request with a byte changed. */
+static const uint8_t *changed_at(size_t place)
 {
     static uint8_t changed[ROOM];
 
     memcpy(changed, file(REQUEST)->at, file(REQUEST)->size);
-    changed[file(REQUEST)->size - before_end] ^= 1;
-    return fevstunik_acceptor_accept(&service, &accepted, changed, file(REQUEST)->size, &now);
+    changed[place] ^= 1;
+    return changed;
+}
+
+static const uint8_t *another_authenticator(void)
+{
+    return changed_at(file(REQUEST)->size - 1);
+}
+
+static const uint8_t *another_ticket(void)
+{
+    return changed_at(150);
 }
 
 static fevstunik_answer accepting_another_authenticator(void)
 {
-    return accepting_changed(1);
+    return fevstunik_acceptor_accept(&service, &accepted, another_authenticator(), file(REQUEST)->size, &now);
 }
 
 static fevstunik_answer accepting_another_ticket(void)
 {
-    return accepting_changed(file(REQUEST)->size - 150);
+    return fevstunik_acceptor_accept(&service, &accepted, another_ticket(), file(REQUEST)->size, &now);
 }
 
 static fevstunik_answer knowing(void)
@@ -242,6 +257,49 @@ static fevstunik_answer counting(void)
     return answer;
 }
 
+static fevstunik_answer measuring(void)
+{
+    fevstunik_usage usage;
+
+    return fevstunik_acceptor_usage(&service, &usage);
+}
+
+static fevstunik_answer looking_at_the_clock(void)
+{
+    fevstunik_time latest;
+
+    return fevstunik_acceptor_latest(&service, &latest);
+}
+
+static fevstunik_answer adding_realm(void)
+{
+    return fevstunik_acceptor_add_realm(&service, (const uint8_t *)"EX", 2);
+}
+
+static fevstunik_answer replacing_bindings(void)
+{
+    return fevstunik_acceptor_replace_bindings(&service, FEVSTUNIK_BINDINGS_IF_SENT, confounder, sizeof confounder);
+}
+
+static fevstunik_answer counting_items(void)
+{
+    return fevstunik_accepted_count(&accepted, FEVSTUNIK_LIST_CHECKSUM);
+}
+
+static fevstunik_answer reading_item(void)
+{
+    int32_t kind;
+
+    return fevstunik_accepted_item(&accepted, FEVSTUNIK_LIST_CHECKSUM, 0, &kind, buffer, sizeof buffer);
+}
+
+static fevstunik_answer reading_start(void)
+{
+    fevstunik_time start;
+
+    return fevstunik_accepted_start(&accepted, &start);
+}
+
 static fevstunik_answer freeing_accepted(void)
 {
     fevstunik_accepted_free(&accepted);
@@ -251,6 +309,61 @@ static fevstunik_answer freeing_accepted(void)
 static fevstunik_answer freeing_service(void)
 {
     fevstunik_acceptor_free(&service);
+    return done;
+}
+
+/* The login's next step: random bytes are a confounder and the service's subkey. */
+static fevstunik_answer deciding(const uint8_t *input, size_t size)
+{
+    return fevstunik_service_answer(&service, &login, input, size, &now, file(RANDOM)->at, file(RANDOM)->size, buffer,
+                                    sizeof buffer);
+}
+
+/* A negotiation (SPNEGO) that names Kerberos and holds no request. */
+static fevstunik_answer beginning(void)
+{
+    static const uint8_t begun[] = {0x60, 0x1b, 0x06, 0x06, 0x2b, 0x06, 0x01, 0x05, 0x05, 0x02,
+                                    0xa0, 0x11, 0x30, 0x0f, 0xa0, 0x0d, 0x30, 0x0b, 0x06, 0x09,
+                                    0x2a, 0x86, 0x48, 0x86, 0xf7, 0x12, 0x01, 0x02, 0x02};
+
+    return deciding(begun, sizeof begun);
+}
+
+static fevstunik_answer deciding_on_another_authenticator(void)
+{
+    return deciding(another_authenticator(), file(REQUEST)->size);
+}
+
+static fevstunik_answer deciding_on_another_ticket(void)
+{
+    return deciding(another_ticket(), file(REQUEST)->size);
+}
+
+static fevstunik_answer letting_in(void)
+{
+    return deciding(file(REQUEST)->at, file(REQUEST)->size);
+}
+
+static fevstunik_answer sending_again(void)
+{
+    return fevstunik_login_answer(&login, buffer, sizeof buffer);
+}
+
+static fevstunik_answer knowing_what_was_asked(void)
+{
+    fevstunik_asked asked;
+
+    return fevstunik_login_asked(&login, &asked, buffer, sizeof buffer);
+}
+
+static fevstunik_answer knowing_who_is_let_in(void)
+{
+    return fevstunik_accepted_known(&login.accepted, &known, buffer, sizeof buffer);
+}
+
+static fevstunik_answer freeing_login(void)
+{
+    fevstunik_login_free(&login);
     return done;
 }
 
@@ -361,14 +474,37 @@ static const struct step steps[] = {
     {"acceptor_error", refusing, FEVSTUNIK_OK},
     {"acceptor_accept", accepting, FEVSTUNIK_OK},
     {"accepted_known", knowing, FEVSTUNIK_OK},
+    {"accepted_count", counting_items, FEVSTUNIK_NO_SUCH_ENTRY},
+    {"accepted_item", reading_item, FEVSTUNIK_NO_SUCH_ENTRY},
+    {"accepted_start", reading_start, FEVSTUNIK_NOTHING_THERE},
     {"accepted_stamp", stamping, FEVSTUNIK_OK},
     {"accepted_reply", replying, FEVSTUNIK_OK},
     {"acceptor_accept of a repeat", accepting, FEVSTUNIK_REPEAT},
     {"acceptor_replace_keytab", replacing_keytab, FEVSTUNIK_OK},
     {"acceptor_accept after replace_keytab", accepting, FEVSTUNIK_REPEAT},
     {"acceptor_count", counting, FEVSTUNIK_OK},
+    {"acceptor_usage", measuring, FEVSTUNIK_OK},
+    {"acceptor_latest", looking_at_the_clock, FEVSTUNIK_OK},
     {"accepted_free", freeing_accepted, FEVSTUNIK_OK},
     {"acceptor_free", freeing_service, FEVSTUNIK_OK},
+    {"acceptor_new for logins", making_service, FEVSTUNIK_OK},
+    {"acceptor_add_realm", adding_realm, FEVSTUNIK_OK},
+    {"acceptor_replace_bindings", replacing_bindings, FEVSTUNIK_OK},
+    {"service_answer to a negotiation", beginning, FEVSTUNIK_GO_ON},
+    {"login_free of a negotiation", freeing_login, FEVSTUNIK_OK},
+    {"service_answer to another ticket", deciding_on_another_ticket, FEVSTUNIK_TICKET_INTEGRITY},
+    {"login_asked", knowing_what_was_asked, FEVSTUNIK_OK},
+    {"login_free of a refusal", freeing_login, FEVSTUNIK_OK},
+    {"service_answer to another authenticator", deciding_on_another_authenticator, FEVSTUNIK_AUTHENTICATOR_INTEGRITY},
+    {"login_answer to a refusal", sending_again, FEVSTUNIK_AUTHENTICATOR_INTEGRITY},
+    {"login_free", freeing_login, FEVSTUNIK_OK},
+    {"service_answer", letting_in, FEVSTUNIK_OK},
+    {"login_answer", sending_again, FEVSTUNIK_OK},
+    {"accepted_known of a login", knowing_who_is_let_in, FEVSTUNIK_OK},
+    {"login_free of a login", freeing_login, FEVSTUNIK_OK},
+    {"service_answer to a repeat", letting_in, FEVSTUNIK_REPEAT},
+    {"login_free of a repeat", freeing_login, FEVSTUNIK_OK},
+    {"acceptor_free after logins", freeing_service, FEVSTUNIK_OK},
     {"cache_check", checking_cache, FEVSTUNIK_OK},
     {"cache_new", reading_cache, FEVSTUNIK_OK},
     {"cache_credential", reading_credential, FEVSTUNIK_OK},

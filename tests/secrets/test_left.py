@@ -4,7 +4,9 @@ import re
 
 import pytest
 
+from support import TOP
 from support.builds import CPUS
+from support.c_header import INTERFACE
 from support.c_programs import run, well
 
 WRAPPED = ("-Wl,--wrap=malloc", "-Wl,--wrap=realloc", "-Wl,--wrap=free")
@@ -14,7 +16,7 @@ def lines(build, room, *more, over=None):
     """What the program writes."""
     program = build.linked("left", room / "left", *WRAPPED, *more, over=over)
     written = well(run(program, room)).stdout.splitlines()
-    assert re.fullmatch(r"78 steps, \d+ secrets, 0 blocks held", written[-1]), written[-1]
+    assert re.fullmatch(r"124 steps, \d+ secrets, 0 blocks held", written[-1]), written[-1]
     return written
 
 
@@ -37,6 +39,13 @@ def test_what_is_left_without_wiping_is_found(built, room):
     """Otherwise the test above would show nothing."""
     build = built["x86-64-v2"]
     assert places(left(build, room, build.unwiped())) == {"freed", "stack", "registers"}
+
+
+def test_each_call_with_a_key_or_a_handle_is_a_step():
+    made = re.findall(r'^    {"(\w+)', (TOP / "tests/secrets/flow.h").read_text(), re.M)
+    has_secrets = (it.name for it in INTERFACE.functions
+                   if any(name == "key" or kind.startswith("handle ") for name, kind in it.parts))
+    assert set(has_secrets) <= set(made)
 
 
 # The frames of the program's own functions, above that of a function of the library.

@@ -50,13 +50,13 @@ def for_another_service():
 
 
 def with_lists():
-    """A request with addresses, with authorization data in ticket and authenticator, and with a checksum; one item has
-    no bytes."""
+    """A request with addresses, with authorization data in ticket and authenticator, with a checksum, and of a ticket
+    that passed through realms; one item has no bytes."""
     addresses = der.sequence(der.key(2, bytes([192, 0, 2, 1])), der.key(24, bytes(range(0xF0, 0x100))))
     data = der.sequence(der.key(1, b"first"), der.key(1, b""), der.key(1, b"the third"))
     more = {"checksum": der.key(-138, bytes(range(0x50, 0x60))), "data": der.sequence(der.key(1, b"alone"))}
     auth = der.authenticator(b"EX", fixture.ALICE, 5, fixture.CLIENT_TIME, **more)
-    return request(ticket(ticket_part(addresses=addresses, data=data)), auth)
+    return request(ticket(ticket_part(transited=der.key(1, b"EDU,MIT."), addresses=addresses, data=data)), auth)
 
 
 def with_start():

@@ -111,6 +111,7 @@ def made(seed=75):
             f"key-subkey-{etype}": client_subkey,
             f"key-service-{etype}": service[etype],
             f"key-session-{etype}": session,
+            f"key-random-{etype}": drawn(16) + client_subkey,
             f"key-plain-{etype}": plain,
         }
         it.secrets |= of_key(f"service key {etype}", etype, service[etype], (TICKET,))

@@ -1,8 +1,9 @@
 mod Values
 mod Places
-mod Moved
-mod Making
+mod Move
+mod ServiceLaws
 mod Requests
 mod Truth
-mod Remembered
-pub mod HandedOut
+mod Memory
+mod Turns
+pub mod Buffers

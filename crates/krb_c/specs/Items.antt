@@ -1,5 +1,5 @@
 -- What is returned of the lists of an accepted request: its addresses, its authorization data, and
--- its checksum, a list of one.
+-- two lists of one: its checksum, and the realms that its ticket passed through.
 use Rattle.std.specs.Prelude.{◌≡◌, ℕ, ℤ, List, [], ◌∷◌, length, Option, Some, None, nat_eq, if◌then◌else◌, slice_get}
 use Rattle.std.specs.Option.{option_map}
 use Rattle.krb_msg.specs.declared.typed.Typed.{Typed}
@@ -22,6 +22,9 @@ authenticator_authorization = 3
 abbrev pub checksum : ℕ
 checksum = 4
 
+abbrev pub transited : ℕ
+transited = 5
+
 -- the list that has a number, if the request has the list
 abbrev pub list_of : ℕ → Accepted → Option (List Typed)
 list_of list x =
@@ -29,6 +32,7 @@ list_of list x =
     else if nat_eq list ticket_authorization then option_map (λ l. l.items) x.ticket_authorization
     else if nat_eq list authenticator_authorization then option_map (λ l. l.items) x.authenticator_authorization
     else if nat_eq list checksum then option_map (λ c. c ∷ []) x.checksum
+    else if nat_eq list transited then Some (x.transited ∷ [])
     else None
 
 -- its items are counted

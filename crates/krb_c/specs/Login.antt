@@ -1,5 +1,5 @@
 -- A login in one call: what is decided, what is kept of it, and what is answered.
-use Rattle.std.specs.Prelude.{◌≡◌, ◌≢◌, ◌==◌, ◌⊎◌, ◌↔◌, ◌≤◌, ◌<◌, not, Bool, true, false, if◌then◌else◌, ℕ, ℤ, pos, List, [], ◌++◌, length, take, drop, Option, Some, None, option_map, Vec}
+use Rattle.std.specs.Prelude.{◌≡◌, ◌≢◌, ◌==◌, ◌⊎◌, ◌↔◌, ◌≤◌, ◌<◌, not, Bool, if◌then◌else◌, ℕ, ℤ, pos, List, [], ◌++◌, length, take, drop, Option, Some, None, Vec}
 use Rattle.std.specs.declared.alloc.Global.{Global}
 use Rattle.krb_enc.specs.Key.{IsUsable, KeyValue}
 use Rattle.krb_name.specs.Text.{text_of}
@@ -20,7 +20,7 @@ use Rattle.krb_login.specs.declared.decision.Decision.{Decision}
 use Rattle.krb_login.specs.declared.decision.Decision.TheVariants.{LetIn, GoOn, Refused}
 use Rattle.krb_login.specs.declared.terms.Realms.{Realms}
 use Rattle.krb_login.specs.declared.terms.Realms.TheVariants.{Any, Only}
-use Rattle.krb_c.specs.Accepting.{IsMomentOf, Stands, full_of}
+use Rattle.krb_c.specs.Service.{IsMomentOf, Stands, full_of}
 use Rattle.krb_c.specs.Answer.{Tells, plain, refused, sized}
 use Rattle.krb_c.specs.Choice.{key_value}
 use Rattle.krb_c.specs.Codes.{bad_moment, bad_random, breach_code, empty_handle, full, go_on, nothing_there, ok, out_of_memory, short_buffer}

@@ -1,17 +1,16 @@
 -- What a service is made with, and what comes of it.
 use Rattle.std.specs.Prelude.{◌≡◌, ◌==◌, ◌/◌, max, if◌then◌else◌, ◌≢◌, ◌≤◌, ◌<◌, ◌≤ℤ◌, ◌*◌, ◌⊎◌, ℕ, ℤ, pos, Bool, true, false, IsTrue, List, [], replicate, Option, Some, None, IsSomeAnd}
-use Rattle.krb_login.specs.declared.terms.Bindings.{Bindings}
-use Rattle.krb_login.specs.declared.terms.Bindings.TheVariants.{Ignored, IfSent, Required}
 use Rattle.krb_login.specs.declared.terms.Realms.{Realms}
 use Rattle.krb_login.specs.declared.terms.Realms.TheVariants.{Any, Only}
 use Rattle.krb_login.specs.declared.terms.Terms.{Terms}
 use Rattle.krb_keytab.specs.Entry.{KeytabEntry}
-use Rattle.krb_c.specs.Accepting.{IsMomentOf, Stands, fresh}
+use Rattle.krb_c.specs.Service.{IsMomentOf, Stands, fresh}
 use Rattle.krb_c.specs.Answer.{plain}
-use Rattle.krb_c.specs.Asking.{IsMomentFault, moment_of}
+use Rattle.krb_c.specs.Request.{IsMomentFault, moment_of}
+use Rattle.krb_c.specs.Bindings.{AreBindings, AreNoBindings, HasBindings}
 use Rattle.krb_c.specs.Codes.{bad_bindings, bad_options, bad_skew, early_start, key_type, no_name, no_start, ok, out_of_memory}
-use Rattle.krb_c.specs.Editing.{HasKeytab}
-use Rattle.krb_c.specs.Renewing.{IsNamed, IsServed, IsUnusable}
+use Rattle.krb_c.specs.KeytabFile.{HasKeytab}
+use Rattle.krb_c.specs.Renewal.{IsNamed, IsServed, IsUnusable}
 use Rattle.krb_c.specs.declared.structs.AcceptorOptions.{AcceptorOptions}
 use Rattle.krb_c.specs.declared.structs.Answer.{Answer}
 use Rattle.krb_c.specs.declared.service_state.ServiceState.{ServiceState}
@@ -95,11 +94,6 @@ IsInvalid options text answer =
     ⊎ (((start : Option ℤ) × IsStart options start) × ((86_400 < options.skew) × (answer ≡ plain bad_skew)))))))
 
 -- ---- the terms
--- What becomes of a client's channel bindings, by its number: 0 ignored, 1 if they are sent, 2
--- required.
-abbrev pub rule_of : ℕ → List ℕ → Option Bindings
-rule_of rule hash = if rule == 0 then Some Ignored else if rule == 1 then Some (IfSent hash) else if rule == 2 then Some (Required hash) else None
-
 -- of any realm, or of those that are added, and none is yet
 abbrev pub AreRealms : Bool → Realms → Type 0
 AreRealms only Any = only ≡ false
@@ -112,14 +106,14 @@ IsSubkeyType etype = (etype ≡ 0) ⊎ ((etype ≡ 19) ⊎ (etype ≡ 20))
 pub record AreTerms (options : AcceptorOptions) (terms : Terms) : Type 0 where
   pub anonymous : terms.anonymous ≡ options.anonymous
   pub realms : AreRealms options.only_realms terms.realms
-  pub bindings : rule_of options.bindings options.bindings_hash ≡ Some terms.bindings
+  pub bindings : AreBindings options.bindings options.bindings_hash terms.bindings
   pub subkey : IsSubkeyType options.subkey_type
 
 -- why there are none: the first that holds
 abbrev pub IsTermsFault : AcceptorOptions → Answer → Type 0
 IsTermsFault options answer =
-    ((2 < options.bindings) × (answer ≡ plain bad_bindings))
-    ⊎ ((options.bindings ≤ 2) × ((¬ IsSubkeyType options.subkey_type) × (answer ≡ plain key_type)))
+    (AreNoBindings options.bindings options.bindings_hash × (answer ≡ plain bad_bindings))
+    ⊎ (HasBindings options.bindings options.bindings_hash × ((¬ IsSubkeyType options.subkey_type) × (answer ≡ plain key_type)))
 
 abbrev pub HasTerms : AcceptorOptions → Type 0
 HasTerms options = (terms : Terms) × AreTerms options terms

@@ -5,7 +5,7 @@ use Rattle.krb_time.specs.Moments.{IsMoment, micros_of}
 use Rattle.krb_replay.specs.Bytes.{IsBytesOf}
 use Rattle.krb_replay.specs.Keeping.{kept_until}
 use Rattle.krb_ap.specs.declared.accepted.Accepted.{Accepted}
-use Rattle.krb_c.specs.Accepting.{stamp_told}
+use Rattle.krb_c.specs.Service.{stamp_told}
 use Rattle.krb_c.specs.Answer.{Hands, plain}
 use Rattle.krb_c.specs.Codes.{bad_moment, bad_skew, nothing_there, ok, out_of_memory}
 use Rattle.krb_c.specs.declared.structs.Answer.{Answer}

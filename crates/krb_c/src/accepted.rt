@@ -1,7 +1,7 @@
 //! An accepted request.
 
 ghost use Rattle.std.specs.Prelude.{None, Some, ◌≡◌, ◌⊎◌};
-ghost use Rattle.krb_c.specs.Accepting.{nothing_kept};
+ghost use Rattle.krb_c.specs.Service.{nothing_kept};
 ghost use Rattle.krb_c.specs.Answer.{plain};
 ghost use Rattle.krb_c.specs.Codes.{empty_handle, ok, out_of_memory};
 ghost use Rattle.std.specs.Option.{MatchOption};
@@ -50,7 +50,8 @@ pub extern "C" fn fevstunik_accepted_known(
 }
 
 /// Counts the items of a list of what was accepted: 1 the ticket's addresses, 2 the ticket's
-/// authorization data, 3 the authenticator's, 4 the authenticator's checksum.
+/// authorization data, 3 the authenticator's, 4 the authenticator's checksum, 5 the realms that the
+/// ticket passed through, as it encodes them.
 #[unsafe(no_mangle)]
 pub extern "C" fn fevstunik_accepted_count(
     accepted: &mut AcceptedHandle,

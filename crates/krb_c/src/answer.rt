@@ -2,7 +2,7 @@
 
 ghost use Rattle.std.specs.Prelude.{IfOk, List, SomeIff, length, ℕ, ◌++◌, ◌≡◌};
 ghost use Rattle.krb_time.specs.Moments.{micros_of};
-ghost use Rattle.krb_c.specs.Accepting.{IsMomentOf};
+ghost use Rattle.krb_c.specs.Service.{IsMomentOf};
 ghost use Rattle.krb_c.specs.Answer.{Hands, Tells, keytab_answer, placed, plain, refused, sized};
 
 use crate::cause::code_of;

@@ -5,9 +5,9 @@ ghost use Rattle.krb_ccache.specs.Format.{IsCache, IsFaultOf as IsCacheFaultOf};
 ghost use Rattle.krb_ccache.specs.Value.{Cache};
 ghost use Rattle.krb_ccache.specs.declared.fault.CacheFault.{CacheFault as CacheFaultValue};
 ghost use Rattle.krb_c.specs.Answer.{plain, sized};
-ghost use Rattle.krb_c.specs.Asking.{HasCacheFault, Keeps, cache_answer};
+ghost use Rattle.krb_c.specs.Request.{HasCacheFault, Keeps, cache_answer};
 ghost use Rattle.krb_c.specs.Codes.{ok, out_of_memory};
-ghost use Rattle.krb_c.specs.Listing.{ListsCredential, ListsOwner, TellsCredentialIf, TellsOwner, credential_bytes, credential_of};
+ghost use Rattle.krb_c.specs.Entries.{ListsCredential, ListsOwner, TellsCredentialIf, TellsOwner, credential_bytes, credential_of};
 ghost use Rattle.std.specs.List.{slice_get};
 
 use crate::answer::{append, hand_over, hand_over_with};
@@ -58,18 +58,6 @@ fn kept_of(alloc: Global, file: &[u8]) -> Result<Box<Initiator>, Answer>
     match Box::new(alloc, Initiator::new(alloc, cache)) {
         Ok(kept) => Ok(kept),
         Err(_) => Err(cache_told(CacheFault::OutOfMemory)),
-    }
-}
-
-/// Reads a cache from the bytes of its file.
-pub(crate) fn cache_of(alloc: Global, bytes: &[u8]) -> Result<CCache, Answer>
-    ensures cache { IfOk result (λ cache. IsCache bytes.now cache) }
-    ensures fault { IfErr result (λ answer. HasCacheFault bytes.now answer) }
-{
-    each_file_has_one_answer();
-    match CCache::parse(alloc, bytes) {
-        Ok(cache) => Ok(cache),
-        Err(fault) => Err(cache_told(fault)),
     }
 }
 
@@ -176,6 +164,18 @@ pub extern "C" fn fevstunik_cache_free(cache: &mut CacheHandle, alloc: Global)
     ensures { cache.new.value ≡ None }
 {
     *cache = empty(alloc);
+}
+
+/// Reads a cache from the bytes of its file.
+pub(crate) fn cache_of(alloc: Global, bytes: &[u8]) -> Result<CCache, Answer>
+    ensures cache { IfOk result (λ cache. IsCache bytes.now cache) }
+    ensures fault { IfErr result (λ answer. HasCacheFault bytes.now answer) }
+{
+    each_file_has_one_answer();
+    match CCache::parse(alloc, bytes) {
+        Ok(cache) => Ok(cache),
+        Err(fault) => Err(cache_told(fault)),
+    }
 }
 
 pub(crate) fn cache_told(fault: CacheFault) -> Answer

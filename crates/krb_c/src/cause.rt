@@ -6,7 +6,7 @@ ghost use Rattle.std.specs.Prelude.{◌≡◌};
 ghost use Rattle.std.specs.Option.{MatchOption};
 ghost use Rattle.krb_ap.specs.declared.refusal.Refusal.{Refusal as RefusalValue};
 ghost use Rattle.krb_c.specs.Codes.{breach_code, cause_code};
-ghost use Rattle.krb_c.specs.Refusing.{IsCauseOf};
+ghost use Rattle.krb_c.specs.Refusal.{IsCauseOf};
 
 use crate::code;
 use krb_ap::Refusal;

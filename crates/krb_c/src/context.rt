@@ -21,7 +21,8 @@ pub extern "C" fn fevstunik_context_read(
     context: &mut Context,
     buffer: &mut [u8],
 ) -> Answer
-    ensures { ReadsContext checksum.now context.old context.new buffer.old buffer.new result }
+    ensures { ReadsContext checksum.now
+        context.old context.new buffer.old buffer.new result }
 {
     match Checksum::parse(checksum) {
         Ok(found) => hand_over_with(told(alloc, &found), context, buffer),

@@ -2,7 +2,7 @@
 
 ghost use Rattle.std.specs.Prelude.{IfErr, IfOk, None, Some, ◌≡◌};
 ghost use Rattle.std.specs.Option.{MatchOption};
-ghost use Rattle.krb_c.specs.Refusing.{Errors, IsErrorFault, TellsError, TellsErrorOf, error_answer};
+ghost use Rattle.krb_c.specs.Refusal.{Errors, IsErrorFault, TellsError, TellsErrorOf, error_answer};
 ghost use Rattle.krb_c.specs.Answer.{plain, refused};
 ghost use Rattle.krb_c.specs.Codes.{empty_handle};
 

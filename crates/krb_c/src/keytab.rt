@@ -6,8 +6,8 @@ ghost use Rattle.krb_keytab.specs.Format.{IsFaultOf, IsKeytab};
 ghost use Rattle.krb_keytab.specs.declared.fault.KeytabFault.{KeytabFault};
 ghost use Rattle.krb_c.specs.Answer.{keytab_answer, plain, sized};
 ghost use Rattle.krb_c.specs.Codes.{ok, out_of_memory};
-ghost use Rattle.krb_c.specs.Editing.{HasKeytabFault, KeepsKeytab};
-ghost use Rattle.krb_c.specs.Listing.{ListsEntry, TellsEntryIf, entry_bytes, entry_of};
+ghost use Rattle.krb_c.specs.KeytabFile.{HasKeytabFault, KeepsKeytab};
+ghost use Rattle.krb_c.specs.Entries.{ListsEntry, TellsEntryIf, entry_bytes, entry_of};
 ghost use Rattle.std.specs.List.{slice_get};
 
 use crate::answer::{append, hand_over_with};
@@ -80,9 +80,9 @@ pub(crate) fn keytab_of(alloc: Global, bytes: &[u8]) -> Result<Keytab, Answer>
 #[unsafe(no_mangle)]
 pub extern "C" fn fevstunik_keytab_entry(
     keytab: &mut KeytabHandle,
-    alloc: Global,
     index: usize,
     entry: &mut KeyEntry,
+    alloc: Global,
     buffer: &mut [u8],
 ) -> Answer
     ensures entry { ListsEntry keytab.old.value index entry.old entry.new buffer.old buffer.new result }

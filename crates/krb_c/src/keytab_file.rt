@@ -2,7 +2,7 @@
 
 ghost use Rattle.krb_keytab.specs.Edit.{MakesHole};
 ghost use Rattle.krb_c.specs.Answer.{Delivers};
-ghost use Rattle.krb_c.specs.Editing.{Adds, IsAddFault, IsEntryFault, IsEntryOf, IsRemoveFault, IsWriteFault, WritesAnew};
+ghost use Rattle.krb_c.specs.KeytabFile.{Adds, IsAddFault, IsEntryFault, IsEntryOf, IsRemoveFault, IsWriteFault, WritesAnew};
 ghost use Rattle.std.specs.Prelude.{IfErr, IfOk};
 
 use crate::answer::hand_over;

@@ -16,11 +16,12 @@
 //! the value out of the handle and puts it back.
 //!
 //! `specs/Options` says what a service is made with, `specs/Login` what it answers to a client in one
-//! call, and `specs/Accepting` how a call changes a service and what it accepted. `specs/Known` says what is returned of an accepted request,
-//! `specs/Items` what of its lists, and `specs/Choice` what a side chooses. `specs/Asking` and
-//! `specs/Finishing` say what becomes of a client's request and of the reply to it.
-//! `specs/Refusing` says which error reports a refusal, `specs/Listing` what is returned of the
-//! entries of files, and `specs/Editing` what a changed keytab is.
+//! call, `specs/Bindings` which channel bindings it asks for, and `specs/Service` how a call changes a
+//! service and what it accepted. `specs/Known` says what is returned of an accepted request,
+//! `specs/Items` what of its lists, and `specs/Choice` what a side chooses. `specs/Request` and
+//! `specs/Reply` say what becomes of a client's request and of the reply to it.
+//! `specs/Refusal` says which error reports a refusal, `specs/Entries` what is returned of the
+//! entries of files, and `specs/KeytabFile` what a changed keytab is.
 //!
 //! ```c
 //! fevstunik_acceptor service = FEVSTUNIK_ACCEPTOR_INIT;
@@ -37,6 +38,7 @@
 mod accepted;
 mod accepted_state;
 mod answer;
+mod bindings;
 mod cache;
 mod cause;
 mod choice;

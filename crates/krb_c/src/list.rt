@@ -20,6 +20,8 @@ const AUTHENTICATOR_AUTHORIZATION: u32 = 3;
 
 const CHECKSUM: u32 = 4;
 
+const TRANSITED: u32 = 5;
+
 /// Counts the items of a list, if the request has it.
 pub(crate) fn count(accepted: &Option<Accepted>, list: u32) -> Answer
     ensures { Counts accepted.now list result }
@@ -73,6 +75,7 @@ fn list_of(accepted: &Accepted, list: u32) -> Option<&[Typed]>
         TICKET_AUTHORIZATION => listed(&accepted.ticket_authorization),
         AUTHENTICATOR_AUTHORIZATION => listed(&accepted.authenticator_authorization),
         CHECKSUM => single(&accepted.checksum),
+        TRANSITED => Some(from_ref(&accepted.transited)),
         _ => None,
     }
 }

@@ -204,7 +204,8 @@ pub extern "C" fn fevstunik_request_asks(
     asked: &mut Asked,
     buffer: &mut [u8],
 ) -> Answer
-    ensures { ReadsAsked request.now asked.old asked.new buffer.old buffer.new result }
+    ensures { ReadsAsked request.now asked.old asked.new
+        buffer.old buffer.new result }
 {
     match asked_by(alloc, request) {
         Ok(Some(found)) => hand_over_with(asked_told(alloc, &found), asked, buffer),

@@ -1,6 +1,6 @@
 //! Names of principals.
 
-ghost use Rattle.krb_c.specs.Asking.{IsNameChecked, IsNameFault, name_answer};
+ghost use Rattle.krb_c.specs.Request.{IsNameChecked, IsNameFault, name_answer};
 ghost use Rattle.std.specs.Prelude.{IfErr, IfOk, Ok, ◌≡◌};
 ghost use Rattle.krb_name.specs.Reading.{IsReadAs};
 ghost use Rattle.krb_c.specs.Answer.{plain};

@@ -4,7 +4,7 @@ ghost use Rattle.std.specs.Prelude.{IfOk, None, ◌≡◌};
 ghost use Rattle.std.specs.Option.{MatchOption};
 ghost use Rattle.krb_c.specs.Answer.{plain};
 ghost use Rattle.krb_c.specs.Codes.{empty_handle};
-ghost use Rattle.krb_c.specs.Finishing.{Ends, agreed_bytes, agreement_told, finish_answer};
+ghost use Rattle.krb_c.specs.Reply.{Ends, agreed_bytes, agreement_told, finish_answer};
 
 use crate::answer::{append, hand_over_with};
 use crate::code;

@@ -3,7 +3,7 @@
 ghost use Rattle.std.specs.Prelude.{IfErr, IfOk, None, Ok, Some, ◌≡◌};
 ghost use Rattle.std.specs.Option.{MatchOption};
 ghost use Rattle.krb_c.specs.Answer.{plain};
-ghost use Rattle.krb_c.specs.Asking.{IsAskFault, IsRequestFor, Sends, ask, context_for, request_answer};
+ghost use Rattle.krb_c.specs.Request.{IsAskFault, IsRequestFor, Sends, ask, context_for, request_answer};
 ghost use Rattle.krb_c.specs.Codes.{empty_handle};
 
 use crate::answer::hand_over;
@@ -53,12 +53,12 @@ pub extern "C" fn fevstunik_request(
 pub extern "C" fn fevstunik_context_request(
     cache: &mut CacheHandle,
     pending: &mut PendingHandle,
-    alloc: Global,
     service: &[u8],
     at: &Time,
     confounder: &[u8],
     choice: &Choice,
     subkey: &[u8],
+    alloc: Global,
     context: &ContextChoice,
     buffer: &mut [u8],
 ) -> Answer

@@ -1,13 +1,13 @@
 //! A service that accepts requests.
 
 ghost use Rattle.std.specs.Prelude.{◌≡◌, None};
-ghost use Rattle.krb_c.specs.Accepting.{Decides, IsMomentOf, Remembers, TellsLatest, TellsUsage, Turns, cleared, emptied, latest_of, nothing_kept};
+ghost use Rattle.krb_c.specs.Service.{Decides, IsMomentOf, Remembers, TellsLatest, TellsUsage, Turns, cleared, emptied, latest_of, nothing_kept};
 ghost use Rattle.krb_c.specs.Answer.{plain};
 ghost use Rattle.krb_c.specs.Codes.{bad_moment, empty_handle};
 ghost use Rattle.krb_c.specs.Login.{AddsRealm};
 ghost use Rattle.krb_c.specs.Options.{Makes, whole};
 ghost use Rattle.krb_time.specs.Moments.{micros_of};
-ghost use Rattle.krb_c.specs.Renewing.{RenewsHeld};
+ghost use Rattle.krb_c.specs.Renewal.{RenewsHeld};
 ghost use Rattle.std.specs.Option.{MatchOption, option_map};
 ghost use Rattle.krb_ap.specs.Setup.{arrival};
 ghost use Rattle.krb_replay.specs.Memory.{IsSizeOf};

@@ -1,13 +1,13 @@
 //! What a service is made with: its options, the keys of its keytab and the name that it serves.
 
 ghost use Rattle.std.specs.Prelude.{◌≡◌, ◌*◌, ◌↔◌, ◌<◌, ◌≤◌, Contains, IfErr, IfOk, IsTrue, None, Some, []};
-ghost use Rattle.std.specs.Option.{MatchOption};
 ghost use Rattle.krb_ap.specs.History.{StandsFor};
-ghost use Rattle.krb_c.specs.Accepting.{Serves};
-ghost use Rattle.krb_c.specs.Asking.{IsUnnamed};
-ghost use Rattle.krb_c.specs.Options.{AreTerms, IsInvalid, IsLateEnough, IsMade, IsStart, IsStartFault, IsSubkeyType, IsTermsFault, IsUnmade, IsValid, client_limit_of, limit_of, rule_of, whole};
-ghost use Rattle.krb_c.specs.Renewing.{IsNamed, IsServed, IsUnusable};
+ghost use Rattle.krb_c.specs.Service.{Serves};
+ghost use Rattle.krb_c.specs.Request.{IsUnnamed};
+ghost use Rattle.krb_c.specs.Options.{AreTerms, IsInvalid, IsLateEnough, IsMade, IsStart, IsStartFault, IsSubkeyType, IsTermsFault, IsUnmade, IsValid, client_limit_of, limit_of, whole};
+ghost use Rattle.krb_c.specs.Renewal.{IsNamed, IsServed, IsUnusable};
 
+use crate::bindings::bindings_of;
 use crate::code;
 use crate::keytab::keytab_of;
 use crate::name::name_of;
@@ -15,7 +15,7 @@ use crate::service_state::ServiceState;
 use crate::structs::{AcceptorOptions, Answer};
 use krb_ap::Acceptor;
 use krb_keytab::Keytab;
-use krb_login::{Bindings, Realms, Service, Terms};
+use krb_login::{Realms, Service, Terms};
 use krb_msg::Moment;
 use krb_replay::{LimitedMemory, Skew, TimedMemory};
 use std::alloc::Global;
@@ -112,7 +112,7 @@ impl AcceptorOptions {
         ensures terms { IfOk result (AreTerms self.now) }
         ensures fault { IfErr result (IsTermsFault self.now) }
     {
-        let Some(bindings) = self.rule() else {
+        let Some(bindings) = bindings_of(self.bindings, &self.bindings_hash) else {
             return Err(Answer::plain(code::BAD_BINDINGS));
         };
         if !is_subkey_type(self.subkey_type) {
@@ -128,19 +128,6 @@ impl AcceptorOptions {
             realms,
             bindings,
         })
-    }
-
-    // What becomes of a client's channel bindings.
-    fn rule(&self) -> Option<Bindings>
-        ensures { MatchOption result (2 < self.now.bindings)
-            (λ rule. (rule_of self.now.bindings self.now.bindings_hash ≡ Some rule) × (self.now.bindings ≤ 2)) }
-    {
-        match self.bindings {
-            0 => Some(Bindings::Ignored),
-            1 => Some(Bindings::IfSent(self.bindings_hash)),
-            2 => Some(Bindings::Required(self.bindings_hash)),
-            _ => None,
-        }
     }
 
     /// The skew and the start, if the options are valid for a service of this name's text.

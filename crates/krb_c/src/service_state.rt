@@ -1,14 +1,14 @@
 //! What a service's handle holds.
 
 ghost use Rattle.krb_c.specs.Answer.{plain};
-ghost use Rattle.std.specs.Prelude.{IsTrue, List, None, Some, Err, ℕ, ◌≡◌, ◌↔◌, ◌⊎◌};
+ghost use Rattle.std.specs.Prelude.{IsTrue, List, ℕ, ◌≡◌, ◌↔◌, ◌⊎◌};
 ghost use Rattle.krb_ap.specs.Setup.{arrival};
-ghost use Rattle.krb_c.specs.Accepting.{Decides, TellsLatest, TellsUsage, cleared, full_of, latest_of, told_of, with_refusal};
+ghost use Rattle.krb_c.specs.Service.{Decides, TellsLatest, TellsUsage, accepted_by, cleared, full_of, latest_of, refused_by, told_of, with_refusal};
 ghost use Rattle.krb_c.specs.Codes.{ok};
 ghost use Rattle.krb_c.specs.Login.{AddsRealm, IsListed};
 ghost use Rattle.krb_login.specs.Terms.{IsOfRealms};
-ghost use Rattle.krb_c.specs.Refusing.{TellsError};
-ghost use Rattle.krb_c.specs.Renewing.{Renews};
+ghost use Rattle.krb_c.specs.Refusal.{TellsError};
+ghost use Rattle.krb_c.specs.Renewal.{Renews};
 
 use crate::accepted_state::AcceptedState;
 use crate::answer::hand_over;
@@ -47,35 +47,37 @@ impl ServiceState {
         ensures { Decides self.old self.new (arrival bytes.now now) kept.new.accepted result }
     {
         let full = self.service.acceptor.memory().refused();
-        match self.service.acceptor.accept(alloc, bytes, now) {
-            Ok(accepted) => self.keep(kept, accepted),
-            Err(refusal) => self.refuse(kept, refusal, full),
-        }
-    }
-
-    fn keep(&mut self, kept: &mut AcceptedState, accepted: Accepted) -> Answer
-        ensures state { self.new ≡ with_refusal self.old None }
-        ensures kept { kept.new ≡ record { accepted = Some accepted } }
-        ensures answer { result ≡ plain ok }
-    {
-        kept.accepted = Some(accepted);
-        self.refusal = None;
-        Answer::plain(code::OK)
+        let outcome = self.service.acceptor.accept(alloc, bytes, now);
+        self.keep(kept, outcome, full)
     }
 
     // `full` is how many requests had been refused for a limit before this one.
-    fn refuse(&mut self, kept: &mut AcceptedState, refusal: Refusal, full: u64) -> Answer
-        ensures state { self.new ≡ with_refusal self.old (Some refusal) }
-        ensures kept { kept.new ≡ record { accepted = None } }
-        ensures answer { result ≡ told_of full (full_of self.old) (Err refusal) }
+    fn keep(
+        &mut self,
+        kept: &mut AcceptedState,
+        outcome: Result<Accepted, Refusal>,
+        full: u64,
+    ) -> Answer
+        ensures state { self.new ≡ with_refusal self.old (refused_by outcome) }
+        ensures kept { kept.new ≡ record { accepted = accepted_by outcome } }
+        ensures answer { result ≡ told_of full (full_of self.old) outcome }
     {
-        kept.accepted = None;
-        self.refusal = Some(refusal);
-        match refusal {
-            Refusal::OutOfMemory if self.service.acceptor.memory().refused() != full => {
-                Answer::plain(code::FULL)
+        match outcome {
+            Ok(accepted) => {
+                kept.accepted = Some(accepted);
+                self.refusal = None;
+                Answer::plain(code::OK)
             }
-            _ => Answer::refused(&refusal),
+            Err(refusal) => {
+                kept.accepted = None;
+                self.refusal = Some(refusal);
+                match refusal {
+                    Refusal::OutOfMemory if self.service.acceptor.memory().refused() != full => {
+                        Answer::plain(code::FULL)
+                    }
+                    _ => Answer::refused(&refusal),
+                }
+            }
         }
     }
 

@@ -7,7 +7,7 @@ ghost use Rattle.krb_c.specs.Answer.{plain};
 ghost use Rattle.krb_c.specs.Codes.{empty_handle};
 ghost use Rattle.krb_c.specs.Stamps.{IsStampFault, IsTimeOf, TellsStamp, TellsStart, until};
 ghost use Rattle.krb_replay.specs.Bytes.{IsBytesOf};
-ghost use Rattle.krb_c.specs.Accepting.{stamp_told};
+ghost use Rattle.krb_c.specs.Service.{stamp_told};
 
 use crate::accepted_state::AcceptedState;
 use crate::answer::hand_over;

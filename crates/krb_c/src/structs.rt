@@ -312,7 +312,8 @@ pub struct AcceptorOptions {
     pub bindings: u32,
     /// The encryption type of the subkey that a reply sends: 19, 20, or 0 for no subkey.
     pub subkey_type: u32,
-    /// The MD5 hash of the channel's bindings (RFC 4121, section 4.1.1.2).
+    /// The MD5 hash of the channel's bindings (RFC 4121, section 4.1.1.2); not all zero, unless
+    /// they are ignored.
     pub bindings_hash: [u8; 16],
     /// Whether anonymous clients are let in (RFC 8062).
     pub anonymous: bool,

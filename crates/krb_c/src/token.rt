@@ -27,13 +27,12 @@ pub extern "C" fn fevstunik_token_open(
 ) -> Answer
     ensures { OpensToken token.now wrapped.old wrapped.new buffer.old buffer.new result }
 {
-    match open_token(token) {
-        Ok(opened) => {
-            *wrapped = wrapped_of(&opened);
-            hand_over(opened.request, buffer)
-        }
-        Err(fault) => token_told(fault),
-    }
+    let opened = match open_token(token) {
+        Ok(opened) => opened,
+        Err(fault) => return token_told(fault),
+    };
+    *wrapped = wrapped_of(&opened);
+    hand_over(opened.request, buffer)
 }
 
 pub(crate) fn wrapped_of(opened: &Opened) -> Wrapped
@@ -161,8 +160,8 @@ pub extern "C" fn fevstunik_token_reply(
 /// Builds the token that answers a client with an error (`krb_gss::wrap_answer`).
 #[unsafe(no_mangle)]
 pub extern "C" fn fevstunik_token_error(
-    wrapped: &Wrapped,
     alloc: Global,
+    wrapped: &Wrapped,
     error: &[u8],
     buffer: &mut [u8],
 ) -> Answer

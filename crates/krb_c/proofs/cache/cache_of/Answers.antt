@@ -1,5 +1,5 @@
 use Rattle.std.proofs.Common.{arith}
-use Rattle.krb_c.proofs.Making.{cache_there}
+use Rattle.krb_c.proofs.ServiceLaws.{cache_there}
 use Rattle.krb_c.proofs.cache.cache_of.Goals as goal
 
 pub returns-in-Err-clause-fault : goal.returns-in-Err-clause-fault

@@ -4,9 +4,9 @@ use Rattle.krb_ccache.specs.Value.{Cache}
 use Rattle.krb_ccache.specs.declared.fault.CacheFault.{CacheFault}
 use Rattle.krb_ccache.specs.declared.fault.CacheFault.TheVariants.{OutOfMemory}
 use Rattle.krb_c.specs.Answer.{sized}
-use Rattle.krb_c.specs.Asking.{cache_answer}
+use Rattle.krb_c.specs.Request.{cache_answer}
 use Rattle.krb_c.specs.Codes.{ok}
-use Rattle.krb_c.proofs.Making.{wanting, same_value}
+use Rattle.krb_c.proofs.ServiceLaws.{wanting, same_value}
 use Rattle.krb_c.proofs.cache.fevstunik_cache_check.Goals as goal
 
 pub returns-in-Ok-clause-credentials : goal.returns-in-Ok-clause-credentials

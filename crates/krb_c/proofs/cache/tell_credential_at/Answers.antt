@@ -4,7 +4,7 @@ use Rattle.std.proofs.lemmas.Option.{slice_get_read}
 use Rattle.std.specs.Prelude.{Option, Some}
 use Rattle.std.specs.List.{slice_get}
 use Rattle.krb_ccache.specs.declared.credential.Credential.{Credential}
-use Rattle.krb_c.specs.Listing.{TellsCredentialIf, credential_bytes, credential_of}
+use Rattle.krb_c.specs.Entries.{TellsCredentialIf, credential_bytes, credential_of}
 use Rattle.krb_c.proofs.cache.tell_credential_at.Goals as goal
 
 pub returns-in-Some : goal.returns-in-Some

@@ -1,7 +1,7 @@
 use Rattle.std.proofs.Common.{inl, inr, refl, subst, w32, ℤ, List, ℕ}
 use Rattle.std.proofs.lemmas.Int.{to_z-of_z}
 use Rattle.krb_c.specs.Answer.{Hands}
-use Rattle.krb_c.specs.Refusing.{Errors, IsErrorFault}
+use Rattle.krb_c.specs.Refusal.{Errors, IsErrorFault}
 use Rattle.krb_c.proofs.error.fevstunik_error.Goals as goal
 
 pub returns-in-Ok : goal.returns-in-Ok

@@ -5,7 +5,7 @@ use Rattle.krb_keytab.specs.declared.fault.KeytabFault.{KeytabFault}
 use Rattle.krb_keytab.specs.declared.fault.KeytabFault.TheVariants.{OutOfMemory}
 use Rattle.krb_c.specs.Answer.{keytab_answer, sized}
 use Rattle.krb_c.specs.Codes.{ok}
-use Rattle.krb_c.proofs.Making.{wanting, same_fault, same_value, no_fault}
+use Rattle.krb_c.proofs.ServiceLaws.{wanting, same_fault, same_value, no_fault}
 use Rattle.krb_c.proofs.keytab.fevstunik_keytab_check.Goals as goal
 
 pub returns-in-Ok-clause-entries : goal.returns-in-Ok-clause-entries

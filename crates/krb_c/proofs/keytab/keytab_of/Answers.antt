@@ -1,5 +1,5 @@
 use Rattle.std.proofs.Common.{arith}
-use Rattle.krb_c.proofs.Making.{keytab_there}
+use Rattle.krb_c.proofs.ServiceLaws.{keytab_there}
 use Rattle.krb_c.proofs.keytab.keytab_of.Goals as goal
 
 pub returns-in-Err-clause-fault : goal.returns-in-Err-clause-fault

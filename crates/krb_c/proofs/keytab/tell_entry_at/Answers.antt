@@ -4,7 +4,7 @@ use Rattle.std.proofs.lemmas.Option.{slice_get_read}
 use Rattle.std.specs.Prelude.{Option, Some}
 use Rattle.std.specs.List.{slice_get}
 use Rattle.krb_keytab.specs.Entry.{KeytabEntry}
-use Rattle.krb_c.specs.Listing.{TellsEntryIf, entry_bytes, entry_of}
+use Rattle.krb_c.specs.Entries.{TellsEntryIf, entry_bytes, entry_of}
 use Rattle.krb_c.proofs.keytab.tell_entry_at.Goals as goal
 
 pub returns-in-Some : goal.returns-in-Some

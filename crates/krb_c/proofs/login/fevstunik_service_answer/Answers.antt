@@ -3,7 +3,7 @@ use Rattle.std.specs.Prelude.{Option, Some, None}
 use Rattle.std.specs.Option.{option_map}
 use Rattle.krb_time.specs.Moments.{micros_of}
 use Rattle.krb_gss.specs.declared.negotiating.Negotiation.{Negotiation}
-use Rattle.krb_c.specs.Accepting.{IsMomentOf}
+use Rattle.krb_c.specs.Service.{IsMomentOf}
 use Rattle.krb_c.specs.Inner.{AnswersMoment, decided_on, no_room, undrawn}
 use Rattle.krb_c.specs.Login.{AnswersLogin, IsDecided, IsUndecided, decided, nothing, outcome_in, stage_of, undecided}
 use Rattle.krb_c.specs.declared.accepted_state.AcceptedState.{AcceptedState}

@@ -1,5 +1,5 @@
 use Rattle.std.proofs.Common.{refl, subst, sym, List, ℕ}
-use Rattle.krb_c.specs.Negotiating.{Returns, took, refused, memory, at_stage}
+use Rattle.krb_c.specs.Negotiation.{Returns, took, refused, memory, at_stage}
 use Rattle.krb_c.proofs.negotiation.fevstunik_negotiation_take.Goals as goal
 
 pub returns-in-Ok-returned : goal.returns-in-Ok-returned

@@ -1,4 +1,4 @@
-use Rattle.krb_c.specs.Negotiating.{says}
+use Rattle.krb_c.specs.Negotiation.{says}
 use Rattle.krb_c.proofs.negotiation.fevstunik_verdict_read.Goals as goal
 
 pub returns-in-Some : goal.returns-in-Some

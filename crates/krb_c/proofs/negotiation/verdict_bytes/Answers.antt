@@ -1,4 +1,4 @@
-use Rattle.krb_c.specs.Negotiating.{no_room}
+use Rattle.krb_c.specs.Negotiation.{no_room}
 use Rattle.krb_c.proofs.negotiation.verdict_bytes.Goals as goal
 
 pub returns-in-Err-clause-fault : goal.returns-in-Err-clause-fault

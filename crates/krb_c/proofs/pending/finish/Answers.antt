@@ -1,5 +1,5 @@
 use Rattle.std.proofs.Common.{inl, rules}
-use Rattle.krb_c.specs.Finishing.{agreed_bytes, agreement_told}
+use Rattle.krb_c.specs.Reply.{agreed_bytes, agreement_told}
 use Rattle.krb_c.proofs.pending.finish.Goals as goal
 
 pub returns-in-Ok : goal.returns-in-Ok

@@ -3,7 +3,7 @@ use Rattle.std.specs.Prelude.{Option}
 use Rattle.std.specs.Option.{MatchOption}
 use Rattle.krb_ccache.specs.Value.{Cache}
 use Rattle.krb_c.specs.Answer.{plain}
-use Rattle.krb_c.specs.Asking.{Sends, ask}
+use Rattle.krb_c.specs.Request.{Sends, ask}
 use Rattle.krb_c.specs.Codes.{empty_handle}
 use Rattle.krb_c.proofs.request.request_by.Goals as goal
 

@@ -2,7 +2,7 @@ use Rattle.std.proofs.Common.{◌≡◌, ◌∙◌, List, ℕ, take, refl, ap, i
 use Rattle.krb_enc.specs.Key.{IsUsable, KeyValue, UsageKeyValue, profile_of}
 use Rattle.krb_enc.specs.Opens.{Opens}
 use Rattle.krb_c.specs.Choice.{key_value}
-use Rattle.krb_c.proofs.HandedOut.{handed, not_handed}
+use Rattle.krb_c.proofs.Buffers.{handed, not_handed}
 use Rattle.krb_c.proofs.text.fevstunik_open.Goals as goal
 
 abbrev OpensUnder : List ℕ → List ℕ → UsageKeyValue → Type 0

@@ -11,7 +11,7 @@ use Rattle.krb_c.specs.contracts.place.Place as place
 use Rattle.krb_c.specs.contracts.handles.LoginHandle as handle
 use Rattle.krb_c.specs.contracts.handles.LoginHandleHandle.into_place.{clauses}
 use Rattle.krb_c.specs.contracts.handles.LoginHandleHandle.into_place.Key.{name}
-use Rattle.krb_c.proofs.Moved.{moved}
+use Rattle.krb_c.proofs.Move.{moved}
 use Rattle.krb_c.proofs.handles.LoginHandleHandle.into_place.Statement.{statement}
 use Rattle.krb_c.proofs.handles.LoginHandleHandle.into_place.Code as code
 

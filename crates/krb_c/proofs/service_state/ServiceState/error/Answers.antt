@@ -3,7 +3,7 @@ use Rattle.std.proofs.lemmas.Int.{to_z-of_z}
 use Rattle.std.specs.Prelude.{Option}
 use Rattle.krb_ap.specs.declared.refusal.Refusal.{Refusal}
 use Rattle.krb_c.specs.Answer.{Hands}
-use Rattle.krb_c.specs.Refusing.{Errors, IsErrorFault, TellsError}
+use Rattle.krb_c.specs.Refusal.{Errors, IsErrorFault, TellsError}
 use Rattle.krb_c.proofs.service_state.ServiceState.error.Goals as goal
 
 pub returns-in-Ok : goal.returns-in-Ok

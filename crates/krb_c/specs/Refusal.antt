@@ -7,9 +7,9 @@ use Rattle.krb_ap.specs.ErrorReply.{IsErrorReply, IsErrorTooLong}
 use Rattle.krb_ap.specs.declared.errors.ReplyFault.{ReplyFault}
 use Rattle.krb_ap.specs.declared.errors.ReplyFault.TheVariants as error
 use Rattle.krb_ap.specs.declared.refusal.Refusal.{Refusal}
-use Rattle.krb_c.specs.Accepting.{IsMomentOf}
+use Rattle.krb_c.specs.Service.{IsMomentOf}
 use Rattle.krb_c.specs.Answer.{Delivers, plain}
-use Rattle.krb_c.specs.Asking.{HasName, IsMomentFault, IsNameFault, moment_of}
+use Rattle.krb_c.specs.Request.{HasName, IsMomentFault, IsNameFault, moment_of}
 use Rattle.krb_c.specs.Codes.{cause_code, no_code, nothing_there, out_of_memory, too_long}
 use Rattle.krb_c.specs.declared.structs.Answer.{Answer}
 use Rattle.krb_c.specs.declared.structs.Time.{Time}

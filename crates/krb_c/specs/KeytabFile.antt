@@ -11,7 +11,7 @@ use Rattle.krb_keytab.specs.Written.{written}
 use Rattle.krb_keytab.specs.declared.fault.KeytabFault.{KeytabFault}
 use Rattle.krb_keytab.specs.declared.fault.KeytabFault.TheVariants as keytab
 use Rattle.krb_c.specs.Answer.{keytab_answer, plain, sized}
-use Rattle.krb_c.specs.Asking.{HasName, IsNameFault}
+use Rattle.krb_c.specs.Request.{HasName, IsNameFault}
 use Rattle.krb_c.specs.Codes.{ok, out_of_memory, too_long}
 use Rattle.krb_c.specs.declared.structs.Answer.{Answer}
 use Rattle.krb_c.specs.declared.structs.KeyParts.{KeyParts}

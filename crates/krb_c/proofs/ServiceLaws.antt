@@ -9,8 +9,8 @@ use Rattle.krb_ccache.specs.Format.{IsAnswerOf, IsFaultOf}
 use Rattle.krb_ccache.specs.Value.{Cache}
 use Rattle.krb_ccache.specs.declared.fault.CacheFault.{CacheFault}
 use Rattle.krb_ccache.specs.declared.fault.CacheFault.TheVariants.{OutOfMemory}
-use Rattle.krb_c.specs.Asking.{HasCache}
-use Rattle.krb_c.specs.Editing.{HasKeytab}
+use Rattle.krb_c.specs.Request.{HasCache}
+use Rattle.krb_c.specs.KeytabFile.{HasKeytab}
 use Rattle.krb_c.specs.declared.structs.Answer.{Answer}
 
 abbrev fault_or : {X E : Type 0} → E → Result X E → E

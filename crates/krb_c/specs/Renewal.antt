@@ -3,11 +3,11 @@ use Rattle.std.specs.Prelude.{◌≡◌, ◌≢◌, ◌⊎◌, ℕ, Bool, IsTrue
 use Rattle.krb_keytab.specs.Entry.{KeytabEntry}
 use Rattle.krb_keytab.specs.Format.{IsKeytab}
 use Rattle.krb_ap.specs.Setup.{Arrival, as_decided, with_entries}
-use Rattle.krb_c.specs.Accepting.{Serves, Stands}
+use Rattle.krb_c.specs.Service.{Serves, Stands}
 use Rattle.krb_c.specs.Answer.{plain}
-use Rattle.krb_c.specs.Asking.{IsUnnamed}
+use Rattle.krb_c.specs.Request.{IsUnnamed}
 use Rattle.krb_c.specs.Codes.{empty_handle, no_name, ok}
-use Rattle.krb_c.specs.Editing.{HasKeytab, HasKeytabFault}
+use Rattle.krb_c.specs.KeytabFile.{HasKeytab, HasKeytabFault}
 use Rattle.krb_c.specs.declared.structs.Answer.{Answer}
 use Rattle.krb_c.specs.declared.service_state.ServiceState.{ServiceState}
 
