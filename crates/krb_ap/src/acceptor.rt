@@ -112,6 +112,13 @@ impl<M: ReplayMemory> Acceptor<M> {
         &self.state.judge.memory
     }
 
+    /// Returns how much clocks may differ.
+    pub fn skew(&self) -> Skew
+        ensures { result ≡ self.now.setup.skew }
+    {
+        self.state.judge.skew
+    }
+
     /// Decides whether a request is accepted (RFC 4120, section 3.2.3), and remembers what it must
     /// to recognize a repeat.
     ///

@@ -4,7 +4,9 @@ use crate::names::{moment, show_name};
 use krb_ap::{Acceptor, ReplyOptions};
 use krb_gss::Negotiation;
 use krb_keytab::Keytab;
-use krb_login::{Asked, Bindings, Cause, Decision, Given, Realms, Refused, Service, Terms};
+use krb_login::{
+    Asked, Bindings, BindingsHash, Cause, Decision, Given, Realms, Refused, Service, Terms,
+};
 use krb_name::Bytes;
 use krb_replay::{Skew, TimedMemory};
 use krb_words::{Answer, Words};
@@ -51,9 +53,9 @@ fn bindings(words: &mut Words) -> Option<Bindings> {
     }
 }
 
-fn hash(words: &mut Words) -> Option<[u8; 16]> {
+fn hash(words: &mut Words) -> Option<BindingsHash> {
     let bytes = words.bytes()?;
-    bytes.as_slice().first_chunk::<16>().copied()
+    BindingsHash::new(bytes.as_slice().first_chunk::<16>().copied()?)
 }
 
 /// Answers the bytes of a client at a moment: with `first`, they begin a negotiation.
@@ -110,6 +112,7 @@ fn show_refused(refused: &Refused, out: &mut Answer) -> Option<()> {
         Cause::Request(refusal) => out.word(refusal.name())?,
         Cause::Breached(breach) => out.word(breach.name())?,
         Cause::OutOfMemory => out.word("OutOfMemory")?,
+        Cause::StoreFailed => out.word("StoreFailed")?,
     }
     show_asked(&refused.asked, out)?;
     show_sent(&refused.answer, out)

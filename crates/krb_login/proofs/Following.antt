@@ -24,7 +24,7 @@ use Rattle.krb_login.specs.declared.asked.Asked.{Asked}
 use Rattle.krb_login.specs.declared.carrier.Carrier.{Carrier}
 use Rattle.krb_login.specs.declared.carrier.Carrier.TheVariants.{Alone, First, Later}
 use Rattle.krb_login.specs.declared.cause.Cause.{Cause}
-use Rattle.krb_login.specs.declared.cause.Cause.TheVariants.{Token, Request, Breached, OutOfMemory}
+use Rattle.krb_login.specs.declared.cause.Cause.TheVariants.{Token, Request, Breached, OutOfMemory, StoreFailed}
 use Rattle.krb_login.specs.declared.decision.Decision.{Decision}
 use Rattle.krb_login.specs.declared.decision.Decision.TheVariants as decisions
 use Rattle.krb_login.specs.declared.decision.LetIn.{LetIn}
@@ -114,7 +114,8 @@ by_cause : (call : Call) (refused : Refused) (cause : Cause) → HasCause call r
 by_cause call refused (Token fault) h = record { asked = nothing _ refused.asked h.asked; answer = open_reject call _ refused.answer h.answer }
 by_cause call refused (Request refusal) h = of_request call h.0 h.1.0 refusal h.1.1.0 refused h.1.1.1.1
 by_cause call refused (Breached breach) h = of_request call h.0 h.1.0 _ h.1.1.1.0 refused h.1.1.1.1.1.1
-by_cause call refused OutOfMemory h = record { asked = nothing _ refused.asked h.1.0; answer = nothing _ refused.answer h.1.1 }
+by_cause call refused OutOfMemory h = record { asked = nothing _ refused.asked h.1.asked; answer = nothing _ refused.answer h.1.answer }
+by_cause call refused StoreFailed h = absurd h
 
 pub shows : (call : Call) (refused : Refused) → Decides call (decisions.Refused refused) → ShowsWhatIsOpen call refused
 shows call refused is = by_cause call refused refused.cause is

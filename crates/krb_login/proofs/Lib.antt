@@ -2,3 +2,4 @@ pub mod LoginLaws
 pub mod Following
 pub mod Written
 pub mod Completed
+pub mod Stepping

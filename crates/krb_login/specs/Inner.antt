@@ -1,15 +1,26 @@
 -- What the bytes of a client hold, in the words of private contracts.
-use Rattle.std.specs.Prelude.{◌≡◌, ℕ, List}
+use Rattle.std.specs.Prelude.{◌≡◌, ℕ, ℤ, List, Vec, Option, Some, None, Result, Ok, Err}
+use Rattle.std.specs.declared.alloc.Global.{Global}
+use Rattle.krb_ap.specs.declared.refusal.Refusal.{Refusal}
 use Rattle.krb_gss.specs.declared.negotiating.Negotiation.{Negotiation}
 use Rattle.krb_gss.specs.declared.negotiating.Negotiation.TheVariants.{Begun, Asked, Ended}
 use Rattle.krb_gss.specs.Negotiation.{IsAsking}
 use Rattle.krb_login.specs.Carrying.{Carries}
+use Rattle.krb_login.specs.Login.{IsNothingDue, IsRefusalOf, IsUnsentSo}
+use Rattle.krb_login.specs.declared.carrier.Carrier.{Carrier}
+use Rattle.krb_login.specs.declared.decision.Unsent.{Unsent}
 use Rattle.krb_login.specs.declared.opening.Held.{Held}
 use Rattle.krb_login.specs.declared.opening.Held.TheVariants.{Request, Nothing}
 
 abbrev pub Holds : Negotiation → List ℕ → Held → Type 0
 Holds negotiation bytes (Request carrier request) = Carries negotiation carrier request.now bytes
 Holds negotiation bytes (Nothing first) = (negotiation ≡ Begun) × IsAsking first bytes
+
+-- bytes go back to a client that is refused, or none are due, or it is said why they don't
+abbrev pub IsSentSo : ℤ → Carrier → List ℕ → Refusal → Result (Option (Vec ℕ Global)) Unsent → Type 0
+IsSentSo now carrier request refusal (Ok (Some bytes)) = IsRefusalOf now carrier request refusal bytes.items
+IsSentSo now carrier request refusal (Ok None) = IsNothingDue carrier request
+IsSentSo now carrier request refusal (Err why) = IsUnsentSo now carrier request refusal why
 
 -- how far the negotiation is then
 abbrev pub GoesTo : Negotiation → Held → Type 0

@@ -1,6 +1,9 @@
+pub mod NoBindings
 pub mod Terms
 pub mod Asked
 pub mod Carrying
 pub mod Login
 pub mod Laws
+pub mod Waiting
+pub mod Store
 pub mod Inner

@@ -1,5 +1,5 @@
 -- What a service decides on the bytes of a client, and what it sends back.
-use Rattle.std.specs.Prelude.{◌≡◌, ◌≢◌, ◌⊎◌, ℕ, ℤ, List, ◌∷◌, Vec, Option, Some, None, IfSome, IsSomeAnd, true, false, Err}
+use Rattle.std.specs.Prelude.{◌≡◌, ◌≢◌, ◌⊎◌, ℕ, ℤ, pos, List, ◌∷◌, length, Vec, Option, Some, None, IfSome, IsSomeAnd, true, false, Err}
 use Rattle.std.specs.declared.alloc.Global.{Global}
 use Rattle.krb_gss.specs.declared.mechanism.Mechanism.{Mechanism}
 use Rattle.krb_gss.specs.declared.fault.TokenFault.{TokenFault}
@@ -14,21 +14,24 @@ use Rattle.krb_ap.specs.Answer.{taken_of}
 use Rattle.krb_ap.specs.Causes.{Cause as IsCause, code_of as refusal_code}
 use Rattle.krb_ap.specs.Opened.{IsOrdinary}
 use Rattle.krb_ap.specs.Reply.{IsReply}
-use Rattle.krb_ap.specs.ErrorReply.{IsErrorReply}
+use Rattle.krb_ap.specs.ErrorReply.{IsErrorReply, IsErrorTooLong}
 use Rattle.krb_ap.specs.declared.refusal.Refusal.{Refusal}
 use Rattle.krb_ap.specs.declared.refusal.Refusal.TheVariants as refusals
 use Rattle.krb_ap.specs.declared.reply.ReplyOptions.{ReplyOptions}
+use Rattle.krb_name.specs.declared.principal.Principal.{Principal}
 use Rattle.krb_login.specs.Terms.{Meets, IsFirstBroken, code_of as breach_code}
 use Rattle.krb_login.specs.Asked.{Asks, AsksNothing}
-use Rattle.krb_login.specs.Carrying.{BeginsRequest, Carries, GoesBack, IsNegotiating, Says, completed, rejected}
+use Rattle.krb_login.specs.Carrying.{BeginsRequest, Carries, FitsInto, GoesBack, IsNegotiating, Says, completed, rejected}
 use Rattle.krb_login.specs.declared.terms.Terms.{Terms}
 use Rattle.krb_login.specs.declared.asked.Asked.{Asked as AskedFor}
 use Rattle.krb_login.specs.declared.carrier.Carrier.{Carrier}
 use Rattle.krb_login.specs.declared.cause.Cause.{Cause}
-use Rattle.krb_login.specs.declared.cause.Cause.TheVariants.{Token, Request, Breached, OutOfMemory}
+use Rattle.krb_login.specs.declared.cause.Cause.TheVariants.{Token, Request, Breached, OutOfMemory, StoreFailed}
 use Rattle.krb_login.specs.declared.service.Given.{Given}
 use Rattle.krb_login.specs.declared.decision.LetIn.{LetIn}
 use Rattle.krb_login.specs.declared.decision.Refused.{Refused}
+use Rattle.krb_login.specs.declared.decision.Unsent.{Unsent}
+use Rattle.krb_login.specs.declared.decision.Unsent.TheVariants as unsent
 use Rattle.krb_login.specs.declared.decision.Decision.{Decision}
 use Rattle.krb_login.specs.declared.decision.Decision.TheVariants as decisions
 
@@ -54,6 +57,19 @@ call_with terms setup history negotiation bytes given = record {
   now = given.now;
   confounder = given.confounder.now;
   choice = given.choice;
+}
+
+-- the same of bytes, a moment and the rest
+abbrev pub call_for : Terms → Setup → List Arrival → Negotiation → List ℕ → ℤ → List ℕ → ReplyOptions → Call
+call_for terms setup history negotiation bytes now confounder choice = record {
+  terms = terms;
+  setup = setup;
+  history = history;
+  negotiation = negotiation;
+  bytes = bytes;
+  now = now;
+  confounder = confounder;
+  choice = choice;
 }
 
 abbrev pub call_of : Terms → Setup → List Arrival → Negotiation → Given → Call
@@ -90,11 +106,14 @@ pub record IsFaultOf (negotiation : Negotiation) (bytes : List ℕ) (fault : Tok
   pub faulty : Takes bytes negotiation (Err fault) Ended
 
 -- A reject goes back to a client that is in a negotiation (RFC 4178, section 4.2.2). To others nothing
--- goes back, since it isn't known what they await. It may be missing if memory ran out.
+-- goes back, since it isn't known what they await. It is missing only if memory ran out, and then the
+-- service says so.
 pub record IsFaultySo (negotiation : Negotiation) (bytes : List ℕ) (fault : TokenFault) (refused : Refused) : Type 0 where
   pub faulty : IsFaultOf negotiation bytes fault
   pub asked : refused.asked ≡ None
   pub answer : IfSome refused.answer (λ sent. IsNegotiating negotiation bytes × WritesVerdict Rejected sent.items)
+  pub due : refused.answer ≡ None → refused.unsent ≡ None → IsNegotiating negotiation bytes → ⊥
+  pub unsent : IfSome refused.unsent (λ why. (why ≡ unsent.OutOfMemory) × (refused.answer ≡ None))
 
 -- The error of a refusal goes back to a client that awaits a reply (RFC 4120, section 3.2.3), and
 -- else a reject, in a negotiation.
@@ -106,11 +125,37 @@ pub data IsRefusalOf (now : ℤ) (carrier : Carrier) (request : List ℕ) (refus
   unread : AsksNothing request → IsSomeAnd (rejected carrier) (λ verdict. WritesVerdict verdict bytes)
       → IsRefusalOf now carrier request refusal bytes
 
--- What is said of a request that is refused: what it asks for, and what goes back. Either may be
--- missing if memory ran out, and what goes back if it would be too long.
+-- Nothing goes back to a client that awaits no reply, outside of a negotiation.
+pub data IsNothingDue (carrier : Carrier) (request : List ℕ) : Type 0 where
+  silent : (asked : AskedFor) → Asks request asked → asked.wants_reply ≡ false → rejected carrier ≡ None → IsNothingDue carrier request
+  unread_alone : AsksNothing request → rejected carrier ≡ None → IsNothingDue carrier request
+
+-- the error of a refusal would be longer than messages may be, or its token would
+abbrev pub IsErrorLong : Refusal → ℤ → Carrier → Principal → Type 0
+IsErrorLong refusal now carrier service =
+    IsErrorTooLong refusal now service
+    ⊎ ((message : List ℕ) × (IsErrorReply refusal now service message × (FitsInto carrier (length message) → ⊥)))
+
+-- why what is due doesn't go back
+abbrev pub IsUnsentSo : ℤ → Carrier → List ℕ → Refusal → Unsent → Type 0
+IsUnsentSo now carrier request refusal unsent.TooLong =
+    (asked : AskedFor) × (Asks request asked × ((asked.wants_reply ≡ true) × IsErrorLong refusal now carrier asked.service))
+IsUnsentSo now carrier request refusal unsent.OutOfMemory = Unit {0}
+
+-- What is said of a request that is refused: what it asks for, and what goes back. Either is missing
+-- only if memory ran out, and what goes back if it would be too long; the service says which.
 pub record IsRefusedSo (now : ℤ) (carrier : Carrier) (request : List ℕ) (refusal : Refusal) (refused : Refused) : Type 0 where
   pub asked : IfSome refused.asked (Asks request)
+  pub read : refused.asked ≡ None → AsksNothing request ⊎ (refused.unsent ≡ Some unsent.OutOfMemory)
   pub answer : IfSome refused.answer (λ bytes. IsRefusalOf now carrier request refusal bytes.items)
+  pub due : refused.answer ≡ None → refused.unsent ≡ None → IsNothingDue carrier request
+  pub unsent : IfSome refused.unsent (λ why. IsUnsentSo now carrier request refusal why × (refused.answer ≡ None))
+
+-- nothing is said, since memory ran out
+pub record SaysNothing (refused : Refused) : Type 0 where
+  pub asked : refused.asked ≡ None
+  pub answer : refused.answer ≡ None
+  pub unsent : refused.unsent ≡ Some unsent.OutOfMemory
 
 -- Memory runs out only while a client is asked for its token, or with a request of the ordinary kind
 -- (not user-to-user, with a ticket of type 19 or 20).
@@ -128,7 +173,8 @@ HasCause call refused (Breached breach) =
     (carrier : Carrier) × ((request : List ℕ) × ((taken : Taken) × (HoldsRequest call carrier request
     × (Accept call.setup call.history (arrival request call.now) taken
     × (IsFirstBroken call.terms taken breach × IsRefusedSo call.now carrier request refusals.Authorization refused)))))
-HasCause call refused OutOfMemory = MayRunOut call × ((refused.asked ≡ None) × (refused.answer ≡ None))
+HasCause call refused OutOfMemory = MayRunOut call × SaysNothing refused
+HasCause call refused StoreFailed = ⊥
 
 -- the code of the error that goes back to a client that awaits a reply, if there is an error
 abbrev pub code_of : Cause → Option ℤ
@@ -136,6 +182,7 @@ code_of (Token fault) = None
 code_of (Request refusal) = refusal_code refusal
 code_of (Breached breach) = Some (breach_code breach)
 code_of OutOfMemory = None
+code_of StoreFailed = Some (pos 60)
 
 -- ---- the decision
 abbrev pub Decides : Call → Decision → Type 0

@@ -1,11 +1,12 @@
 -- What a service asks of a client beyond what makes its request acceptable.
-use Rattle.std.specs.Prelude.{◌≡◌, ◌⊎◌, ◌<◌, ℕ, ℤ, pos, false, List, [], ◌∷◌, Contains, replicate, codes, IsSomeAnd}
+use Rattle.std.specs.Prelude.{◌≡◌, ◌⊎◌, ◌<◌, ℕ, ℤ, pos, false, List, [], ◌∷◌, Contains, codes, IsSomeAnd}
 use Rattle.krb_der.specs.Flags.{HasBit}
 use Rattle.krb_der.specs.Kind.{ValueOf, octets, leaf}
 use Rattle.krb_msg.specs.Module.{typed}
 use Rattle.krb_msg.specs.Fields.{type_of, bytes_of}
 use Rattle.krb_gss.specs.Checksum.{Content, IsChecksum}
 use Rattle.krb_ap.specs.Taken.{Taken}
+use Rattle.krb_login.specs.NoBindings.{none_sent}
 use Rattle.krb_login.specs.declared.terms.Bindings.{Bindings}
 use Rattle.krb_login.specs.declared.terms.Bindings.TheVariants.{Ignored, IfSent, Required}
 use Rattle.krb_login.specs.declared.terms.Realms.{Realms}
@@ -49,10 +50,6 @@ pub record HasBindings (sent : List ℕ) (checksum : ValueOf (typed (leaf octets
 
 abbrev pub Sends : Taken → List ℕ → Type 0
 Sends taken sent = IsSomeAnd taken.checksum (HasBindings sent)
-
--- sixteen zeros say that the client has none
-abbrev pub none_sent : List ℕ
-none_sent = replicate 16 0
 
 -- What a service wants of the bindings holds of what is known of a request. A client that sends a
 -- checksum of GSS-API says with it which bindings it has: one that can't be read doesn't say that

@@ -6,6 +6,7 @@ ghost use Rattle.krb_login.specs.Login.{code_of};
 use crate::breach::Breach;
 use krb_ap::Refusal;
 use krb_gss::TokenFault;
+use krb_msg::error_code;
 use thiserror::Error;
 
 /// Why a client isn't let in.
@@ -23,6 +24,10 @@ pub enum Cause {
     /// Memory ran out. A request that was accepted before that is remembered.
     #[error("out of memory")]
     OutOfMemory,
+    /// The request is accepted, and remembered, but the store that the service shares didn't say
+    /// whether it is new. Only [`Asking::settle`](crate::Asking::settle) refuses for it.
+    #[error("the store of stamps doesn't answer")]
+    StoreFailed,
 }
 
 impl Cause {
@@ -34,6 +39,7 @@ impl Cause {
         match self {
             Cause::Request(refusal) => refusal.code(),
             Cause::Breached(breach) => Some(breach.code()),
+            Cause::StoreFailed => Some(error_code::KRB_ERR_GENERIC),
             Cause::Token(_) | Cause::OutOfMemory => None,
         }
     }

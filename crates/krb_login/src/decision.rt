@@ -22,6 +22,17 @@ pub struct Refused {
     pub asked: Option<Asked>,
     /// The bytes to send back, if any.
     pub answer: Option<Vec<u8>>,
+    /// Why bytes are missing that should go back.
+    pub unsent: Option<Unsent>,
+}
+
+/// Why bytes that should go back to a client that isn't let in can't be made.
+#[derive(Clone, Copy, Debug, PartialEq, Eq)]
+pub enum Unsent {
+    /// The error, or its token, would have more than 1,048,576 bytes.
+    TooLong,
+    /// There is no memory.
+    OutOfMemory,
 }
 
 /// What a service decides. It can only be read as one of these.

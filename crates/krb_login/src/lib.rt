@@ -34,19 +34,26 @@
 #![tactic(auto)]
 
 mod asked;
+mod bindings_hash;
 mod breach;
 mod carrier;
 mod cause;
 mod decision;
 pub mod laws;
 mod opening;
+mod question;
+mod response;
 mod service;
+mod store;
 mod terms;
 
 pub use asked::{Asked, asked_by};
+pub use bindings_hash::BindingsHash;
 pub use breach::Breach;
 pub use carrier::Carrier;
 pub use cause::Cause;
-pub use decision::{Decision, LetIn, Refused};
+pub use decision::{Decision, LetIn, Refused, Unsent};
+pub use question::{Asking, Step};
 pub use service::{Given, Service};
+pub use store::StoreSays;
 pub use terms::{Bindings, Realms, Terms};

@@ -1,6 +1,6 @@
 //! One call for a login.
 
-ghost use Rattle.std.specs.Prelude.{◌≡◌, ◌↔◌, ℕ, List, ◌∷◌, None, IsTrue, IfOk, IfSome, IsSomeAnd, OnErr};
+ghost use Rattle.std.specs.Prelude.{◌≡◌, ◌↔◌, ℕ, List, ◌∷◌, None, IsTrue, IfErr, IfOk, IfSome, OnOk};
 ghost use Rattle.krb_ap.specs.Answer.{taken_of};
 ghost use Rattle.krb_ap.specs.Opened.{IsOrdinary};
 ghost use Rattle.krb_ap.specs.Service.{Stands};
@@ -10,24 +10,24 @@ ghost use Rattle.krb_gss.specs.Negotiation.{IsAsking};
 ghost use Rattle.krb_login.specs.Terms.{IsFirstBroken, Meets};
 ghost use Rattle.krb_gss.specs.declared.negotiating.Negotiation.{Negotiation as NegotiationValue};
 ghost use Rattle.krb_ap.specs.Causes.{Cause as IsCause};
-ghost use Rattle.krb_ap.specs.ErrorReply.{IsErrorReply};
-ghost use Rattle.krb_gss.specs.Answer.{error, WritesVerdict};
-ghost use Rattle.std.specs.Option.{MatchOption};
-ghost use Rattle.krb_login.specs.Asked.{Asks, AsksNothing};
-ghost use Rattle.krb_login.specs.Carrying.{Carries, GoesBack, IsNegotiating, rejected};
-ghost use Rattle.krb_login.specs.Login.{Call, Decides, GoesOn, GoesTo, HoldsRequest, IsAfter, IsAnswerDue, IsAnswered, IsDecided, IsRefusalOf, IsRefusedSo, IsUndecided, call_of, call_with};
+ghost use Rattle.krb_ap.specs.declared.reply.ReplyOptions.{ReplyOptions as ReplyOptionsValue};
+ghost use Rattle.krb_gss.specs.Answer.{WritesVerdict};
+ghost use Rattle.krb_login.specs.Carrying.{Carries, IsNegotiating};
+ghost use Rattle.krb_login.specs.Store.{IsAfterStep, LeadsTo, Steps, StepsOn};
+ghost use Rattle.krb_login.specs.Login.{Call, Decides, GoesOn, GoesTo, HasCause, HoldsRequest, IsAfter, IsOfRequest, IsUndecided, call_for, call_of, call_with};
 
-use crate::asked::{Asked, asked_by};
 use crate::breach::Breach;
-use crate::carrier::{Carrier, said};
+use crate::carrier::Carrier;
 use crate::cause::Cause;
-use crate::decision::{Decision, LetIn, Refused};
+use crate::decision::{Decision, LetIn, Refused, Unsent};
 use crate::opening::{Held, is_negotiating, open};
+use crate::question::{Asking, Step};
+use crate::response::{answer_of, out_of_memory, refused};
 use crate::terms::Terms;
-use krb_ap::{Accepted, Acceptor, Refusal, ReplyOptions, error_reply};
-use krb_gss::{Answer, Mechanism, Negotiation, TokenFault, Verdict, WrapFault, wrap_verdict};
-use krb_msg::{Moment, Principal};
-use krb_replay::ReplayMemory;
+use krb_ap::{Accepted, Acceptor, Refusal, ReplyOptions};
+use krb_gss::{Mechanism, Negotiation, TokenFault, Verdict, wrap_verdict};
+use krb_msg::Moment;
+use krb_replay::{ReplayMemory, Skew};
 use std::alloc::Global;
 
 /// What a service is given with the bytes of a client. There is no `Debug`, so no log shows a key.
@@ -85,6 +85,43 @@ impl<M: ReplayMemory> Service<M> {
         }
     }
 
+    /// Opens what a client sent, and decides, but asks a store of stamps before it lets the client in.
+    ///
+    /// Call it in place of [`Service::answer`] if the service shares a store with others. Then
+    /// [`Asking::settle`](crate::Asking::settle) decides by what the store says. The request is
+    /// remembered, whatever that is. `now` is the service's clock.
+    pub fn ask(
+        &mut self,
+        alloc: Global,
+        negotiation: &mut Negotiation,
+        bytes: &[u8],
+        now: Moment,
+    ) -> Step
+        ensures terms { self.new.terms ≡ self.old.terms }
+        ensures setup { self.new.acceptor.setup ≡ self.old.acceptor.setup }
+        ensures negotiation { LeadsTo bytes.now result negotiation.new }
+
+        // For each history that the memory stands for: the client is asked or refused as defined, or the store is asked for its stamp.
+        ensures steps { (history : List Arrival)
+            → Stands M.has M.newest self.old.acceptor history
+            → (confounder : List ℕ) (choice : ReplyOptionsValue)
+            → Steps (call_for self.old.terms self.old.acceptor.setup history negotiation.old bytes.now now confounder choice) result }
+
+        // And it stands for a history afterwards.
+        ensures goes_on { (history : List Arrival)
+            → Stands M.has M.newest self.old.acceptor history
+            → (confounder : List ℕ) (choice : ReplyOptionsValue)
+            → StepsOn (Stands M.has M.newest self.new.acceptor)
+            (call_for self.old.terms self.old.acceptor.setup history negotiation.old bytes.now now confounder choice) result }
+    {
+        let stage = *negotiation;
+        match open(negotiation, bytes) {
+            Err(fault) => Step::Decided(Decision::Refused(not_opened(alloc, stage, bytes, fault))),
+            Ok(Held::Nothing(first)) => Step::Decided(go_on(alloc, negotiation, first)),
+            Ok(Held::Request(carrier, request)) => self.question(alloc, carrier, request, now),
+        }
+    }
+
     fn decide(
         &mut self,
         alloc: Global,
@@ -112,37 +149,87 @@ impl<M: ReplayMemory> Service<M> {
             confounder,
             choice,
         } = given;
+        match self.judge(alloc, carrier, request, now) {
+            Ok(accepted) => let_in(alloc, carrier, accepted, confounder, choice),
+            Err(refused) => Decision::Refused(refused),
+        }
+    }
+
+    fn question(&mut self, alloc: Global, carrier: Carrier, request: &[u8], now: Moment) -> Step
+        ensures terms { self.new.terms ≡ self.old.terms }
+        ensures setup { self.new.acceptor.setup ≡ self.old.acceptor.setup }
+        ensures steps { (history : List Arrival)
+            → Stands M.has M.newest self.old.acceptor history
+            → (negotiation : NegotiationValue) (bytes confounder : List ℕ) (choice : ReplyOptionsValue)
+            → Carries negotiation carrier request.now bytes
+            → Steps (call_for self.old.terms self.old.acceptor.setup history negotiation bytes now confounder choice) result }
+        ensures ends { (bytes : List ℕ) → LeadsTo bytes result Negotiation.Ended }
+        ensures goes_on { (history : List Arrival)
+            → Stands M.has M.newest self.old.acceptor history
+            → (negotiation : NegotiationValue) (bytes confounder : List ℕ) (choice : ReplyOptionsValue)
+            → Carries negotiation carrier request.now bytes
+            → StepsOn (Stands M.has M.newest self.new.acceptor) (call_for self.old.terms self.old.acceptor.setup history negotiation bytes now confounder choice) result }
+    {
+        let skew = self.acceptor.skew();
+        match self.judge(alloc, carrier, request, now) {
+            Ok(accepted) => held(alloc, carrier, request, accepted, skew),
+            Err(refused) => Step::Decided(Decision::Refused(refused)),
+        }
+    }
+
+    // Accepts a request that meets the terms, or says why its client isn't let in.
+    fn judge(
+        &mut self,
+        alloc: Global,
+        carrier: Carrier,
+        request: &[u8],
+        now: Moment,
+    ) -> Result<Accepted, Refused>
+        ensures terms { self.new.terms ≡ self.old.terms }
+        ensures setup { self.new.acceptor.setup ≡ self.old.acceptor.setup }
+        ensures ordinary { OnOk result (IsOrdinary request.now) }
+        ensures meets { IfOk result (λ accepted. Meets self.old.terms (taken_of accepted)) }
+        ensures accepted { (history : List Arrival)
+            → Stands M.has M.newest self.old.acceptor history
+            → IfOk result (λ accepted. Accept self.old.acceptor.setup history (arrival request.now now) (taken_of accepted)) }
+        ensures remembered { (history : List Arrival)
+            → Stands M.has M.newest self.old.acceptor history
+            → OnOk result (Stands M.has M.newest self.new.acceptor (arrival request.now now ∷ history)) }
+        ensures refused { (history : List Arrival)
+            → Stands M.has M.newest self.old.acceptor history
+            → (negotiation : NegotiationValue) (bytes confounder : List ℕ) (choice : ReplyOptionsValue)
+            → Carries negotiation carrier request.now bytes
+            → IfErr result (λ refused. HasCause (call_for self.old.terms self.old.acceptor.setup history negotiation bytes now confounder choice) refused refused.cause) }
+        ensures goes_on { (history : List Arrival)
+            → Stands M.has M.newest self.old.acceptor history
+            → (negotiation : NegotiationValue) (bytes confounder : List ℕ) (choice : ReplyOptionsValue)
+            → Carries negotiation carrier request.now bytes
+            → IfErr result (λ refused. GoesOn (Stands M.has M.newest self.new.acceptor) (call_for self.old.terms self.old.acceptor.setup history negotiation bytes now confounder choice) (Decision.Refused refused)) }
+    {
         let accepted = match self.acceptor.accept(alloc, request, now) {
             Ok(accepted) => accepted,
             Err(refusal) => {
                 if is_memory(&refusal) {
-                    return Decision::Refused(out_of_memory());
+                    return Err(out_of_memory());
                 }
-                return refuse(alloc, carrier, request, now, refusal);
+                return Err(refuse(alloc, carrier, request, now, refusal));
             }
         };
         if let Some(breach) = self.terms.breach(&accepted) {
-            return turn_away(alloc, carrier, request, now, accepted, breach);
+            return Err(turn_away(alloc, carrier, request, now, accepted, breach));
         }
-        let_in(alloc, carrier, accepted, confounder, choice)
+        Ok(accepted)
     }
 }
 
 // Answers a request that the acceptor refuses for a cause.
-fn refuse(
-    alloc: Global,
-    carrier: Carrier,
-    request: &[u8],
-    now: Moment,
-    refusal: Refusal,
-) -> Decision
-    ensures decided { (call : Call) → HoldsRequest call carrier request.now → call.now ≡ now
-        → IsCause call.setup call.history (arrival request.now call.now) refusal → Decides call result }
-    ensures decides { IsDecided result }
-    ensures ends { (bytes : List ℕ) → GoesTo bytes result Negotiation.Ended }
+fn refuse(alloc: Global, carrier: Carrier, request: &[u8], now: Moment, refusal: Refusal) -> Refused
+    ensures cause { (call : Call) → HoldsRequest call carrier request.now → call.now ≡ now
+        → IsCause call.setup call.history (arrival request.now call.now) refusal → HasCause call result result.cause }
+    ensures decides { IsOfRequest result.cause }
 {
     let cause = Cause::Request(refusal);
-    Decision::Refused(refused(alloc, carrier, request, now, cause, &refusal))
+    refused(alloc, carrier, request, now, cause, &refusal)
 }
 
 fn is_memory(refusal: &Refusal) -> bool
@@ -159,15 +246,14 @@ fn turn_away(
     now: Moment,
     accepted: Accepted,
     breach: Breach,
-) -> Decision
-    ensures decides { IsDecided result }
-    ensures ends { (bytes : List ℕ) → GoesTo bytes result Negotiation.Ended }
-    ensures decided { (call : Call) → HoldsRequest call carrier request.now → call.now ≡ now
+) -> Refused
+    ensures decides { IsOfRequest result.cause }
+    ensures cause { (call : Call) → HoldsRequest call carrier request.now → call.now ≡ now
         → Accept call.setup call.history (arrival request.now call.now) (taken_of accepted)
-        → IsFirstBroken call.terms (taken_of accepted) breach → Decides call result }
+        → IsFirstBroken call.terms (taken_of accepted) breach → HasCause call result result.cause }
 {
     let cause = Cause::Breached(breach);
-    Decision::Refused(refused(alloc, carrier, request, now, cause, &Refusal::Authorization))
+    refused(alloc, carrier, request, now, cause, &Refusal::Authorization)
 }
 
 // Answers bytes that aren't taken, at this point of a negotiation.
@@ -175,28 +261,31 @@ fn not_opened(alloc: Global, negotiation: Negotiation, bytes: &[u8], fault: Toke
     ensures cause { result.cause ≡ Cause.Token fault }
     ensures asked { result.asked ≡ None }
     ensures answer { IfSome result.answer (λ sent. IsNegotiating negotiation bytes.now × WritesVerdict Verdict.Rejected sent.items) }
+    ensures due { result.answer ≡ None → result.unsent ≡ None → IsNegotiating negotiation bytes.now → ⊥ }
+    ensures unsent { IfSome result.unsent (λ why. (why ≡ Unsent.OutOfMemory) × (result.answer ≡ None)) }
 {
-    let answer = if is_negotiating(negotiation, bytes) {
-        sent_if_made(alloc, Some(Verdict::Rejected))
-    } else {
-        None
-    };
-    Refused {
-        cause: Cause::Token(fault),
-        asked: None,
-        answer,
+    let cause = Cause::Token(fault);
+    if !is_negotiating(negotiation, bytes) {
+        return Refused {
+            cause,
+            asked: None,
+            answer: None,
+            unsent: None,
+        };
     }
-}
-
-fn out_of_memory() -> Refused
-    ensures cause { result.cause ≡ Cause.OutOfMemory }
-    ensures asked { result.asked ≡ None }
-    ensures answer { result.answer ≡ None }
-{
-    Refused {
-        cause: Cause::OutOfMemory,
-        asked: None,
-        answer: None,
+    match wrap_verdict(alloc, Verdict::Rejected) {
+        Ok(bytes) => Refused {
+            cause,
+            asked: None,
+            answer: Some(bytes),
+            unsent: None,
+        },
+        Err(_) => Refused {
+            cause,
+            asked: None,
+            answer: None,
+            unsent: Some(Unsent::OutOfMemory),
+        },
     }
 }
 
@@ -237,116 +326,18 @@ fn let_in(
     }
 }
 
-// What goes back to a client that is let in, or nothing if it doesn't fit into memory.
-fn answer_of(
-    alloc: Global,
-    carrier: Carrier,
-    accepted: &Accepted,
-    confounder: &[u8; 16],
-    choice: ReplyOptions,
-) -> Result<Option<Vec<u8>>, WrapFault>
-    ensures answered { IfOk result (IsAnswered carrier (taken_of accepted.now) confounder.now choice) }
-    ensures due { OnErr result (IsAnswerDue carrier (taken_of accepted.now)) }
+// Holds what is known of an accepted request, to ask the store for its stamp.
+fn held(alloc: Global, carrier: Carrier, request: &[u8], accepted: Accepted, skew: Skew) -> Step
+    ensures ends { (bytes : List ℕ) → LeadsTo bytes result Negotiation.Ended }
+    ensures steps { (call : Call) → HoldsRequest call carrier request.now → IsOrdinary request.now → skew ≡ call.setup.skew
+        → Accept call.setup call.history (arrival request.now call.now) (taken_of accepted) → Meets call.terms (taken_of accepted)
+        → Steps call result }
+    ensures after { (call : Call) → HoldsRequest call carrier request.now
+        → Accept call.setup call.history (arrival request.now call.now) (taken_of accepted) → Meets call.terms (taken_of accepted)
+        → IsAfterStep call result (arrival request.now call.now ∷ call.history) }
 {
-    if !accepted.mutual {
-        return Ok(said(alloc, carrier.completed())?);
-    }
-    let reply = accepted.reply(alloc, confounder, choice)?;
-    Ok(Some(carrier.wrap(alloc, Answer::Reply(&reply))?))
-}
-
-// Says why a client isn't let in, and makes what goes back to it.
-fn refused(
-    alloc: Global,
-    carrier: Carrier,
-    request: &[u8],
-    now: Moment,
-    cause: Cause,
-    refusal: &Refusal,
-) -> Refused
-    ensures cause { result.cause ≡ cause }
-    ensures so { IsRefusedSo now carrier request.now refusal.now result }
-{
-    let Ok(asked) = asked_by(alloc, request) else {
-        return Refused {
-            cause,
-            asked: None,
-            answer: None,
-        };
-    };
-    let answer = refusal_of(alloc, carrier, now, &asked, refusal);
-    Refused {
-        cause,
-        asked,
-        answer,
-    }
-}
-
-// What goes back to a client that is refused, or nothing if it can't be made.
-fn refusal_of(
-    alloc: Global,
-    carrier: Carrier,
-    now: Moment,
-    asked: &Option<Asked>,
-    refusal: &Refusal,
-) -> Option<Vec<u8>>
-    ensures { (request : List ℕ) → MatchOption asked.now (AsksNothing request) (Asks request)
-        → IfSome result (λ bytes. IsRefusalOf now carrier request refusal.now bytes.items) }
-{
-    match asked {
-        None => rejection(alloc, carrier),
-        Some(asked) => refusal_to(alloc, carrier, now, asked, refusal),
-    }
-}
-
-fn refusal_to(
-    alloc: Global,
-    carrier: Carrier,
-    now: Moment,
-    asked: &Asked,
-    refusal: &Refusal,
-) -> Option<Vec<u8>>
-    ensures { (request : List ℕ) → Asks request asked.now
-        → IfSome result (λ bytes. IsRefusalOf now carrier request refusal.now bytes.items) }
-{
-    if asked.wants_reply {
-        error_in(alloc, carrier, now, &asked.service, refusal)
-    } else {
-        rejection(alloc, carrier)
-    }
-}
-
-fn rejection(alloc: Global, carrier: Carrier) -> Option<Vec<u8>>
-    ensures { IfSome result (λ bytes. IsSomeAnd (rejected carrier) (λ verdict. WritesVerdict verdict bytes.items)) }
-{
-    sent_if_made(alloc, carrier.rejected())
-}
-
-// The bytes that say this, or nothing if they can't be made.
-fn sent_if_made(alloc: Global, verdict: Option<Verdict>) -> Option<Vec<u8>>
-    ensures { IfSome result (λ bytes. IsSomeAnd verdict (λ verdict. WritesVerdict verdict bytes.items)) }
-{
-    match said(alloc, verdict) {
-        Ok(sent) => sent,
-        Err(_) => None,
-    }
-}
-
-fn error_in(
-    alloc: Global,
-    carrier: Carrier,
-    now: Moment,
-    service: &Principal,
-    refusal: &Refusal,
-) -> Option<Vec<u8>>
-    ensures { IfSome result (λ bytes. (message : List ℕ)
-        × (IsErrorReply refusal.now now service.now message × GoesBack carrier (error message) bytes.items)) }
-{
-    let Ok(message) = error_reply(alloc, refusal, now, service) else {
-        return None;
-    };
-    match carrier.wrap(alloc, Answer::Error(&message)) {
-        Ok(bytes) => Some(bytes),
-        Err(_) => None,
+    match Asking::of(alloc, carrier, request, accepted, skew) {
+        Ok(asking) => Step::Ask(asking),
+        Err(_) => Step::Decided(Decision::Refused(out_of_memory())),
     }
 }

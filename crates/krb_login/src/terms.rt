@@ -5,24 +5,26 @@ ghost use Rattle.std.specs.Option.{MatchOption};
 ghost use Rattle.krb_ap.specs.Answer.{taken_of};
 ghost use Rattle.krb_der.specs.Flags.{HasBit};
 ghost use Rattle.krb_msg.specs.PartsOwned.{owned_typed_of};
-ghost use Rattle.krb_login.specs.Terms.{HasBindings, HasWanted, IsAnonymous, IsFirstBroken, IsOfGss, IsOfRealms, Meets, Sends, SendsGss, anonymous_name, none_sent};
+ghost use Rattle.krb_login.specs.Terms.{HasBindings, HasWanted, IsAnonymous, IsFirstBroken, IsOfGss, IsOfRealms, Meets, Sends, SendsGss, anonymous_name};
+ghost use Rattle.krb_login.specs.NoBindings.{none_sent};
 
+use crate::bindings_hash::BindingsHash;
 use crate::breach::Breach;
 use krb_ap::Accepted;
 use krb_gss::Checksum;
 use krb_msg::Typed;
 use krb_name::{Bytes, Principal};
 
-/// Which channel bindings a client has to send: the MD5 hash of RFC 4121, section 4.1.1.2.
+/// Which channel bindings a client has to send.
 #[derive(Clone, Copy, Debug, PartialEq, Eq)]
 pub enum Bindings {
     /// Whatever a client sends isn't looked at.
     Ignored,
     /// A client that sends a checksum of GSS-API has to send these in it, or 16 zeros, which say that it
     /// has none.
-    IfSent([u8; 16]),
+    IfSent(BindingsHash),
     /// Each client has to send these.
-    Required([u8; 16]),
+    Required(BindingsHash),
 }
 
 /// The realms whose clients are let in.
@@ -87,8 +89,8 @@ impl Bindings {
     {
         match self {
             Bindings::Ignored => true,
-            Bindings::IfSent(wanted) => are_met_if_sent(accepted, wanted),
-            Bindings::Required(wanted) => is_some_of(&sent(accepted), wanted),
+            Bindings::IfSent(wanted) => are_met_if_sent(accepted, wanted.bytes()),
+            Bindings::Required(wanted) => is_some_of(&sent(accepted), wanted.bytes()),
         }
     }
 }

@@ -7,7 +7,7 @@ use Rattle.krb_login.proofs.service.let_in.Goals as goal
 pub returns-in-Err-clause-decided : goal.returns-in-Err-clause-decided
 returns-in-Err-clause-decided c call request holds ordinary accept meets same_confounder same_choice =
     subst (λ (cause : Cause). HasCause call c.out_of_memory.result cause) (sym c.out_of_memory.ensures.cause)
-    (deciding c.args.carrier request holds ordinary, (c.out_of_memory.ensures.asked, c.out_of_memory.ensures.answer))
+    (deciding c.args.carrier request holds ordinary, c.out_of_memory.ensures.silent)
 
 pub returns-in-Err-clause-after : goal.returns-in-Err-clause-after
 returns-in-Err-clause-after c call request holds accept meets =

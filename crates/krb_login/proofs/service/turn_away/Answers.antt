@@ -5,8 +5,8 @@ use Rattle.krb_login.specs.Login.{HasCause, IsRefusedSo}
 use Rattle.krb_login.specs.declared.cause.Cause.{Cause}
 use Rattle.krb_login.proofs.service.turn_away.Goals as goal
 
-pub returns-clause-decided : goal.returns-clause-decided
-returns-clause-decided c call holds at accept first =
+pub returns-clause-cause : goal.returns-clause-cause
+returns-clause-cause c call holds at accept first =
     subst (λ (cause : Cause). HasCause call c.refused.result cause) (sym c.refused.ensures.cause) (
       c.args.carrier,
       (

@@ -1,0 +1,21 @@
+-- What follows from the first of two steps.
+use Rattle.std.proofs.Common.{◌≡◌, ℕ, List, sym, subst}
+use Rattle.krb_gss.specs.declared.negotiating.Negotiation.{Negotiation}
+use Rattle.krb_login.specs.Carrying.{Carries}
+use Rattle.krb_login.specs.Laws.{IsIn}
+use Rattle.krb_login.specs.Login.{IsUndecided}
+use Rattle.krb_login.specs.declared.carrier.Carrier.{Carrier}
+use Rattle.krb_login.specs.declared.decision.Decision.{Decision}
+use Rattle.krb_login.specs.declared.decision.Decision.TheVariants as decisions
+
+-- nobody is in before a request is decided on
+pub nobody_yet : (decision : Decision) → IsUndecided decision → IsIn decision → ⊥
+nobody_yet (decisions.LetIn login) undecided is = undecided
+nobody_yet (decisions.GoOn bytes) undecided is = is
+nobody_yet (decisions.Refused refused) undecided is = is
+
+-- the same request, by other names
+pub carried : (negotiation : Negotiation) (bytes : List ℕ) (one other : Carrier) (request same : List ℕ) → one ≡ other → request ≡ same
+    → Carries negotiation other same bytes → Carries negotiation one request bytes
+carried negotiation bytes one other request same c r it =
+    subst (λ (carrier : Carrier). Carries negotiation carrier request bytes) (sym c) (subst (λ (at : List ℕ). Carries negotiation other at bytes) (sym r) it)

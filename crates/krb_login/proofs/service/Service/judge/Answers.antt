@@ -1,0 +1,42 @@
+use Rattle.std.proofs.Common.{◌≡◌, ◌∷◌, List, Err, ap, refl, sym, subst}
+use Rattle.krb_ap.specs.Answer.{after_refusal}
+use Rattle.krb_ap.specs.Service.{Stands}
+use Rattle.krb_ap.specs.Setup.{Arrival, arrival}
+use Rattle.krb_ap.proofs.Afterwards.{after_named}
+use Rattle.krb_ap.proofs.Truth.{is_so, is_not}
+use Rattle.krb_login.specs.Login.{HasCause, call_for, deciding, added}
+use Rattle.krb_login.specs.declared.cause.Cause.{Cause}
+use Rattle.krb_login.proofs.service.Service.judge.Goals as goal
+
+pub returns-then-is_memory-clause-refused : goal.returns-then-is_memory-clause-refused
+returns-then-is_memory-clause-refused g c history stands negotiation bytes confounder choice carries =
+    subst (λ (cause : Cause). HasCause (call_for c.args.self.now.terms c.args.self.now.acceptor.setup history negotiation bytes c.args.now confounder choice) c.out_of_memory.result cause) (sym c.out_of_memory.ensures.cause) (
+      deciding c.args.carrier c.args.request.now carries (c.in-Err.ensures.memory (ap Err (is_so _ _ c.is_memory.ensures c.if-is_memory.true))),
+      c.out_of_memory.ensures.silent,
+    )
+
+pub returns-in-Err-clause-refused : goal.returns-in-Err-clause-refused
+returns-in-Err-clause-refused g c history stands negotiation bytes confounder choice carries =
+    c.refuse.ensures.cause (call_for c.args.self.now.terms c.args.self.now.acceptor.setup history negotiation bytes c.args.now confounder choice) carries refl
+    (c.in-Err.ensures.answer history stands (is_not _ _ c.is_memory.ensures c.if-is_memory.false))
+
+pub returns-in-Err-clause-goes_on : goal.returns-in-Err-clause-goes_on
+returns-in-Err-clause-goes_on g c history stands negotiation bytes confounder choice carries = record {
+  after = (arrival c.args.request.now c.args.now) ∷ history;
+  is_after = added c.args.carrier c.args.request.now c.refuse.ensures.decides carries refl;
+  stands = subst (λ (h : List Arrival). Stands g.M.ReplayMemory.has g.M.ReplayMemory.newest c.accept.new.self h)
+      (sym (after_named history (arrival c.args.request.now c.args.now) c.in-Err.refusal (is_not _ _ c.is_memory.ensures c.if-is_memory.false)))
+      (c.in-Err.ensures.goes_on history stands);
+}
+
+pub returns-in-Some-clause-refused : goal.returns-in-Some-clause-refused
+returns-in-Some-clause-refused g c history stands negotiation bytes confounder choice carries =
+    c.turn_away.ensures.cause (call_for c.args.self.now.terms c.args.self.now.acceptor.setup history negotiation bytes c.args.now confounder choice) carries refl
+    (c.in-Ok.ensures.answer history stands) c.in-Some.ensures
+
+pub returns-in-Some-clause-goes_on : goal.returns-in-Some-clause-goes_on
+returns-in-Some-clause-goes_on g c history stands negotiation bytes confounder choice carries = record {
+  after = (arrival c.args.request.now c.args.now) ∷ history;
+  is_after = added c.args.carrier c.args.request.now c.turn_away.ensures.decides carries refl;
+  stands = c.in-Ok.ensures.goes_on history stands;
+}

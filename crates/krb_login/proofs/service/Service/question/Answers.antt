@@ -1,0 +1,29 @@
+use Rattle.std.proofs.Common.{◌∷◌, inl, refl}
+use Rattle.krb_ap.specs.Setup.{arrival}
+use Rattle.krb_login.specs.Login.{call_for}
+use Rattle.krb_login.proofs.service.Service.question.Goals as goal
+
+pub returns-in-Ok-clause-steps : goal.returns-in-Ok-clause-steps
+returns-in-Ok-clause-steps g c history stands negotiation bytes confounder choice carries =
+    c.held.ensures.steps (call_for c.args.self.now.terms c.args.self.now.acceptor.setup history negotiation bytes c.args.now confounder choice) carries
+    c.in-Ok.ensures.ordinary c.skew-skew.ensures (c.in-Ok.ensures.accepted history stands) c.in-Ok.ensures.meets
+
+pub returns-in-Ok-clause-goes_on : goal.returns-in-Ok-clause-goes_on
+returns-in-Ok-clause-goes_on g c history stands negotiation bytes confounder choice carries = record {
+  after = (arrival c.args.request.now c.args.now) ∷ history;
+  is_after = c.held.ensures.after (call_for c.args.self.now.terms c.args.self.now.acceptor.setup history negotiation bytes c.args.now confounder choice) carries
+      (c.in-Ok.ensures.accepted history stands) c.in-Ok.ensures.meets;
+  stands = c.in-Ok.ensures.remembered history stands;
+}
+
+pub returns-in-Err-clause-steps : goal.returns-in-Err-clause-steps
+returns-in-Err-clause-steps g c history stands negotiation bytes confounder choice carries =
+    (c.in-Err.ensures.refused history stands negotiation bytes confounder choice carries, λ is. is)
+
+pub returns-in-Err-clause-ends : goal.returns-in-Err-clause-ends
+returns-in-Err-clause-ends g c bytes = refl
+
+pub returns-in-Err-clause-goes_on : goal.returns-in-Err-clause-goes_on
+returns-in-Err-clause-goes_on g c history stands negotiation bytes confounder choice carries =
+    let on = c.in-Err.ensures.goes_on history stands negotiation bytes confounder choice carries in
+    record { after = on.after; is_after = inl on.is_after; stands = on.stands }
