@@ -15,7 +15,7 @@ use Rattle.krb_login.specs.Terms.{IsOfRealms, code_of}
 use Rattle.krb_login.specs.declared.asked.Asked.{Asked as AskedFor}
 use Rattle.krb_login.specs.declared.breach.Breach.{Breach}
 use Rattle.krb_login.specs.declared.cause.Cause.{Cause}
-use Rattle.krb_login.specs.declared.cause.Cause.TheVariants.{Token, Request, Breached, OutOfMemory}
+use Rattle.krb_login.specs.declared.cause.Cause.TheVariants.{Token, Request, Breached, OutOfMemory, StoreFailed}
 use Rattle.krb_login.specs.declared.decision.Decision.{Decision}
 use Rattle.krb_login.specs.declared.decision.Decision.TheVariants.{LetIn, GoOn, Refused}
 use Rattle.krb_login.specs.declared.terms.Realms.{Realms}
@@ -23,7 +23,7 @@ use Rattle.krb_login.specs.declared.terms.Realms.TheVariants.{Any, Only}
 use Rattle.krb_c.specs.Service.{IsMomentOf, Stands, full_of}
 use Rattle.krb_c.specs.Answer.{Tells, plain, refused, sized}
 use Rattle.krb_c.specs.Choice.{key_value}
-use Rattle.krb_c.specs.Codes.{bad_moment, bad_random, breach_code, empty_handle, full, go_on, nothing_there, ok, out_of_memory, short_buffer}
+use Rattle.krb_c.specs.Codes.{bad_moment, bad_random, breach_code, empty_handle, full, go_on, nothing_there, ok, out_of_memory, short_buffer, store_failed}
 use Rattle.krb_c.specs.Known.{is_there, number_or_zero, span}
 use Rattle.krb_c.specs.Tokens.{token_answer}
 use Rattle.krb_c.specs.declared.accepted_state.AcceptedState.{AcceptedState}
@@ -44,6 +44,7 @@ cause_answer is_full (Token fault) = token_answer fault
 cause_answer is_full (Request refusal) = refused refusal
 cause_answer is_full (Breached breach) = breach_answer breach
 cause_answer is_full OutOfMemory = if is_full then plain full else plain out_of_memory
+cause_answer is_full StoreFailed = record { code = store_failed; kerberos = pos 60; at = 0; size = 0 }
 
 -- the answer but for how many bytes go back, what the request asked for, and the bytes
 abbrev pub outcome_of : Bool → Decision → Outcome
