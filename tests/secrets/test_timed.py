@@ -26,7 +26,7 @@ TABLES = {
     "krb_cts::after_first::decrypt_two_after",
     "krb_enc::key::Key::for_usage",
 }
-STEPS = 34
+STEPS = 44
 
 
 def dependences(build, room, over=None):

@@ -33,6 +33,6 @@ pub is_remembered : (setup next : Setup) (Has : Stamp → Type 0) (latest : Opti
 is_remembered setup next Has latest history call (Ok accepted) answers stays later = is_kept setup next Has latest history call accepted answers stays later
 is_remembered setup next Has latest history call (Err refusal) answers stays later = tt
 
-pub of_accepted : {P : Accepted → Type 0} (outcome : Result Accepted Refusal) → IfOk outcome P → IfSome (accepted_by outcome) P
-of_accepted (Ok accepted) holds = holds
-of_accepted (Err refusal) holds = tt
+pub of_accepted : (P : Accepted → Type 0) (outcome : Result Accepted Refusal) → IfOk outcome P → IfSome (accepted_by outcome) P
+of_accepted P (Ok accepted) holds = holds
+of_accepted P (Err refusal) holds = tt

@@ -13,7 +13,7 @@ use Rattle.krb_c.specs.Choice.{IsChosen, seq_of}
 use Rattle.krb_c.specs.Request.{Ask, IsAsked}
 use Rattle.krb_c.specs.Service.{IsMomentOf}
 
-pub options_of : Ask → Option KeyValue → Option ℕ → RequestOptions
+abbrev pub options_of : Ask → Option KeyValue → Option ℕ → RequestOptions
 options_of a subkey seq = record { «mutual» = a.choice.wants_reply; subkey = subkey; seq = seq; context = a.context }
 
 pub asked_with : (a : Ask) (service : Principal) (subkey : Option KeyValue) (seq : Option ℕ) → IsReadAs a.service (Ok service) → IsMomentOf a.at

@@ -1,5 +1,5 @@
 -- A login in one call: what is decided, what is kept of it, and what is answered.
-use Rattle.std.specs.Prelude.{◌≡◌, ◌≢◌, ◌==◌, ◌⊎◌, ◌↔◌, ◌≤◌, ◌<◌, not, Bool, true, false, if◌then◌else◌, ℕ, ℤ, pos, List, [], ◌++◌, length, take, drop, Option, Some, None, option_map, Vec}
+use Rattle.std.specs.Prelude.{◌≡◌, ◌≢◌, ◌==◌, ◌⊎◌, ◌↔◌, ◌≤◌, ◌<◌, not, Bool, if◌then◌else◌, ℕ, ℤ, pos, List, [], ◌++◌, length, take, drop, Option, Some, None, Vec}
 use Rattle.std.specs.declared.alloc.Global.{Global}
 use Rattle.krb_enc.specs.Key.{IsUsable, KeyValue}
 use Rattle.krb_name.specs.Text.{text_of}

@@ -1,7 +1,6 @@
 -- The service's side of a negotiation, and its answers without a token.
-use Rattle.std.specs.Prelude.{◌≡◌, ◌<◌, ◌≤◌, ◌⊎◌, ℕ, List, length, Some, None, Ok, Err}
+use Rattle.std.specs.Prelude.{◌≡◌, ◌<◌, ◌≤◌, ℕ, List, length, Some, None, Ok, Err}
 use Rattle.krb_gss.specs.declared.fault.TokenFault.{TokenFault}
-use Rattle.krb_gss.specs.declared.mechanism.Mechanism.{Mechanism}
 use Rattle.krb_gss.specs.declared.negotiating.Negotiation.{Negotiation as Stage}
 use Rattle.krb_gss.specs.declared.negotiating.Negotiation.TheVariants.{Begun, Asked, Ended}
 use Rattle.krb_gss.specs.declared.negotiating.Taken.{Taken}

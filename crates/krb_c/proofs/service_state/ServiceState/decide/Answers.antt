@@ -9,7 +9,7 @@ use Rattle.krb_c.proofs.Memory.{is_remembered, of_accepted}
 use Rattle.krb_c.proofs.service_state.ServiceState.decide.Goals as goal
 
 pub returns : goal.returns
-returns c = let accept = c.accept.ensures in let outcome = c.accept.result in
+returns c = let accept = c.accept-outcome.ensures in let outcome = c.accept-outcome.result in
     subst (λ (kept : AcceptedState). Decides c.args.self.now c.keep.new.self (arrival c.args.bytes.now c.args.now) kept.accepted c.keep.result) (sym c.keep.ensures.kept) (
     subst (λ (new : ServiceState). Decides c.args.self.now new (arrival c.args.bytes.now c.args.now) (accepted_by outcome) c.keep.result) (sym c.keep.ensures.state) (record {
       outcome = outcome;
@@ -24,11 +24,11 @@ returns c = let accept = c.accept.ensures in let outcome = c.accept.result in
       memory = accept.memory;
       unchanged = accept.unchanged;
       kept_is = refl;
-      service = of_accepted outcome accept.service;
+      service = of_accepted _ outcome accept.service;
       remembered = λ history stands. is_remembered _ _ _ _ history (arrival c.args.bytes.now c.args.now) outcome
           (accept.answer history stands) accept.setup (accept.goes_on history stands);
       refusal = refl;
       told_is = c.keep.ensures.answer
-          ∙ ap (λ (before : ℕ). told_of before (full_of (record { service = record { acceptor = c.accept.new.self; terms = c.args.self.now.service.terms }; subkey_type = c.args.self.now.subkey_type; refusal = refused_by outcome })) outcome)
+          ∙ ap (λ (before : ℕ). told_of before (full_of (record { service = record { acceptor = c.accept-outcome.new.self; terms = c.args.self.now.service.terms }; subkey_type = c.args.self.now.subkey_type; refusal = refused_by outcome })) outcome)
           (c.refused-full.ensures ∙ ap (λ (memory : Limited Memory). memory.refused) c.memory.ensures);
     }))
