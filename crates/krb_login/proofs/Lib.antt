@@ -3,3 +3,4 @@ pub mod Following
 pub mod Written
 pub mod Completed
 pub mod Stepping
+pub mod AtTheStore

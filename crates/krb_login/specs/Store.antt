@@ -12,6 +12,9 @@ use Rattle.krb_ap.specs.declared.refusal.Refusal.TheVariants as refusals
 use Rattle.krb_ap.specs.declared.reply.ReplyOptions.{ReplyOptions}
 use Rattle.krb_gss.specs.declared.negotiating.Negotiation.{Negotiation}
 use Rattle.krb_gss.specs.declared.negotiating.Negotiation.TheVariants.{Ended}
+use Rattle.krb_replay.specs.Bytes.{IsBytesOf}
+use Rattle.krb_replay.specs.Keeping.{kept_until}
+use Rattle.krb_time.specs.Moments.{IsMoment}
 use Rattle.krb_login.specs.Asked.{Asks, AsksNothing}
 use Rattle.krb_login.specs.Laws.{IsIn}
 use Rattle.krb_login.specs.Login.{Call, Decides, GoesTo, HoldsRequest, IsAfter, IsAnswerDue, IsAnswered, IsRefusedSo, RanOut, SaysNothing}
@@ -122,3 +125,41 @@ pub record StepsOn (Stands : List Arrival → Type 0) (call : Call) (step : Step
   pub after : List Arrival
   pub is_after : IsAfterStep call step after
   pub stands : Stands after
+
+-- ---- all steps in their order
+
+-- The store is asked for the bytes of the stamp, until the moment up to which it is kept. It can't be asked if that is after the year 9999.
+abbrev pub SaysOf : {S : Type 0} → (S → List ℕ → ℤ → StoreSays → S → Type 0) → Waiting → S → List ℕ → StoreSays → S → Type 0
+SaysOf adds waiting old bytes said new =
+    adds old bytes (kept_until waiting.stamp waiting.skew) said new
+    ⊎ ((IsMoment (kept_until waiting.stamp waiting.skew) → ⊥) × ((said ≡ Failed) × (new ≡ old)))
+
+-- The store is asked, the clock is looked at after that, and this is decided then; or memory ran out before.
+pub data SettlesBy {S : Type 0} (adds : S → List ℕ → ℤ → StoreSays → S → Type 0) (shows : S → ℤ → S → Type 0) (waiting : Waiting) (old : S)
+    (confounder : List ℕ) (choice : ReplyOptions) (decision : Decision) (new : S) : Type 0 where
+  asked : (bytes : List ℕ) (said : StoreSays) (after : S) (looked : ℤ) → IsBytesOf waiting.stamp bytes → SaysOf adds waiting old bytes said after
+      → shows after looked new → Settles waiting said looked confounder choice decision → SettlesBy adds shows waiting old confounder choice decision new
+  unasked : (refused : Refused) → decision ≡ decisions.Refused refused → refused.cause ≡ causes.OutOfMemory → SaysNothing refused → new ≡ old
+      → SettlesBy adds shows waiting old confounder choice decision new
+
+-- The service decides by itself, and lets nobody in, or the store is asked.
+pub data AnswersShared {S : Type 0} (adds : S → List ℕ → ℤ → StoreSays → S → Type 0) (shows : S → ℤ → S → Type 0) (call : Call) (old : S)
+    (Stands : List Arrival → Type 0) (negotiation : Negotiation) (decision : Decision) (new : S) : Type 0 where
+  by_itself : Steps call (Decided decision) → LeadsTo call.bytes (Decided decision) negotiation → StepsOn Stands call (Decided decision) → new ≡ old
+      → AnswersShared adds shows call old Stands negotiation decision new
+  by_the_store : (waiting : Waiting) → Steps call (Ask waiting) → LeadsTo call.bytes (Ask waiting) negotiation → StepsOn Stands call (Ask waiting)
+      → SettlesBy adds shows waiting old call.confounder call.choice decision new → AnswersShared adds shows call old Stands negotiation decision new
+
+-- ---- what happens at the store (krb_ap's `Sharing`)
+
+abbrev pub says_new : StoreSays → Bool
+says_new New = true
+says_new Known = false
+says_new Failed = false
+
+-- the question of a service, and what comes of it
+abbrev pub question_of : (call : Call) (waiting : Waiting) → IsWaiting call waiting → Question
+question_of call waiting is = asked_by call.setup call.history (arrival is.request call.now) (taken_of is.known)
+
+abbrev pub outcome_of : StoreSays → ℤ → Outcome
+outcome_of said looked = record { is_new = says_new said; looked = looked }

@@ -12,10 +12,12 @@ use thiserror::Error;
 /// Why a client isn't let in.
 #[derive(Clone, Copy, Debug, PartialEq, Eq, Error)]
 pub enum Cause {
-    /// The bytes are no token that this service takes. Nothing was decided.
+    /// The bytes are no token that this service takes. Nothing was decided. A fault's place counts from
+    /// the first of the bytes.
     #[error("{0}")]
     Token(TokenFault),
-    /// The request is refused.
+    /// The request is refused. The place of a fault counts from the first byte of the request, which
+    /// may lie in a token.
     #[error("{0}")]
     Request(Refusal),
     /// The request is accepted, and remembered, but it breaks the service's terms.

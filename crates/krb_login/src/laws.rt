@@ -2,13 +2,20 @@
 //! law. Each law begins with what [`Service::answer`](crate::Service::answer) says by its clause
 //! `decided`.
 
-ghost use Rattle.std.specs.Prelude.{◌≡◌, ℕ, List, false, true};
+ghost use Rattle.std.specs.Prelude.{◌≡◌, ℕ, ℤ, List, false, true};
 ghost use Rattle.krb_ap.specs.declared.accepted.Accepted.{Accepted};
 ghost use Rattle.krb_login.specs.Laws.{AnswersThat, Gives, IsIn, IsRightlyIn, SaysCompleted, SendsBack, ShowsWhatIsOpen};
 ghost use Rattle.krb_login.specs.Login.{Call, Decides};
 ghost use Rattle.krb_login.specs.declared.decision.Decision.{Decision as DecisionValue};
 ghost use Rattle.krb_login.specs.declared.decision.LetIn.{LetIn as LetInValue};
 ghost use Rattle.krb_login.specs.declared.decision.Refused.{Refused as RefusedValue};
+ghost use Rattle.krb_replay.specs.Stamp.{Stamp};
+ghost use Rattle.krb_ap.specs.Sharing.{ClocksAgree, LetsIn, LetsInAmong, MayHappen, SaysNew, Share, StoreEvent, asks, forgets};
+ghost use Rattle.krb_ap.specs.World.{IsOf};
+ghost use Rattle.krb_ap.specs.declared.reply.ReplyOptions.{ReplyOptions};
+ghost use Rattle.krb_login.specs.Store.{IsWaiting, Settles, outcome_of, question_of, says_new};
+ghost use Rattle.krb_login.specs.Waiting.{Waiting};
+ghost use Rattle.krb_login.specs.declared.store.StoreSays.{StoreSays};
 
 use crate::decision::Decision;
 
@@ -47,4 +54,33 @@ pub fn completed_if_let_in()
         → SaysCompleted bytes }
 {
     krb_gss::laws::verdict_said();
+}
+
+/// States what holds of a client that is let in by what a store says that several services share.
+///
+/// Clause `right`: it is let in as [`Service::answer`](crate::Service::answer) lets clients in, so the
+/// laws about that hold, too. Clause `event`: by krb_ap's `specs/Sharing` a request of this stamp is
+/// let in at the store. Clause `kept`: if the store keeps its promise and the clocks agree, this may
+/// happen after what happened before. Clause `once`: then no request of the same stamp was let in
+/// before, by any service that shares the store.
+pub fn let_in_by_a_store()
+    ensures right { (call : Call) (waiting : Waiting) (said : StoreSays) (looked : ℤ) (login : LetInValue)
+        → IsWaiting call waiting → Settles waiting said looked call.confounder call.choice (Decision.LetIn login)
+        → Decides call (Decision.LetIn login) }
+    ensures event { (call : Call) (waiting : Waiting) (said : StoreSays) (looked : ℤ) (confounder : List ℕ) (choice : ReplyOptions) (login : LetInValue)
+        → (is : IsWaiting call waiting) → Settles waiting said looked confounder choice (Decision.LetIn login)
+        → LetsIn (asks (question_of call waiting is) (outcome_of said looked)) waiting.stamp }
+    ensures kept { (skew : ℕ) (store : List Stamp) (events : List StoreEvent) (call : Call) (waiting : Waiting) (said : StoreSays) (looked : ℤ)
+        → (is : IsWaiting call waiting) → SaysNew store events waiting.stamp (says_new said)
+        → ((at : ℤ) → IsOf events (forgets waiting.stamp at) → ClocksAgree skew (question_of call waiting is) looked at)
+        → MayHappen skew store events (asks (question_of call waiting is) (outcome_of said looked)) }
+    ensures once { (skew : ℕ) (store : List Stamp) (events : List StoreEvent) (call : Call) (waiting : Waiting) (said : StoreSays) (looked : ℤ)
+        (confounder : List ℕ) (choice : ReplyOptions) (login : LetInValue)
+        → (is : IsWaiting call waiting) → Settles waiting said looked confounder choice (Decision.LetIn login)
+        → Share skew store events → SaysNew store events waiting.stamp (says_new said)
+        → ((at : ℤ) → IsOf events (forgets waiting.stamp at) → ClocksAgree skew (question_of call waiting is) looked at)
+        → ¬ LetsInAmong events waiting.stamp }
+{
+    krb_ap::laws::accepted_has_its_stamp();
+    krb_ap::laws::a_store_lets_in_once();
 }

@@ -29,8 +29,12 @@
 //! [`Terms`] are what a service asks of a client beyond what makes its request acceptable: whether it may be anonymous, which realms it
 //! may come from, and which channel bindings it has to send. [`asked_by`] reads what a request asks for without any key, for logs.
 //!
+//! A service that shares a store of stamps with others asks it before it lets a client in: [`Service::ask`] returns an [`Asking`], which
+//! shows only what the store is asked for, and [`Asking::settle`] decides by what the store says. [`Service::answer_shared`] takes these
+//! steps in their order, over a [`Store`].
+//!
 //! `specs::Login` says what is decided and what goes back, `specs::Carrying` what a request comes in, `specs::Terms` when the terms are
-//! met, and `specs::Asked` what a request asks for. What a request is accepted for is said by `krb_ap`'s `specs::Taken`.
+//! met, `specs::Asked` what a request asks for, and `specs::Store` what a service does that shares a store. What a request is accepted for is said by `krb_ap`'s `specs::Taken`.
 #![tactic(auto)]
 
 mod asked;
@@ -55,5 +59,5 @@ pub use cause::Cause;
 pub use decision::{Decision, LetIn, Refused, Unsent};
 pub use question::{Asking, Step};
 pub use service::{Given, Service};
-pub use store::StoreSays;
+pub use store::{Store, StoreSays};
 pub use terms::{Bindings, Realms, Terms};

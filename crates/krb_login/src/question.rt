@@ -7,14 +7,14 @@ ghost use Rattle.krb_replay.specs.Bytes.{IsBytesOf};
 ghost use Rattle.krb_replay.specs.Keeping.{kept_until};
 ghost use Rattle.krb_time.specs.Moments.{IsMoment};
 ghost use Rattle.krb_login.specs.Login.{IsRefusedSo};
-ghost use Rattle.krb_login.specs.Store.{AsksFor, IsHeldOf, IsInTime, Settles, SettlesNew};
+ghost use Rattle.krb_login.specs.Store.{AsksFor, IsHeldOf, IsInTime, SaysOf, Settles, SettlesBy, SettlesNew};
 
 use crate::asked::{Asked, asked_by};
 use crate::carrier::Carrier;
 use crate::cause::Cause;
 use crate::decision::{Decision, LetIn, Refused};
 use crate::response::{answer_of, out_of_memory, refused_as};
-use crate::store::StoreSays;
+use crate::store::{Store, StoreSays};
 use krb_ap::{Accepted, Refusal, ReplyOptions};
 use krb_msg::Moment;
 use krb_replay::{Skew, Tuple};
@@ -133,6 +133,33 @@ impl Asking {
                 let cause = Cause::StoreFailed;
                 Decision::Refused(self.refuse(alloc, now, cause, &Refusal::Authorization))
             }
+        }
+    }
+
+    /// Asks the store for the stamp, looks at the clock after that, and decides.
+    pub(crate) fn settle_by<S: Store>(
+        self,
+        alloc: Global,
+        store: &mut S,
+        confounder: &[u8; 16],
+        choice: ReplyOptions,
+    ) -> Decision
+        ensures { SettlesBy S.adds S.shows self store.old confounder.now choice result store.new }
+    {
+        let Ok(stamp) = self.stamp(alloc) else {
+            return Decision::Refused(out_of_memory());
+        };
+        let said = self.add_to(store, stamp.as_slice());
+        let now = store.now();
+        self.settle(alloc, said, now, confounder, choice)
+    }
+
+    fn add_to<S: Store>(&self, store: &mut S, stamp: &[u8]) -> StoreSays
+        ensures { SaysOf S.adds self.now store.old stamp.now result store.new }
+    {
+        match self.keep_until() {
+            Some(keep_until) => store.add(stamp, keep_until),
+            None => StoreSays::Failed,
         }
     }
 

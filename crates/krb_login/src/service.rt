@@ -13,7 +13,7 @@ ghost use Rattle.krb_ap.specs.Causes.{Cause as IsCause};
 ghost use Rattle.krb_ap.specs.declared.reply.ReplyOptions.{ReplyOptions as ReplyOptionsValue};
 ghost use Rattle.krb_gss.specs.Answer.{WritesVerdict};
 ghost use Rattle.krb_login.specs.Carrying.{Carries, IsNegotiating};
-ghost use Rattle.krb_login.specs.Store.{IsAfterStep, LeadsTo, Steps, StepsOn};
+ghost use Rattle.krb_login.specs.Store.{AnswersShared, IsAfterStep, LeadsTo, Steps, StepsOn};
 ghost use Rattle.krb_login.specs.Login.{Call, Decides, GoesOn, GoesTo, HasCause, HoldsRequest, IsAfter, IsOfRequest, IsUndecided, call_for, call_of, call_with};
 
 use crate::breach::Breach;
@@ -23,6 +23,7 @@ use crate::decision::{Decision, LetIn, Refused, Unsent};
 use crate::opening::{Held, is_negotiating, open};
 use crate::question::{Asking, Step};
 use crate::response::{answer_of, out_of_memory, refused};
+use crate::store::Store;
 use crate::terms::Terms;
 use krb_ap::{Accepted, Acceptor, Refusal, ReplyOptions};
 use krb_gss::{Mechanism, Negotiation, TokenFault, Verdict, wrap_verdict};
@@ -119,6 +120,36 @@ impl<M: ReplayMemory> Service<M> {
             Err(fault) => Step::Decided(Decision::Refused(not_opened(alloc, stage, bytes, fault))),
             Ok(Held::Nothing(first)) => Step::Decided(go_on(alloc, negotiation, first)),
             Ok(Held::Request(carrier, request)) => self.question(alloc, carrier, request, now),
+        }
+    }
+
+    /// Answers as [`Service::answer`], and asks a store that it shares before it lets a client in: the
+    /// steps of [`Service::ask`] and [`Asking::settle`](crate::Asking::settle), in their order.
+    pub fn answer_shared<S: Store>(
+        &mut self,
+        alloc: Global,
+        negotiation: &mut Negotiation,
+        store: &mut S,
+        given: Given<'_>,
+    ) -> Decision
+        ensures terms { self.new.terms ≡ self.old.terms }
+        ensures setup { self.new.acceptor.setup ≡ self.old.acceptor.setup }
+
+        // For each history that the memory stands for: decided with no question, or the store is asked, and it is decided by what it says.
+        ensures answered { (history : List Arrival)
+            → Stands M.has M.newest self.old.acceptor history
+            → AnswersShared S.adds S.shows (call_of self.old.terms self.old.acceptor.setup history negotiation.old given.entry)
+            store.old (Stands M.has M.newest self.new.acceptor) negotiation.new result store.new }
+    {
+        let Given {
+            bytes,
+            now,
+            confounder,
+            choice,
+        } = given;
+        match self.ask(alloc, negotiation, bytes, now) {
+            Step::Decided(decision) => decision,
+            Step::Ask(asking) => asking.settle_by(alloc, store, confounder, choice),
         }
     }
 
