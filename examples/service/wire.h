@@ -87,7 +87,7 @@ static inline int64_t milliseconds(void)
 }
 
 /* When the conversation of this thread ends at the latest, or 0 if it may take any time. */
-static _Thread_local int64_t ends;
+static __thread int64_t ends;
 
 static inline void limit_time(int seconds)
 {
