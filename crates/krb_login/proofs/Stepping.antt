@@ -1,10 +1,14 @@
 -- What follows from the first of two steps.
-use Rattle.std.proofs.Common.{◌≡◌, ℕ, List, sym, subst}
+use Rattle.std.proofs.Common.{◌≡◌, ℕ, List, Result, Ok, Err, sym, subst}
+use Rattle.krb_ap.specs.declared.accepted.Accepted.{Accepted}
+use Rattle.krb_ap.specs.declared.refusal.Refusal.{Refusal}
 use Rattle.krb_gss.specs.declared.negotiating.Negotiation.{Negotiation}
 use Rattle.krb_login.specs.Carrying.{Carries}
 use Rattle.krb_login.specs.Laws.{IsIn}
-use Rattle.krb_login.specs.Login.{IsUndecided}
+use Rattle.krb_login.specs.Login.{IsOfRequest, IsUndecided}
 use Rattle.krb_login.specs.declared.carrier.Carrier.{Carrier}
+use Rattle.krb_login.specs.declared.cause.Cause.{Cause}
+use Rattle.krb_login.specs.declared.cause.Cause.TheVariants.{OutOfMemory}
 use Rattle.krb_login.specs.declared.decision.Decision.{Decision}
 use Rattle.krb_login.specs.declared.decision.Decision.TheVariants as decisions
 
@@ -19,3 +23,14 @@ pub carried : (negotiation : Negotiation) (bytes : List ℕ) (one other : Carrie
     → Carries negotiation other same bytes → Carries negotiation one request bytes
 carried negotiation bytes one other request same c r it =
     subst (λ (carrier : Carrier). Carries negotiation carrier request bytes) (sym c) (subst (λ (at : List ℕ). Carries negotiation other at bytes) (sym r) it)
+
+-- an answer isn't another one
+pub unlike : (one other : Refusal) → (one ≡ other → ⊥) → ◌≡◌ {A = Result Accepted Refusal} (Err one) (Err other) → ⊥
+unlike one other apart e = apart cc
+
+pub no_refusal : (accepted : Accepted) (refusal : Refusal) → ◌≡◌ {A = Result Accepted Refusal} (Ok accepted) (Err refusal) → ⊥
+no_refusal accepted refusal e = absurd cc
+
+-- memory that ran out is no cause of the request's own
+pub not_its_own : (cause : Cause) → cause ≡ OutOfMemory → IsOfRequest cause → ⊥
+not_its_own cause e is = subst IsOfRequest e is

@@ -1,13 +1,15 @@
 -- What the bytes of a client hold, in the words of private contracts.
 use Rattle.std.specs.Prelude.{◌≡◌, ℕ, ℤ, List, Vec, Option, Some, None, Result, Ok, Err}
 use Rattle.std.specs.declared.alloc.Global.{Global}
+use Rattle.krb_ap.specs.declared.accepted.Accepted.{Accepted}
 use Rattle.krb_ap.specs.declared.refusal.Refusal.{Refusal}
 use Rattle.krb_gss.specs.declared.negotiating.Negotiation.{Negotiation}
 use Rattle.krb_gss.specs.declared.negotiating.Negotiation.TheVariants.{Begun, Asked, Ended}
 use Rattle.krb_gss.specs.Negotiation.{IsAsking}
 use Rattle.krb_login.specs.Carrying.{Carries}
-use Rattle.krb_login.specs.Login.{IsNothingDue, IsRefusalOf, IsUnsentSo}
+use Rattle.krb_login.specs.Login.{IsNothingDue, IsOfRequest, IsRefusalOf, IsUnsentSo}
 use Rattle.krb_login.specs.declared.carrier.Carrier.{Carrier}
+use Rattle.krb_login.specs.declared.decision.Refused.{Refused}
 use Rattle.krb_login.specs.declared.decision.Unsent.{Unsent}
 use Rattle.krb_login.specs.declared.opening.Held.{Held}
 use Rattle.krb_login.specs.declared.opening.Held.TheVariants.{Request, Nothing}
@@ -21,6 +23,11 @@ abbrev pub IsSentSo : ℤ → Carrier → List ℕ → Refusal → Result (Optio
 IsSentSo now carrier request refusal (Ok (Some bytes)) = IsRefusalOf now carrier request refusal bytes.items
 IsSentSo now carrier request refusal (Ok None) = IsNothingDue carrier request
 IsSentSo now carrier request refusal (Err why) = IsUnsentSo now carrier request refusal why
+
+-- a request was accepted, or refused for a cause of its own
+abbrev pub IsJudged : Result Accepted Refused → Type 0
+IsJudged (Ok accepted) = Unit {0}
+IsJudged (Err refused) = IsOfRequest refused.cause
 
 -- how far the negotiation is then
 abbrev pub GoesTo : Negotiation → Held → Type 0

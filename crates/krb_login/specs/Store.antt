@@ -17,7 +17,7 @@ use Rattle.krb_replay.specs.Keeping.{kept_until}
 use Rattle.krb_time.specs.Moments.{IsMoment}
 use Rattle.krb_login.specs.Asked.{Asks, AsksNothing}
 use Rattle.krb_login.specs.Laws.{IsIn}
-use Rattle.krb_login.specs.Login.{Call, Decides, GoesTo, HoldsRequest, IsAfter, IsAnswerDue, IsAnswered, IsRefusedSo, RanOut, SaysNothing}
+use Rattle.krb_login.specs.Login.{Call, Decides, GoesTo, HoldsRequest, IsAfter, IsAnswerDue, IsAnswered, IsDecided, IsRefusedSo, RanOut, SaysNothing}
 use Rattle.krb_login.specs.Terms.{Meets}
 use Rattle.krb_login.specs.Waiting.{Waiting}
 use Rattle.krb_login.specs.declared.carrier.Carrier.{Carrier}
@@ -120,6 +120,11 @@ pub record IsAsked (call : Call) (waiting : Waiting) (after : List Arrival) : Ty
 abbrev pub IsAfterStep : Call → Step → List Arrival → Type 0
 IsAfterStep call (Decided decision) after = IsAfter call decision after ⊎ IsUnasked call decision after
 IsAfterStep call (Ask waiting) after = IsAsked call waiting after
+
+-- a request was accepted, or refused for a cause of its own
+abbrev pub IsJudgedBy : Step → Type 0
+IsJudgedBy (Decided decision) = IsDecided decision
+IsJudgedBy (Ask waiting) = Unit {0}
 
 pub record StepsOn (Stands : List Arrival → Type 0) (call : Call) (step : Step) : Type 0 where
   pub after : List Arrival

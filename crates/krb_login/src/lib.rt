@@ -34,7 +34,8 @@
 //! steps in their order, over a [`Store`].
 //!
 //! `specs::Login` says what is decided and what goes back, `specs::Carrying` what a request comes in, `specs::Terms` when the terms are
-//! met, `specs::Asked` what a request asks for, and `specs::Store` what a service does that shares a store. What a request is accepted for is said by `krb_ap`'s `specs::Taken`.
+//! met, `specs::Asked` what a request asks for, and `specs::Store` what a service does that shares a store. What a request is accepted
+//! for is said by `krb_ap`'s `specs::Taken`.
 #![tactic(auto)]
 
 mod asked;

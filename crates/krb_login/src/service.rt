@@ -1,6 +1,9 @@
 //! One call for a login.
 
-ghost use Rattle.std.specs.Prelude.{◌≡◌, ◌↔◌, ℕ, List, ◌∷◌, None, IsTrue, IfErr, IfOk, IfSome, OnOk};
+ghost use Rattle.std.specs.Prelude.{◌≡◌, ◌↔◌, ℕ, List, ◌∷◌, None, Some, IsTrue, IfErr, IfOk, IfSome, OnOk};
+ghost use Rattle.krb_replay.specs.Memory.{SameStamps, later_of};
+ghost use Rattle.krb_ap.specs.History.{IsShownLately};
+ghost use Rattle.krb_login.specs.Inner.{IsJudged};
 ghost use Rattle.krb_ap.specs.Answer.{taken_of};
 ghost use Rattle.krb_ap.specs.Opened.{IsOrdinary};
 ghost use Rattle.krb_ap.specs.Service.{Stands};
@@ -13,8 +16,8 @@ ghost use Rattle.krb_ap.specs.Causes.{Cause as IsCause};
 ghost use Rattle.krb_ap.specs.declared.reply.ReplyOptions.{ReplyOptions as ReplyOptionsValue};
 ghost use Rattle.krb_gss.specs.Answer.{WritesVerdict};
 ghost use Rattle.krb_login.specs.Carrying.{Carries, IsNegotiating};
-ghost use Rattle.krb_login.specs.Store.{AnswersShared, IsAfterStep, LeadsTo, Steps, StepsOn};
-ghost use Rattle.krb_login.specs.Login.{Call, Decides, GoesOn, GoesTo, HasCause, HoldsRequest, IsAfter, IsOfRequest, IsUndecided, call_for, call_of, call_with};
+ghost use Rattle.krb_login.specs.Store.{AnswersShared, IsAfterStep, IsJudgedBy, LeadsTo, Steps, StepsOn};
+ghost use Rattle.krb_login.specs.Login.{Call, Decides, GoesOn, GoesTo, HasCause, HoldsRequest, IsAfter, IsDecided, IsOfRequest, IsUndecided, call_for, call_of, call_with};
 
 use crate::breach::Breach;
 use crate::carrier::Carrier;
@@ -77,6 +80,15 @@ impl<M: ReplayMemory> Service<M> {
             → Stands M.has M.newest self.old.acceptor history
             → GoesOn (Stands M.has M.newest self.new.acceptor)
             (call_of self.old.terms self.old.acceptor.setup history negotiation.old given.entry) result }
+
+        // A request that is decided on moves the latest moment to the one that counts. A memory that forgets has then exactly what
+        // was shown lately.
+        ensures moves { IsDecided result → M.newest self.new.acceptor.memory ≡ Some (later_of (M.newest self.old.acceptor.memory) given.entry.now) }
+        ensures forgets { IsTrue M.FORGETS → (history : List Arrival)
+            → Stands M.has M.newest self.old.acceptor history → IsDecided result
+            → GoesOn (λ after. SameStamps (IsShownLately self.old.acceptor.setup after) (M.has self.new.acceptor.memory))
+            (call_of self.old.terms self.old.acceptor.setup history negotiation.old given.entry) result }
+        ensures limits { M.limits self.new.acceptor.memory ≡ M.limits self.old.acceptor.memory }
     {
         let stage = *negotiation;
         match open(negotiation, given.bytes) {
@@ -114,6 +126,15 @@ impl<M: ReplayMemory> Service<M> {
             → (confounder : List ℕ) (choice : ReplyOptionsValue)
             → StepsOn (Stands M.has M.newest self.new.acceptor)
             (call_for self.old.terms self.old.acceptor.setup history negotiation.old bytes.now now confounder choice) result }
+
+        // The memory changes as by `answer`.
+        ensures moves { IsJudgedBy result → M.newest self.new.acceptor.memory ≡ Some (later_of (M.newest self.old.acceptor.memory) now) }
+        ensures forgets { IsTrue M.FORGETS → (history : List Arrival)
+            → Stands M.has M.newest self.old.acceptor history
+            → (confounder : List ℕ) (choice : ReplyOptionsValue) → IsJudgedBy result
+            → StepsOn (λ after. SameStamps (IsShownLately self.old.acceptor.setup after) (M.has self.new.acceptor.memory))
+            (call_for self.old.terms self.old.acceptor.setup history negotiation.old bytes.now now confounder choice) result }
+        ensures limits { M.limits self.new.acceptor.memory ≡ M.limits self.old.acceptor.memory }
     {
         let stage = *negotiation;
         match open(negotiation, bytes) {
@@ -173,6 +194,14 @@ impl<M: ReplayMemory> Service<M> {
             → (negotiation : NegotiationValue) (bytes : List ℕ)
             → Carries negotiation carrier request.now bytes
             → GoesOn (Stands M.has M.newest self.new.acceptor) (call_with self.old.terms self.old.acceptor.setup history negotiation bytes given.entry) result }
+        ensures moves { IsDecided result → M.newest self.new.acceptor.memory ≡ Some (later_of (M.newest self.old.acceptor.memory) given.entry.now) }
+        ensures forgets { IsTrue M.FORGETS → (history : List Arrival)
+            → Stands M.has M.newest self.old.acceptor history → IsDecided result
+            → (negotiation : NegotiationValue) (bytes : List ℕ)
+            → Carries negotiation carrier request.now bytes
+            → GoesOn (λ after. SameStamps (IsShownLately self.old.acceptor.setup after) (M.has self.new.acceptor.memory))
+            (call_with self.old.terms self.old.acceptor.setup history negotiation bytes given.entry) result }
+        ensures limits { M.limits self.new.acceptor.memory ≡ M.limits self.old.acceptor.memory }
     {
         let Given {
             bytes: _,
@@ -200,6 +229,14 @@ impl<M: ReplayMemory> Service<M> {
             → (negotiation : NegotiationValue) (bytes confounder : List ℕ) (choice : ReplyOptionsValue)
             → Carries negotiation carrier request.now bytes
             → StepsOn (Stands M.has M.newest self.new.acceptor) (call_for self.old.terms self.old.acceptor.setup history negotiation bytes now confounder choice) result }
+        ensures moves { IsJudgedBy result → M.newest self.new.acceptor.memory ≡ Some (later_of (M.newest self.old.acceptor.memory) now) }
+        ensures forgets { IsTrue M.FORGETS → (history : List Arrival)
+            → Stands M.has M.newest self.old.acceptor history → IsJudgedBy result
+            → (negotiation : NegotiationValue) (bytes confounder : List ℕ) (choice : ReplyOptionsValue)
+            → Carries negotiation carrier request.now bytes
+            → StepsOn (λ after. SameStamps (IsShownLately self.old.acceptor.setup after) (M.has self.new.acceptor.memory))
+            (call_for self.old.terms self.old.acceptor.setup history negotiation bytes now confounder choice) result }
+        ensures limits { M.limits self.new.acceptor.memory ≡ M.limits self.old.acceptor.memory }
     {
         let skew = self.acceptor.skew();
         match self.judge(alloc, carrier, request, now) {
@@ -236,6 +273,11 @@ impl<M: ReplayMemory> Service<M> {
             → (negotiation : NegotiationValue) (bytes confounder : List ℕ) (choice : ReplyOptionsValue)
             → Carries negotiation carrier request.now bytes
             → IfErr result (λ refused. GoesOn (Stands M.has M.newest self.new.acceptor) (call_for self.old.terms self.old.acceptor.setup history negotiation bytes now confounder choice) (Decision.Refused refused)) }
+        ensures moves { IsJudged result → M.newest self.new.acceptor.memory ≡ Some (later_of (M.newest self.old.acceptor.memory) now) }
+        ensures forgets { IsTrue M.FORGETS → (history : List Arrival)
+            → Stands M.has M.newest self.old.acceptor history → IsJudged result
+            → SameStamps (IsShownLately self.old.acceptor.setup (arrival request.now now ∷ history)) (M.has self.new.acceptor.memory) }
+        ensures limits { M.limits self.new.acceptor.memory ≡ M.limits self.old.acceptor.memory }
     {
         let accepted = match self.acceptor.accept(alloc, request, now) {
             Ok(accepted) => accepted,

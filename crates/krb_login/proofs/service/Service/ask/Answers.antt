@@ -20,3 +20,9 @@ returns-in-Ok-Request-clause-steps g c history stands confounder choice =
     let held = subst (λ (it : Held). Holds c.args.negotiation.now c.args.bytes.now it) c.in-Ok-Request.field-0-is c.in-Ok-Request.ensures.held in
     c.question.ensures.steps history stands c.args.negotiation.now c.args.bytes.now confounder choice
     (carried _ c.args.bytes.now _ _ _ _ c.in-Ok-Request.carrier-is (ap (λ r. r.now) c.in-Ok-Request.request-is) held)
+
+pub returns-in-Ok-Request-clause-forgets : goal.returns-in-Ok-Request-clause-forgets
+returns-in-Ok-Request-clause-forgets g c forgets history stands confounder choice judged =
+    let held = subst (λ (it : Held). Holds c.args.negotiation.now c.args.bytes.now it) c.in-Ok-Request.field-0-is c.in-Ok-Request.ensures.held in
+    c.question.ensures.forgets forgets history stands judged c.args.negotiation.now c.args.bytes.now confounder choice
+    (carried _ c.args.bytes.now _ _ _ _ c.in-Ok-Request.carrier-is (ap (λ r. r.now) c.in-Ok-Request.request-is) held)

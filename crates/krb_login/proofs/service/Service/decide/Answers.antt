@@ -1,6 +1,6 @@
 use Rattle.std.proofs.Common.{◌∷◌, refl}
 use Rattle.krb_ap.specs.Setup.{arrival}
-use Rattle.krb_login.specs.Login.{call_with}
+use Rattle.krb_login.specs.Login.{added, call_with}
 use Rattle.krb_login.proofs.service.Service.decide.Goals as goal
 
 pub returns-in-Ok-clause-decided : goal.returns-in-Ok-clause-decided
@@ -19,3 +19,21 @@ returns-in-Ok-clause-goes_on g c history stands negotiation bytes carries = reco
 pub returns-in-Err-clause-decided : goal.returns-in-Err-clause-decided
 returns-in-Err-clause-decided g c history stands negotiation bytes carries =
     c.in-Err.ensures.refused history stands negotiation bytes c.args.given.confounder.now c.args.given.choice carries
+
+pub returns-in-Ok-clause-moves : goal.returns-in-Ok-clause-moves
+returns-in-Ok-clause-moves g c = λ _. c.in-Ok.ensures.moves tt
+
+pub returns-in-Ok-clause-forgets : goal.returns-in-Ok-clause-forgets
+returns-in-Ok-clause-forgets g c forgets history stands decided negotiation bytes carries = record {
+  after = (arrival c.args.request.now c.args.given.now) ∷ history;
+  is_after = c.let_in.ensures.after (call_with c.args.self.now.terms c.args.self.now.acceptor.setup history negotiation bytes c.args.given) c.args.request.now carries
+      (c.in-Ok.ensures.accepted history stands) c.in-Ok.ensures.meets;
+  stands = c.in-Ok.ensures.forgets forgets history stands tt;
+}
+
+pub returns-in-Err-clause-forgets : goal.returns-in-Err-clause-forgets
+returns-in-Err-clause-forgets g c forgets history stands decided negotiation bytes carries = record {
+  after = (arrival c.args.request.now c.args.given.now) ∷ history;
+  is_after = added c.args.carrier c.args.request.now decided carries refl;
+  stands = c.in-Err.ensures.forgets forgets history stands decided;
+}

@@ -1,11 +1,14 @@
 use Rattle.std.proofs.Common.{◌≡◌, ◌∷◌, List, Err, ap, refl, sym, subst}
 use Rattle.krb_ap.specs.Answer.{after_refusal}
+use Rattle.krb_ap.specs.History.{IsShownLately}
 use Rattle.krb_ap.specs.Service.{Stands}
+use Rattle.krb_replay.specs.Memory.{SameStamps}
 use Rattle.krb_ap.specs.Setup.{Arrival, arrival}
 use Rattle.krb_ap.proofs.Afterwards.{after_named}
 use Rattle.krb_ap.proofs.Truth.{is_so, is_not}
 use Rattle.krb_login.specs.Login.{HasCause, call_for, deciding, added}
 use Rattle.krb_login.specs.declared.cause.Cause.{Cause}
+use Rattle.krb_login.proofs.Stepping.{no_refusal, not_its_own, unlike}
 use Rattle.krb_login.proofs.service.Service.judge.Goals as goal
 
 pub returns-then-is_memory-clause-refused : goal.returns-then-is_memory-clause-refused
@@ -40,3 +43,30 @@ returns-in-Some-clause-goes_on g c history stands negotiation bytes confounder c
   is_after = added c.args.carrier c.args.request.now c.turn_away.ensures.decides carries refl;
   stands = c.in-Ok.ensures.goes_on history stands;
 }
+
+pub returns-then-is_memory-clause-moves : goal.returns-then-is_memory-clause-moves
+returns-then-is_memory-clause-moves g c = λ judged. absurd (not_its_own _ c.out_of_memory.ensures.cause judged)
+
+pub returns-then-is_memory-clause-forgets : goal.returns-then-is_memory-clause-forgets
+returns-then-is_memory-clause-forgets g c forgets history stands judged = absurd (not_its_own _ c.out_of_memory.ensures.cause judged)
+
+pub returns-in-Err-clause-moves : goal.returns-in-Err-clause-moves
+returns-in-Err-clause-moves g c = λ judged. c.in-Err.ensures.moves (unlike _ _ (is_not _ _ c.is_memory.ensures c.if-is_memory.false))
+
+pub returns-in-Err-clause-forgets : goal.returns-in-Err-clause-forgets
+returns-in-Err-clause-forgets g c forgets history stands judged =
+    subst (λ (h : List Arrival). SameStamps (IsShownLately c.args.self.now.acceptor.setup h) (g.M.ReplayMemory.has c.accept.new.self.memory))
+    (sym (after_named history (arrival c.args.request.now c.args.now) c.in-Err.refusal (is_not _ _ c.is_memory.ensures c.if-is_memory.false)))
+    (c.in-Err.ensures.forgets forgets history stands (unlike _ _ (is_not _ _ c.is_memory.ensures c.if-is_memory.false)))
+
+pub returns-in-Some-clause-moves : goal.returns-in-Some-clause-moves
+returns-in-Some-clause-moves g c = λ judged. c.in-Ok.ensures.moves (no_refusal _ _)
+
+pub returns-in-Some-clause-forgets : goal.returns-in-Some-clause-forgets
+returns-in-Some-clause-forgets g c forgets history stands judged = c.in-Ok.ensures.forgets forgets history stands (no_refusal _ _)
+
+pub returns-clause-moves : goal.returns-clause-moves
+returns-clause-moves g c = λ judged. c.in-Ok.ensures.moves (no_refusal _ _)
+
+pub returns-clause-forgets : goal.returns-clause-forgets
+returns-clause-forgets g c forgets history stands judged = c.in-Ok.ensures.forgets forgets history stands (no_refusal _ _)

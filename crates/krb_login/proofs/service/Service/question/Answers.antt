@@ -1,6 +1,6 @@
 use Rattle.std.proofs.Common.{◌∷◌, inl, refl}
 use Rattle.krb_ap.specs.Setup.{arrival}
-use Rattle.krb_login.specs.Login.{call_for}
+use Rattle.krb_login.specs.Login.{added, call_for}
 use Rattle.krb_login.proofs.service.Service.question.Goals as goal
 
 pub returns-in-Ok-clause-steps : goal.returns-in-Ok-clause-steps
@@ -27,3 +27,21 @@ pub returns-in-Err-clause-goes_on : goal.returns-in-Err-clause-goes_on
 returns-in-Err-clause-goes_on g c history stands negotiation bytes confounder choice carries =
     let on = c.in-Err.ensures.goes_on history stands negotiation bytes confounder choice carries in
     record { after = on.after; is_after = inl on.is_after; stands = on.stands }
+
+pub returns-in-Ok-clause-moves : goal.returns-in-Ok-clause-moves
+returns-in-Ok-clause-moves g c = λ _. c.in-Ok.ensures.moves tt
+
+pub returns-in-Ok-clause-forgets : goal.returns-in-Ok-clause-forgets
+returns-in-Ok-clause-forgets g c forgets history stands judged negotiation bytes confounder choice carries = record {
+  after = (arrival c.args.request.now c.args.now) ∷ history;
+  is_after = c.held.ensures.after (call_for c.args.self.now.terms c.args.self.now.acceptor.setup history negotiation bytes c.args.now confounder choice) carries
+      (c.in-Ok.ensures.accepted history stands) c.in-Ok.ensures.meets;
+  stands = c.in-Ok.ensures.forgets forgets history stands tt;
+}
+
+pub returns-in-Err-clause-forgets : goal.returns-in-Err-clause-forgets
+returns-in-Err-clause-forgets g c forgets history stands judged negotiation bytes confounder choice carries = record {
+  after = (arrival c.args.request.now c.args.now) ∷ history;
+  is_after = inl (added c.args.carrier c.args.request.now judged carries refl);
+  stands = c.in-Err.ensures.forgets forgets history stands judged;
+}
