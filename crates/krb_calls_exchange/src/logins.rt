@@ -1,21 +1,27 @@
 //! Calls of a service that answers a client's tokens.
 
+ghost use Rattle.std.specs.Prelude.{◌≡◌};
+
 use crate::names::{moment, show_name};
 use krb_ap::{Acceptor, ReplyOptions};
 use krb_gss::Negotiation;
 use krb_keytab::Keytab;
 use krb_login::{
-    Asked, Bindings, BindingsHash, Cause, Decision, Given, Realms, Refused, Service, Terms,
+    Asked, Asking, Bindings, BindingsHash, Cause, Decision, Given, Realms, Refused, Service, Step,
+    Store, StoreSays, Terms,
 };
+use krb_msg::Moment;
 use krb_name::Bytes;
 use krb_replay::{Skew, TimedMemory};
 use krb_words::{Answer, Words};
+use std::alloc::Global;
 
 /// A service, and how far the negotiation with its client is.
 #[derive(Drop)]
 pub(crate) struct Logins {
     service: Service<TimedMemory>,
     negotiation: Negotiation,
+    asking: Option<Asking>,
 }
 
 /// Makes a service with a skew of 300 s: its keytab, whether a client may be anonymous, a realm or `any`, and how the
@@ -32,6 +38,7 @@ pub(crate) fn start(words: &mut Words, out: &mut Answer) -> Option<Logins> {
     Some(Logins {
         service: Service { acceptor, terms },
         negotiation: Negotiation::Begun,
+        asking: None,
     })
 }
 
@@ -70,19 +77,109 @@ pub(crate) fn answer(
     }
     let now = moment(words)?;
     let bytes = words.bytes()?;
-    let given = Given {
-        bytes: &bytes,
-        now,
-        confounder: &CONFOUNDER,
-        choice: ReplyOptions {
-            subkey: None,
-            seq: None,
-        },
-    };
     let decision = logins
         .service
-        .answer(words.alloc, &mut logins.negotiation, given);
+        .answer(words.alloc, &mut logins.negotiation, given(&bytes, now));
     show(&decision, out)
+}
+
+/// Asks a store about the bytes of a client at a moment: what the store says comes in the next line.
+pub(crate) fn ask(logins: &mut Logins, words: &mut Words, out: &mut Answer) -> Option<()> {
+    let now = moment(words)?;
+    let bytes = words.bytes()?;
+    logins.negotiation = Negotiation::Begun;
+    match logins
+        .service
+        .ask(words.alloc, &mut logins.negotiation, &bytes, now)
+    {
+        Step::Decided(decision) => show(&decision, out),
+        Step::Ask(asking) => {
+            show_question(words.alloc, &asking, out)?;
+            logins.asking = Some(asking);
+            Some(())
+        }
+    }
+}
+
+/// Decides by what the store says, and by the clock after that.
+pub(crate) fn settle(logins: &mut Logins, words: &mut Words, out: &mut Answer) -> Option<()> {
+    let asking = logins.asking.take()?;
+    let said = said(words)?;
+    let now = moment(words)?;
+    let decision = asking.settle(words.alloc, said, now, &CONFOUNDER, nothing_chosen());
+    show(&decision, out)
+}
+
+/// Answers the bytes of a client at a moment, with a store that says this, and a clock that shows the first moment after that.
+pub(crate) fn share(logins: &mut Logins, words: &mut Words, out: &mut Answer) -> Option<()> {
+    let mut store = Told {
+        said: said(words)?,
+        now: moment(words)?,
+    };
+    let now = moment(words)?;
+    let bytes = words.bytes()?;
+    logins.negotiation = Negotiation::Begun;
+    let decision = logins.service.answer_shared(
+        words.alloc,
+        &mut logins.negotiation,
+        &mut store,
+        given(&bytes, now),
+    );
+    show(&decision, out)
+}
+
+/// A store and a clock of which a line says what they say.
+#[derive(Drop)]
+struct Told {
+    said: StoreSays,
+    now: Moment,
+}
+
+impl Store for Told {
+    ghost adds = { λ before _ _ said after. (said ≡ before.said) × (after ≡ before) };
+
+    ghost shows = { λ before now after. (now ≡ before.now) × (after ≡ before) };
+
+    fn add(&mut self, _stamp: &[u8], _keep_until: Moment) -> StoreSays {
+        self.said
+    }
+
+    fn now(&mut self) -> Moment {
+        self.now
+    }
+}
+
+fn said(words: &mut Words) -> Option<StoreSays> {
+    match words.next()? {
+        "new" => Some(StoreSays::New),
+        "known" => Some(StoreSays::Known),
+        "failed" => Some(StoreSays::Failed),
+        _ => None,
+    }
+}
+
+fn given(bytes: &[u8], now: Moment) -> Given<'_> {
+    Given {
+        bytes,
+        now,
+        confounder: &CONFOUNDER,
+        choice: nothing_chosen(),
+    }
+}
+
+fn nothing_chosen() -> ReplyOptions {
+    ReplyOptions {
+        subkey: None,
+        seq: None,
+    }
+}
+
+fn show_question(alloc: Global, asking: &Asking, out: &mut Answer) -> Option<()> {
+    let (seconds, micros) = asking.keep_until()?.parts();
+    out.word("ask")?;
+    out.bytes(&asking.stamp(alloc).ok()?)?;
+    out.shown(seconds.get())?;
+    out.shown(micros.get())
 }
 
 /// That of the fixture's reply.

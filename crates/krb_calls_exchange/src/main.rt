@@ -124,6 +124,9 @@ impl Calls for Kept {
                 Some(())
             }
             "login" | "next" => logins::answer(self.logins.as_mut()?, first, words, out),
+            "ask" => logins::ask(self.logins.as_mut()?, words, out),
+            "settle" => logins::settle(self.logins.as_mut()?, words, out),
+            "share" => logins::share(self.logins.as_mut()?, words, out),
             "error" | "cause" | "breach" | "fault" => causes::answer(first, words, out),
             "laws" => laws(out),
             _ => memories::answer(&mut self.memory, first, words, out),
