@@ -1,7 +1,7 @@
 -- The channel bindings that a service asks for, by a rule's number and an MD5 hash (RFC 4121, section
 -- 4.1.1.2).
 use Rattle.std.specs.Prelude.{◌≡◌, ◌≢◌, ◌⊎◌, ◌<◌, ℕ, List, length}
-use Rattle.krb_login.specs.Terms.{none_sent}
+use Rattle.krb_login.specs.NoBindings.{none_sent}
 use Rattle.krb_login.specs.declared.terms.Bindings.{Bindings}
 use Rattle.krb_login.specs.declared.terms.Bindings.TheVariants.{Ignored, IfSent, Required}
 use Rattle.krb_c.specs.Answer.{plain}

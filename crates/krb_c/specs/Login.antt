@@ -6,24 +6,27 @@ use Rattle.krb_name.specs.Text.{text_of}
 use Rattle.krb_time.specs.Moments.{micros_of}
 use Rattle.krb_gss.specs.declared.negotiating.Negotiation.{Negotiation}
 use Rattle.krb_gss.specs.declared.negotiating.Negotiation.TheVariants.{Begun}
+use Rattle.krb_replay.specs.Limit.{limits_of}
+use Rattle.krb_replay.specs.Memory.{SameStamps, later_of}
+use Rattle.krb_ap.specs.History.{IsShownLately}
 use Rattle.krb_ap.specs.Setup.{Arrival}
 use Rattle.krb_ap.specs.declared.accepted.Accepted.{Accepted}
 use Rattle.krb_ap.specs.declared.reply.ReplyOptions.{ReplyOptions}
 use Rattle.krb_login.specs.Asked.{Asks, AsksNothing, AsksSomething}
-use Rattle.krb_login.specs.Login.{Call, Decides, GoesOn, GoesTo}
+use Rattle.krb_login.specs.Login.{Call, Decides, GoesOn, GoesTo, IsDecided as IsDecidedOn}
 use Rattle.krb_login.specs.Terms.{IsOfRealms, code_of}
 use Rattle.krb_login.specs.declared.asked.Asked.{Asked as AskedFor}
 use Rattle.krb_login.specs.declared.breach.Breach.{Breach}
 use Rattle.krb_login.specs.declared.cause.Cause.{Cause}
-use Rattle.krb_login.specs.declared.cause.Cause.TheVariants.{Token, Request, Breached, OutOfMemory}
+use Rattle.krb_login.specs.declared.cause.Cause.TheVariants.{Token, Request, Breached, OutOfMemory, StoreFailed}
 use Rattle.krb_login.specs.declared.decision.Decision.{Decision}
 use Rattle.krb_login.specs.declared.decision.Decision.TheVariants.{LetIn, GoOn, Refused}
 use Rattle.krb_login.specs.declared.terms.Realms.{Realms}
 use Rattle.krb_login.specs.declared.terms.Realms.TheVariants.{Any, Only}
-use Rattle.krb_c.specs.Service.{IsMomentOf, Stands, full_of}
+use Rattle.krb_c.specs.Service.{IsMomentOf, Remembers, Stands, full_of, latest_of}
 use Rattle.krb_c.specs.Answer.{Tells, plain, refused, sized}
 use Rattle.krb_c.specs.Choice.{key_value}
-use Rattle.krb_c.specs.Codes.{bad_moment, bad_random, breach_code, empty_handle, full, go_on, nothing_there, ok, out_of_memory, short_buffer}
+use Rattle.krb_c.specs.Codes.{bad_moment, bad_random, breach_code, empty_handle, full, go_on, nothing_there, ok, out_of_memory, short_buffer, store_failed}
 use Rattle.krb_c.specs.Known.{is_there, number_or_zero, span}
 use Rattle.krb_c.specs.Tokens.{token_answer}
 use Rattle.krb_c.specs.declared.accepted_state.AcceptedState.{AcceptedState}
@@ -44,6 +47,7 @@ cause_answer is_full (Token fault) = token_answer fault
 cause_answer is_full (Request refusal) = refused refusal
 cause_answer is_full (Breached breach) = breach_answer breach
 cause_answer is_full OutOfMemory = if is_full then plain full else plain out_of_memory
+cause_answer is_full StoreFailed = record { code = store_failed; kerberos = pos 60; at = 0; size = 0 }
 
 -- the answer but for how many bytes go back, what the request asked for, and the bytes
 abbrev pub outcome_of : Bool → Decision → Outcome
@@ -113,6 +117,10 @@ pub record IsDecided (old new : ServiceState) (before : Negotiation) (after : Lo
   pub decision : Decision
   pub decides : (history : List Arrival) → Stands old history → Decides (call_by old history before bytes now confounder choice) decision
   pub goes_on : (history : List Arrival) → Stands old history → GoesOn (Stands new) (call_by old history before bytes now confounder choice) decision
+  pub moves : IsDecidedOn decision → latest_of new ≡ Some (later_of (latest_of old) now)
+  pub forgets : (history : List Arrival) → Stands old history → IsDecidedOn decision
+      → GoesOn (λ after. SameStamps (IsShownLately old.service.acceptor.setup after) (Remembers new)) (call_by old history before bytes now confounder choice) decision
+  pub limits : limits_of new.service.acceptor.memory ≡ limits_of old.service.acceptor.memory
   pub setup : new.service.acceptor.setup ≡ old.service.acceptor.setup
   pub terms : new.service.terms ≡ old.service.terms
   pub subkey : new.subkey_type ≡ old.subkey_type

@@ -9,7 +9,7 @@ use Rattle.krb_keytab.specs.Only.{KeepsOnly}
 use Rattle.krb_name.specs.Reading.{IsReadAs}
 use Rattle.krb_name.specs.declared.principal.Principal.{Principal}
 use Rattle.krb_replay.specs.Memory.{IsSizeOf, later_of, SameStamps}
-use Rattle.krb_replay.specs.Limit.{limited}
+use Rattle.krb_replay.specs.Limit.{limited, limits_of}
 use Rattle.krb_replay.specs.Stamp.{Stamp}
 use Rattle.krb_ap.specs.Setup.{Arrival}
 use Rattle.krb_ap.specs.Opened.{Asks, AsksFor, stamp_at}
@@ -126,6 +126,7 @@ pub record Decides (old new : ServiceState) (call : Arrival) (kept : Option Acce
   pub goes_on : (history : List Arrival) → Stands old history → Stands new (after history call outcome)
   pub forgets : (history : List Arrival) → Stands old history → ¬ IsErrOf outcome OutOfMemory
       → SameStamps (IsShownLately old.service.acceptor.setup (after history call outcome)) (Remembers new)
+  pub limits : limits_of new.service.acceptor.memory ≡ limits_of old.service.acceptor.memory
   pub setup : new.service.acceptor.setup ≡ old.service.acceptor.setup
   pub terms : new.service.terms ≡ old.service.terms
   pub subkey : new.subkey_type ≡ old.subkey_type

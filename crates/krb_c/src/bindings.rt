@@ -12,7 +12,7 @@ use crate::handle::with_held;
 use crate::handles::ServiceHandle;
 use crate::service_state::ServiceState;
 use crate::structs::Answer;
-use krb_login::Bindings;
+use krb_login::{Bindings, BindingsHash};
 use std::alloc::Global;
 
 /// Gives a service other channel bindings, for example those of a renewed certificate. It keeps all
@@ -59,12 +59,9 @@ pub(crate) fn bindings_of(rule: u32, hash: &[u8]) -> Option<Bindings>
 }
 
 // The hash, unless no client with bindings sends it: sixteen zeros say that there are none.
-fn sendable(hash: &[u8]) -> Option<[u8; 16]>
+fn sendable(hash: &[u8]) -> Option<BindingsHash>
     ensures { MatchOption result (CantBeSent hash.now) (λ bound. (bound ≡ hash.now) × CanBeSent hash.now) }
 {
-    let bound: [u8; 16] = hash.try_into().ok()?;
-    if bound == [0; 16] {
-        return None;
-    }
-    Some(bound)
+    let bytes: [u8; 16] = hash.try_into().ok()?;
+    BindingsHash::new(bytes)
 }

@@ -15,6 +15,7 @@ use crate::token::token_told;
 use krb_ap::Accepted;
 use krb_gss::Negotiation;
 use krb_login::{Asked as AskedFor, Breach, Cause, Decision, Given, LetIn, Refused};
+use krb_msg::error_code;
 use krb_replay::ReplayMemory;
 use std::alloc::{AllocError, Global};
 
@@ -149,6 +150,7 @@ fn outcome_of(decision: Decision, is_full: bool) -> (Outcome, Option<Accepted>)
                 cause,
                 asked,
                 answer,
+                unsent: _,
             },
         ) => {
             let outcome = Outcome {
@@ -168,6 +170,12 @@ fn cause_told(cause: Cause, is_full: bool) -> Answer
         Cause::Token(fault) => token_told(fault),
         Cause::Request(refusal) => Answer::refused(&refusal),
         Cause::Breached(breach) => breach_told(breach),
+        Cause::StoreFailed => Answer {
+            code: code::STORE_FAILED,
+            kerberos: error_code::KRB_ERR_GENERIC,
+            at: 0,
+            size: 0,
+        },
         Cause::OutOfMemory => {
             if is_full {
                 Answer::plain(code::FULL)

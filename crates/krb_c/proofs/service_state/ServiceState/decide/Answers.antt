@@ -16,6 +16,7 @@ returns c = let accept = c.accept-outcome.ensures in let outcome = c.accept-outc
       answers = accept.answer;
       goes_on = accept.goes_on;
       forgets = accept.forgets refl;
+      limits = cc (accept.limits);
       setup = accept.setup;
       terms = refl;
       subkey = refl;
