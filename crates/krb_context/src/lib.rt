@@ -18,13 +18,18 @@
 //! of a text.
 #![tactic(auto)]
 
+mod agreed;
+mod context;
 mod direction;
 mod fault;
 mod header;
+pub mod laws;
 mod order;
 mod role;
 
-pub use direction::Direction;
-pub use fault::MessageFault;
+pub use agreed::{Agreed, Options};
+pub use context::{Context, Opened, Verified};
+pub use direction::{Direction, Unwrapped};
+pub use fault::{MessageFault, ReceiveFault, SendFault};
 pub use order::{Order, Window};
 pub use role::Role;
