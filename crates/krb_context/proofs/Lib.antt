@@ -10,3 +10,4 @@ pub mod Sends
 pub mod Sides
 pub mod Written
 pub mod Tokens
+pub mod Turns

@@ -1,12 +1,12 @@
 -- A side of a context: what both sides agreed on, what it sends, and what it took (RFC 4121, sections 2 and 4.2; RFC 2743, section 1.2.3).
-use Rattle.std.specs.Prelude.{◌≡◌, ◌≢◌, ◌+◌, ◌^◌, ℕ, List, ◌∷◌, ◌++◌, Bool, IsTrue, Option, Some, None, Result, Err, IsOk, IsErr, is_some, length, take, replicate, ◌-◌, nat_lt, if◌then◌else◌}
+use Rattle.std.specs.Prelude.{◌≡◌, ◌≢◌, ◌+◌, ◌<◌, ◌^◌, ℕ, List, ◌∷◌, ◌++◌, Bool, IsTrue, Option, Some, None, Result, Err, IsOk, IsErr, is_some, length, take, replicate, ◌-◌, nat_lt, if◌then◌else◌}
 use Rattle.krb_enc.specs.Key.{KeyValue}
 use Rattle.krb_enc.specs.Written.{IsWritten}
 use Rattle.krb_context.specs.Side.{Sender, peer_sender}
 use Rattle.krb_context.specs.Mic.{IsMic}
 use Rattle.krb_context.specs.Wrap.{IsWrap}
 use Rattle.krb_context.specs.Faults.{IsMicFault, IsWrapFault}
-use Rattle.krb_context.specs.Sequence.{Known, Stands, IsOrder}
+use Rattle.krb_context.specs.Sequence.{Known, Stands, IsOrder, sent_numbers}
 use Rattle.krb_context.specs.declared.agreed.Agreed.{Agreed}
 use Rattle.krb_context.specs.declared.agreed.Options.{Options}
 use Rattle.krb_context.specs.declared.role.Role.{Role}
@@ -96,3 +96,11 @@ LeavesToken (NotAccepted Direction) before after = after ≡ before
 LeavesToken (NotAccepted OtherKey) before after = after ≡ before
 LeavesToken (NotAccepted Integrity) before after = IsCleared before after
 LeavesToken (OutOfOrder order) before after = IsCleared before after
+
+-- one side sends what the other takes, and the other took the tokens that it sent so far, each once and in order
+pub record IsNextFor (from to : State) (first count : ℕ) : Type 0 where
+  pub sender_is : from.sender ≡ peer_sender to.sender
+  pub next_is : from.next ≡ Some (first + count)
+  pub fits : first + count < 2 ^ 64
+  pub rotation_fits : from.options.rotation < 2 ^ 16
+  pub took : Stands to.window first (sent_numbers first count)

@@ -7,9 +7,10 @@ ghost use Rattle.krb_context.specs.Mic.{IsMic, mic_token};
 ghost use Rattle.krb_context.specs.Wrap.{IsWrap, rotated_token, sealed_token, wrap_overhead, wrap_token};
 ghost use Rattle.krb_context.specs.Faults.{IsMicFault, IsWrapFault};
 ghost use Rattle.krb_context.specs.Sequence.{IsOrder, sent_numbers};
-ghost use Rattle.krb_context.specs.Context.{sender_in};
+ghost use Rattle.krb_context.specs.Context.{HasOrder, IsNextFor, IsOutOfOrder, State, Takes, number_after, sender_in};
 ghost use Rattle.krb_context.specs.declared.agreed.Agreed.{Agreed};
 ghost use Rattle.krb_context.specs.declared.fault.MessageFault.{MessageFault};
+ghost use Rattle.krb_context.specs.declared.fault.ReceiveFault.{ReceiveFault};
 ghost use Rattle.krb_context.specs.declared.order.Order.{Order};
 ghost use Rattle.krb_context.specs.declared.order.Order.TheVariants.{Next, AfterGap, Late, Repeat, Old};
 ghost use Rattle.krb_context.specs.declared.role.Role.{Role};
@@ -69,6 +70,27 @@ pub fn each_number_once()
         → IsOrder first taken number order → Contains taken number → (order ≡ Repeat) ⊎ (order ≡ Old) }
     ensures one { (first : ℕ) (taken : List ℕ) (number : ℕ) (one other : Order)
         → IsOrder first taken number one → IsOrder first taken number other → one ≡ other }
+{}
+
+/// The next token that a side sends reaches the other side: if that one took all tokens before it,
+/// in their order, then it takes this one with its text, as the next one, also if it takes tokens
+/// only in order. What it took is never the next one again.
+pub fn the_next_token_is_taken()
+    ensures wrap { (from to : State) (first count : ℕ) (is_sealed : Bool) (confounder text : List ℕ)
+        → IsNextFor from to first count → length confounder ≡ 16 → All (λ byte. byte < 256) confounder → All (λ byte. byte < 256) text
+        → IsWrap (peer_sender to.sender) is_sealed (first + count) text
+        (wrap_token from.sender is_sealed from.options.rotation confounder (first + count) text) }
+    ensures mic { (from to : State) (first count : ℕ) (text : List ℕ) → IsNextFor from to first count
+        → IsMic (peer_sender to.sender) (first + count) text (mic_token from.sender (first + count) text) }
+    ensures next { (from to : State) (first count : ℕ) (order : Order) → IsNextFor from to first count
+        → HasOrder to.window (first + count) order → order ≡ Next }
+    ensures not_refused { (from to : State) (first count : ℕ) (fault : ReceiveFault) → IsNextFor from to first count
+        → IsOutOfOrder to (first + count) fault → ⊥ }
+    ensures again { (from to after : State) (first count : ℕ) (order : Order) → IsNextFor from to first count
+        → Takes to (first + count) Next after → HasOrder after.window (first + count) order → (order ≡ Repeat) ⊎ (order ≡ Old) }
+    ensures goes_on { (from to after : State) (first count : ℕ) → IsNextFor from to first count
+        → Takes to (first + count) Next after → first + count + 1 < 2 ^ 64
+        → IsNextFor (record from { next = number_after (first + count) }) after first (count + 1) }
 {}
 
 /// How long a Wrap token is.
