@@ -15,8 +15,7 @@ ghost use Rattle.krb_context.specs.declared.order.Order.{Order};
 ghost use Rattle.krb_context.specs.declared.order.Order.TheVariants.{Next, AfterGap, Late, Repeat, Old};
 ghost use Rattle.krb_context.specs.declared.role.Role.{Role};
 
-/// What one side takes is what the other side sends: the same key, and the number that it begins
-/// with.
+/// What one side takes is what the other side sends, if both agreed on the same keys.
 pub fn both_sides_agree()
     ensures { (agreed : Agreed) (side : Role)
         → peer_sender (sender_in agreed side) ≡ sender_in agreed (peer_of side) }
