@@ -1,14 +1,17 @@
-"""A second implementation of per-message tokens (RFC 4121, section 4.2), and of the order of their numbers (RFC 2743,
-section 1.2.3)."""
+"""A second implementation of per-message tokens (RFC 4121, section 4.2), of the order of their numbers (RFC 2743,
+section 1.2.3), and of the two sides of a context."""
+import itertools
 import random
 import struct
 
+from support import calls
 from support.sealing import TYPES, checksum, sealed
 
 PROGRAM = "krb_calls_context"
 SIGN, SEAL = {"acceptor": 23, "initiator": 25}, {"acceptor": 22, "initiator": 24}
 DEFECTIVE, WRONG = "the bytes are no token of this kind", "the checksum is wrong"
 OTHER_SIDE, OTHER_KEY = "the token was sent by the other side", "the token is under another key"
+NOT_NEXT, WINDOW = "the token isn't the next one", 64
 KEYS = [(19, bytes(range(16))), (20, bytes(range(100, 132)))]
 
 
@@ -75,6 +78,73 @@ class Sender:
         return f"{number} {str(bool(is_sealed)).lower()} {hexed(plain[:end])}"
 
 
+class Window:
+    """What one side knows of the numbers that it took."""
+
+    def __init__(self, first):
+        self.first, self.taken = first, set()
+
+    def following(self):
+        return max(self.taken, default=self.first - 1) + 1
+
+    def order(self, number):
+        following = self.following()
+        if number >= following:
+            return "Next" if number == following else "AfterGap"
+        if number < max(self.first, following - WINDOW):
+            return "Old"
+        return "Repeat" if number in self.taken else "Late"
+
+    def take(self, number):
+        order = self.order(number)
+        if number >= self.first:
+            self.taken.add(number)
+        return order
+
+
+class Side:
+    """A side of a context: the session key, the subkeys (None if there is none) and the first numbers of both sides."""
+
+    def __init__(self, side, keys, numbers, rotation=0, in_order=False):
+        session, initiator, acceptor = keys
+        self.keys, self.numbers, self.side, self.rotation, self.in_order = keys, numbers, side, rotation, in_order
+        etype, key = acceptor or initiator or session
+        other = next(it for it in SIGN if it != side)
+        self.sent, self.peer = (Sender(etype, key, it, acceptor is not None) for it in (side, other))
+        self.number, self.window = numbers[side], Window(numbers[other])
+
+    def lines(self):
+        keys = " ".join(f"{it[0]} {it[1].hex()}" if it else "0 -" for it in self.keys)
+        return [f"agree {keys} {self.numbers['initiator']} {self.numbers['acceptor']}",
+                f"context {self.side} {self.rotation} {str(self.in_order).lower()}"]
+
+    def overhead(self, is_sealed):
+        return (48 if is_sealed else 16) + TYPES[self.sent.etype][2]
+
+    def wrap(self, is_sealed, confounder, text):
+        if is_sealed:
+            return self.sent.seal(self.number, confounder, text, rotation=self.rotation)
+        return self.sent.plain(self.number, text)
+
+    def takes(self, number, more, refused=""):
+        """What is answered for a token with this number: with it and its order, or that it isn't the next one."""
+        order = self.window.order(number)
+        if self.in_order and order != "Next":
+            return f"{NOT_NEXT} {order}{refused}"
+        return f"{number} {self.window.take(number)}{more}"
+
+    def takes_mic(self, text, token):
+        answer = self.peer.verified(text, token)
+        return self.takes(int(answer), "") if answer.isdigit() else answer
+
+    def takes_wrap(self, token):
+        answer = self.peer.unwrapped(token)
+        number, _, rest = answer.partition(" ")
+        if not number.isdigit():
+            return answer
+        return self.takes(int(number), f" {rest}", f" {token[:16].hex()}{'00' * (len(token) - 16)}")
+
+
 def rotated(body, rotation):
     at = len(body) - rotation % len(body)
     return body[at:] + body[:at]
@@ -105,9 +175,9 @@ def lengths(it, drawn):
     for size in (*range(50), 1000, 70000):
         text, confounder, number = drawn.randbytes(size), drawn.randbytes(16), drawn.getrandbits(64)
         tokens = it.mic(number, text), it.seal(number, confounder, text), it.plain(number, text)
-        calls = (("mic", f"{number} {hexed(text)}"), ("seal", f"{number} {confounder.hex()} {hexed(text)}"),
+        heads = (("mic", f"{number} {hexed(text)}"), ("seal", f"{number} {confounder.hex()} {hexed(text)}"),
                  ("plain", f"{number} {hexed(text)}"))
-        for call, token in zip(calls, tokens):
+        for call, token in zip(heads, tokens):
             more, right = written(call, token)
             lines, answers = lines + more, answers + right
         lines += [f"verify {hexed(text)} {tokens[0].hex()}", f"unwrap {tokens[1].hex()}", f"unwrap {tokens[2].hex()}"]
@@ -157,26 +227,88 @@ def faults(it, drawn):
 def order(drawn):
     """Numbers near each other and far, at both ends of what 64 bits can say."""
     for first in (0, 5, 2**32 - 1, 2**64 - 70):
-        lines, answers, taken = [f"window {first}"], ["kept"], set()
+        lines, answers, window = [f"window {first}"], ["kept"], Window(first)
         for _ in range(400):
-            following = max(taken, default=first - 1) + 1
-            number = drawn.choice([following, following + drawn.randrange(70), following - drawn.randrange(1, 140)])
-            number = max(0, min(2**64 - 1, number))
+            number = near(window, drawn)
             lines.append(f"take {number}")
-            is_old = number < max(first, following - 64)
-            before = "Old" if is_old else "Repeat" if number in taken else "Late"
-            answers.append("Next" if number == following else "AfterGap" if number > following else before)
-            if number >= first:
-                taken.add(number)
+            answers.append(window.take(number))
         yield f"order, from {first}", lines, answers
 
 
+def near(window, drawn):
+    following = window.following()
+    number = drawn.choice([following, following + drawn.randrange(70), following - drawn.randrange(1, 140)])
+    return max(0, min(2**64 - 1, number))
+
+
+def sides(drawn):
+    """Both sides, with each choice of subkeys, rotations and options."""
+    numbers = {"initiator": 2**32 - 2, "acceptor": 7}
+    some = [(etype, drawn.randbytes(TYPES[etype][1])) for etype in (20, 19, 20, 19)]
+    for side, initiator, acceptor in itertools.product(SIGN, (None, *some[:2]), (None, *some[2:])):
+        for session in KEYS:
+            rotation, in_order = drawn.choice([0, 28, 1, 65535]), drawn.random() < 0.5
+            yield Side(side, (session, initiator, acceptor), numbers, rotation, in_order)
+
+
+def sending(it, drawn):
+    """Tokens that a side sends, and texts of the lengths around the longest that fits."""
+    lines, answers = it.lines(), ["kept", "kept"]
+    for size, is_sealed in itertools.product((0, 1, 17, 200), (True, False)):
+        text, confounder, word = drawn.randbytes(size), drawn.randbytes(16), str(is_sealed).lower()
+        for call, make in ((("send", f"{word} {confounder.hex()} {hexed(text)}"), it.wrap),
+                           (("send-mic", hexed(text)), lambda *_: it.sent.mic(it.number, text))):
+            more, right = written(call, make(is_sealed, confounder, text))
+            # First the slice that is too short: it uses up no number.
+            lines, answers, it.number = lines + more[::-1], answers + right[::-1], it.number + 1
+        least = it.overhead(is_sealed)
+        for room in (least - 1, least + size - 1, least + size):
+            lines.append(f"limit {room} {word}")
+            answers.append(f"{room - least}" if room >= least else "none")
+    return lines, answers
+
+
+def receiving(it, drawn):
+    """Tokens of the other side, in order and not, whole and bent; and its own."""
+    lines, answers = it.lines(), ["kept", "kept"]
+    for at in range(120):
+        number = it.window.following() if at % 3 else near(it.window, drawn)
+        text, confounder = drawn.randbytes(drawn.randrange(20)), drawn.randbytes(16)
+        sender, rotation = it.sent if at % 29 == 28 else it.peer, drawn.randrange(100)
+        kind, token = drawn.choice([("mic", sender.mic(number, text)), ("wrap", sender.plain(number, text, rotation)),
+                                    ("wrap", sender.seal(number, confounder, text, b"", rotation))])
+        if at % 7 == 6:
+            token = token[:-1] + bytes([token[-1] ^ 1])
+        lines.append(f"take-mic {hexed(text)} {token.hex()}" if kind == "mic" else f"take-wrap {token.hex()}")
+        answers.append(it.takes_mic(text, token) if kind == "mic" else it.takes_wrap(token))
+    return lines, answers
+
+
+def from_mit():
+    """The stored tokens, as the other side takes them in order: under the session key, under a subkey of the initiator,
+    or under the acceptor's."""
+    other = (19, bytes(16))
+    for _, name, lines, answers in calls.stored("context"):
+        _, etype, key, side, subkey = lines[0].split()
+        held, peer = (int(etype), bytes.fromhex(key)), next(it for it in SIGN if it != side)
+        numbers = {it: int(answers[1].split()[0]) for it in SIGN}
+        taken = [line.replace("verify", "take-mic").replace("unwrap", "take-wrap") for line in lines[1:]]
+        right = [" ".join([number, "Next", *rest]) for number, *rest in (it.split() for it in answers[1:])]
+        for keys in [(other, other, held)] if subkey == "true" else [(held, None, None), (other, held, None)]:
+            it = Side(peer, keys, numbers, in_order=True)
+            yield PROGRAM, f"taken in order, {name}", it.lines() + taken, ["kept", "kept"] + right
+
+
 def drawn(seed=1):
-    """Cases of each sender, and of windows."""
+    """Cases of each sender, of windows and of sides."""
     source = random.Random(seed)
     for it in senders():
         for make in (lengths, kinds, faults):
             yield PROGRAM, f"{make.__name__}, {it.line()}", *make(it, source)
     for name, lines, answers in order(source):
         yield PROGRAM, name, lines, answers
+    for it in sides(source):
+        for make in (sending, receiving):
+            yield PROGRAM, f"{make.__name__}, {' '.join(it.lines())}", *make(it, source)
+    yield from from_mit()
     yield PROGRAM, "sides", ["peer initiator", "peer acceptor"], ["Acceptor", "Initiator"]

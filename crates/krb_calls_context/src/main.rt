@@ -11,13 +11,25 @@
 //! peer SIDE                           the other side
 //! window FIRST                        keeps the window of a side that took nothing: kept
 //! take NUMBER                         how the number stands to those before it
+//! agree KEY KEY KEY NUMBER NUMBER     keeps what both sides agreed on: the session key, the initiator's subkey and the acceptor's, each
+//!                                     ETYPE BYTES (0 - if there is none), the initiator's first number and the acceptor's: kept
+//! context SIDE ROTATION IN_ORDER      keeps this side of what was agreed: kept
+//! send-mic SIZE TEXT                  a MIC token of the side, as `mic`
+//! send SIZE SEALED CONFOUNDER TEXT    a Wrap token of the side, as `seal`
+//! limit SIZE SEALED                   the length of the longest text, or none
+//! take-mic TEXT TOKEN                 the number and how it stands; or the fault
+//! take-wrap TOKEN                     the same, whether it was sealed, and the text; or the fault, and what the token is then
 //! ```
 #![tactic(auto)]
 
-use krb_context::{Direction, Role, Window};
-use krb_enc::{Key, ShortSlice};
+mod sides;
+
+use krb_context::{Agreed, Context, Direction, Role, Window};
+use krb_enc::Key;
 use krb_words::{Answer, Calls, Words, answer_lines};
+use sides::{agreed_of, context_of, limit, send, send_mic, take_mic, take_wrap};
 use std::alloc::Global;
+use std::fmt::Display;
 use std::process::ExitCode;
 
 fn main(rt: HostRuntime) -> ExitCode {
@@ -29,6 +41,8 @@ fn main(rt: HostRuntime) -> ExitCode {
 struct Kept {
     direction: Option<Direction>,
     window: Option<Window>,
+    agreed: Option<Agreed>,
+    context: Option<Context>,
 }
 
 impl Calls for Kept {
@@ -36,6 +50,8 @@ impl Calls for Kept {
         Kept {
             direction: None,
             window: None,
+            agreed: None,
+            context: None,
         }
     }
 
@@ -50,6 +66,13 @@ impl Calls for Kept {
             "peer" => out.named(side_of(words)?.peer()),
             "window" => self.keep_window(words, out),
             "take" => self.take(words, out),
+            "agree" => self.keep_agreed(words, out),
+            "context" => self.keep_context(words, out),
+            "send-mic" => send_mic(self.context.as_mut()?, words, out),
+            "send" => send(self.context.as_mut()?, words, out),
+            "limit" => limit(self.context.as_ref()?, words, out),
+            "take-mic" => take_mic(self.context.as_mut()?, words, out),
+            "take-wrap" => take_wrap(self.context.as_mut()?, words, out),
             _ => None,
         }
     }
@@ -75,9 +98,20 @@ impl Kept {
         let order = self.window.as_mut()?.take(number);
         out.named(order)
     }
+
+    fn keep_agreed(&mut self, words: &mut Words, out: &mut Answer) -> Option<()> {
+        self.agreed = Some(agreed_of(words)?);
+        out.word("kept")
+    }
+
+    fn keep_context(&mut self, words: &mut Words, out: &mut Answer) -> Option<()> {
+        let context = context_of(self.agreed.as_ref()?, words)?;
+        self.context = Some(context);
+        out.word("kept")
+    }
 }
 
-fn side_of(words: &mut Words) -> Option<Role> {
+pub(crate) fn side_of(words: &mut Words) -> Option<Role> {
     match words.next()? {
         "initiator" => Some(Role::Initiator),
         "acceptor" => Some(Role::Acceptor),
@@ -89,12 +123,16 @@ fn number_of(words: &mut Words) -> Option<u64> {
     words.next()?.parse::<u64>().ok()
 }
 
-fn slice_of(words: &mut Words) -> Option<Vec<u8>> {
+pub(crate) fn slice_of(words: &mut Words) -> Option<Vec<u8>> {
     let size = words.size()?;
     vec![in words.alloc; 0xa5; size].ok()
 }
 
-fn written(size: Result<usize, ShortSlice>, slice: &[u8], out: &mut Answer) -> Option<()> {
+pub(crate) fn written<E: Display + Drop>(
+    size: Result<usize, E>,
+    slice: &[u8],
+    out: &mut Answer,
+) -> Option<()> {
     match size {
         Ok(size) => out.shown(size)?,
         Err(fault) => out.shown(fault)?,

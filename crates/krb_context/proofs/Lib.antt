@@ -1,7 +1,13 @@
 pub mod HeaderLaws
 pub mod Windows
+pub mod Rings
 pub mod Parts
 pub mod Mics
 pub mod Wraps
 pub mod Unwraps
 pub mod Rotations
+pub mod Sends
+pub mod Sides
+pub mod Written
+pub mod Tokens
+pub mod Turns

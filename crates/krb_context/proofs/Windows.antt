@@ -3,7 +3,10 @@ use Rattle.std.proofs.Common.{◌≡◌, ◌⊎◌, inl, inr, ◌∙◌, ◌≤�
 use Rattle.std.specs.Prelude.{Contains, max}
 use Rattle.std.proofs.lemmas.Bool.{cases_lt, cases_eq}
 use Rattle.std.proofs.lemmas.List.{get_or-replicate, get_or-set_same, get_or-set_other}
-use Rattle.krb_context.specs.Sequence.{Stands, Recent, next_of}
+use Rattle.krb_context.specs.Sequence.{IsOrder, next_of, sent_numbers}
+use Rattle.krb_context.specs.declared.order.Order.{Order}
+use Rattle.krb_context.specs.declared.order.Order.TheVariants.{Next, AfterGap, Late, Repeat, Old}
+use Rattle.krb_context.specs.Inner.Ring.{Ring, StandsFor}
 
 none_is_no : (number : ℕ) → None ≡ Some number → ⊥
 none_is_no number is = cc
@@ -13,7 +16,7 @@ some_is a b is = cc
 
 -- a window in whose places nothing was put
 pub empty : (first next : ℕ) (slots : List (Option ℕ)) → next ≡ first → slots ≡ replicate 64 None
-    → Stands (record { first = first; next = next; slots = slots }) first []
+    → StandsFor (record { first = first; next = next; slots = slots }) first []
 empty first next slots next_is slots_are = record {
   first_is = refl;
   next_is = next_is;
@@ -27,10 +30,10 @@ cases_of : (x : ℕ) (xs : List ℕ) (n : ℕ) → Contains (x ∷ xs) n → (x 
 cases_of x xs n (zero, within, at) = inl at
 cases_of x xs n (suc k, within, at) = inr (k, omega (arith, within), at)
 
-in_front : (x : ℕ) (xs : List ℕ) → Contains (x ∷ xs) x
+pub in_front : (x : ℕ) (xs : List ℕ) → Contains (x ∷ xs) x
 in_front x xs = (0, omega arith, refl)
 
-after_one : (x : ℕ) (xs : List ℕ) (n : ℕ) → Contains xs n → Contains (x ∷ xs) n
+pub after_one : (x : ℕ) (xs : List ℕ) (n : ℕ) → Contains xs n → Contains (x ∷ xs) n
 after_one x xs n it = (suc it.0, omega (arith, it.1), it.2)
 
 not_in_front : (x : ℕ) (xs : List ℕ) (n : ℕ) → (x ≡ n → ⊥) → Contains (x ∷ xs) n → Contains xs n
@@ -59,8 +62,8 @@ same_place : (a b : ℕ) → a < b + 64 → b < a + 64 → a % 64 ≡ b % 64 →
 same_place a b above within same = omega (arith, same)
 
 -- a number that isn't too old is put in its place
-pub put : (w : Recent) (first number : ℕ) (taken : List ℕ) → length w.slots ≡ 64 → first ≤ number → w.next ≤ number + 64 → Stands w first taken
-    → Stands (record { first = w.first; next = max w.next (number + 1); slots = slice_set w.slots (number % 64) (Some number) }) first (number ∷ taken)
+pub put : (w : Ring) (first number : ℕ) (taken : List ℕ) → length w.slots ≡ 64 → first ≤ number → w.next ≤ number + 64 → StandsFor w first taken
+    → StandsFor (record { first = w.first; next = max w.next (number + 1); slots = slice_set w.slots (number % 64) (Some number) }) first (number ∷ taken)
 put w first number taken size from near s = record {
   first_is = s.first_is;
   next_is = omega (arith, s.next_is);
@@ -86,7 +89,7 @@ put w first number taken size from near s = record {
       ];
 }
 
-next_same : (w : Recent) (first number : ℕ) (taken : List ℕ) → Stands w first taken → ((w.first ≤ number) × (w.next ≤ number + 64) → ⊥)
+next_same : (w : Ring) (first number : ℕ) (taken : List ℕ) → StandsFor w first taken → ((w.first ≤ number) × (w.next ≤ number + 64) → ⊥)
     → w.next ≡ next_of first (number ∷ taken)
 next_same w first number taken s far =
     elim (cases_lt number (w.next)) [
@@ -95,8 +98,8 @@ next_same w first number taken s far =
     ]
 
 -- one that is too old changes nothing
-pub too_old : (w : Recent) (first number : ℕ) (taken : List ℕ) → Stands w first taken → ((w.first ≤ number) × (w.next ≤ number + 64) → ⊥)
-    → Stands w first (number ∷ taken)
+pub too_old : (w : Ring) (first number : ℕ) (taken : List ℕ) → StandsFor w first taken → ((w.first ≤ number) × (w.next ≤ number + 64) → ⊥)
+    → StandsFor w first (number ∷ taken)
 too_old w first number taken s far = record {
   first_is = s.first_is;
   next_is = next_same w first number taken s far;
@@ -107,3 +110,47 @@ too_old w first number taken s far = record {
         | inr there ↦ s.all n recent there
       ];
 }
+
+-- the numbers that a side sends
+awaited : (first count : ℕ) → next_of first (sent_numbers first count) ≡ first + count
+awaited first zero = omega arith
+awaited first (suc count) = omega (arith, awaited first count)
+
+pub in_order : (first count : ℕ) → IsOrder first (sent_numbers first count) (first + count) Next
+in_order first count = sym (awaited first count)
+
+-- a number that was taken isn't new
+pub once : (first : ℕ) (taken : List ℕ) (number : ℕ) (order : Order) → IsOrder first taken number order → Contains taken number → (order ≡ Repeat) ⊎ (order ≡ Old)
+once first taken number Next it there = absurd (omega (arith, it, below first taken number there))
+once first taken number AfterGap it there = absurd (omega (arith, it, below first taken number there))
+once first taken number Late it there = absurd (it.1 there)
+once first taken number Repeat it there = inl refl
+once first taken number Old it there = inr refl
+
+-- a number stands in one way to those before it
+pub one_order : (first : ℕ) (taken : List ℕ) (number : ℕ) (one other : Order) → IsOrder first taken number one → IsOrder first taken number other → one ≡ other
+one_order first taken number Next Next a b = refl
+one_order first taken number Next AfterGap a b = absurd (omega (arith, a, b))
+one_order first taken number Next Late a b = absurd (omega (arith, a, b.0.before))
+one_order first taken number Next Repeat a b = absurd (omega (arith, a, b.0.before))
+one_order first taken number Next Old a b = absurd (omega (arith, a, b.0))
+one_order first taken number AfterGap Next a b = absurd (omega (arith, a, b))
+one_order first taken number AfterGap AfterGap a b = refl
+one_order first taken number AfterGap Late a b = absurd (omega (arith, a, b.0.before))
+one_order first taken number AfterGap Repeat a b = absurd (omega (arith, a, b.0.before))
+one_order first taken number AfterGap Old a b = absurd (omega (arith, a, b.0))
+one_order first taken number Late Next a b = absurd (omega (arith, b, a.0.before))
+one_order first taken number Late AfterGap a b = absurd (omega (arith, b, a.0.before))
+one_order first taken number Late Late a b = refl
+one_order first taken number Late Repeat a b = absurd (a.1 b.1)
+one_order first taken number Late Old a b = absurd (b.1 a.0)
+one_order first taken number Repeat Next a b = absurd (omega (arith, b, a.0.before))
+one_order first taken number Repeat AfterGap a b = absurd (omega (arith, b, a.0.before))
+one_order first taken number Repeat Late a b = absurd (b.1 a.1)
+one_order first taken number Repeat Repeat a b = refl
+one_order first taken number Repeat Old a b = absurd (b.1 a.0)
+one_order first taken number Old Next a b = absurd (omega (arith, b, a.0))
+one_order first taken number Old AfterGap a b = absurd (omega (arith, b, a.0))
+one_order first taken number Old Late a b = absurd (a.1 b.0)
+one_order first taken number Old Repeat a b = absurd (a.1 b.0)
+one_order first taken number Old Old a b = refl

@@ -1,3 +1,4 @@
 pub mod Headers
 pub mod Prepared
 pub mod Forms
+pub mod Ring

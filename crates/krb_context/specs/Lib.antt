@@ -3,4 +3,5 @@ pub mod Mic
 pub mod Wrap
 pub mod Faults
 pub mod Sequence
+pub mod Context
 pub mod Inner

@@ -1,5 +1,5 @@
 -- The order of the tokens that one side takes (RFC 2743, section 1.2.3). Numbers are those of RFC 4121, section 4.2.6: below 2 ^ 64.
-use Rattle.std.specs.Prelude.{◌≡◌, ◌≤◌, ◌<◌, ◌+◌, ◌%◌, ℕ, List, [], ◌∷◌, Contains, Option, None, Some, slice_index_or, max}
+use Rattle.std.specs.Prelude.{◌≡◌, ◌≤◌, ◌<◌, ◌+◌, ℕ, zero, suc, List, [], ◌∷◌, Contains, max}
 use Rattle.krb_context.specs.declared.order.Order.{Order}
 use Rattle.krb_context.specs.declared.order.Order.TheVariants.{Next, AfterGap, Late, Repeat, Old}
 
@@ -22,18 +22,20 @@ IsOrder first taken number Repeat = IsRecent first (next_of first taken) number 
 IsOrder first taken number Late = IsRecent first (next_of first taken) number × ¬ Contains taken number
 IsOrder first taken number Old = (number < next_of first taken) × ¬ IsRecent first (next_of first taken) number
 
--- what a window keeps: the first number, the one that is awaited, and for each remainder of 64 the last number that was taken
-pub record Recent : Type 0 where
+-- the numbers of so many tokens that a side sends, the last one in front
+abbrev pub sent_numbers : ℕ → ℕ → List ℕ
+sent_numbers first zero = []
+sent_numbers first (suc count) = (first + count) ∷ sent_numbers first count
+
+-- what is known of the numbers that were taken: the first one, the one that is awaited, and the recent ones, perhaps with others that were taken
+pub record Known : Type 0 where
   pub first : ℕ
   pub next : ℕ
-  pub slots : List (Option ℕ)
+  pub recent : List ℕ
 
-abbrev pub has : Recent → ℕ → Type 0
-has window number = slice_index_or window.slots (number % 64) None ≡ Some number
-
--- the window stands for these numbers, taken after `first`
-pub record Stands (window : Recent) (first : ℕ) (taken : List ℕ) : Type 0 where
-  pub first_is : window.first ≡ first
-  pub next_is : window.next ≡ next_of first taken
-  pub only : (number : ℕ) → has window number → Contains taken number
-  pub all : (number : ℕ) → IsRecent first window.next number → Contains taken number → has window number
+-- this is known of these numbers, taken after `first`
+pub record Stands (known : Known) (first : ℕ) (taken : List ℕ) : Type 0 where
+  pub first_is : known.first ≡ first
+  pub next_is : known.next ≡ next_of first taken
+  pub only : (number : ℕ) → Contains known.recent number → Contains taken number
+  pub all : (number : ℕ) → IsRecent first known.next number → Contains taken number → Contains known.recent number

@@ -14,6 +14,10 @@ pub record Sender : Type 0 where
   pub side : Role
   pub acceptor_subkey : Bool
 
+-- what the other side of the context sends is protected alike
+abbrev pub peer_sender : Sender → Sender
+peer_sender sender = record { key = sender.key; side = peer_of sender.side; acceptor_subkey = sender.acceptor_subkey }
+
 -- KG-USAGE-ACCEPTOR-SIGN and KG-USAGE-INITIATOR-SIGN (section 2)
 abbrev pub sign_usage : Role → ℕ
 sign_usage Acceptor = 23

@@ -1,5 +1,5 @@
 -- Wrap tokens (RFC 4121, sections 4.2.3 to 4.2.5 and 4.2.6.2). Texts and tokens are lists of bytes; sequence numbers are below 2 ^ 64.
-use Rattle.std.specs.Prelude.{◌≡◌, ◌<◌, ◌^◌, ◌%◌, ◌-◌, ℕ, List, ◌∷◌, ◌++◌, length, take, drop, Bool, true, false}
+use Rattle.std.specs.Prelude.{◌≡◌, ◌<◌, ◌^◌, ◌%◌, ◌-◌, ◌+◌, ℕ, List, ◌∷◌, ◌++◌, length, take, drop, Bool, true, false, if◌then◌else◌}
 use Rattle.std.specs.Int.{w16, w64, to_be_bytes}
 use Rattle.krb_enc.specs.Key.{profile_of}
 use Rattle.krb_enc.specs.Sealed.{sealed, checksum_of}
@@ -53,7 +53,7 @@ abbrev pub IsWrap : Sender → Bool → ℕ → List ℕ → List ℕ → Type 0
 IsWrap sender true number text token = IsSealed sender number text token
 IsWrap sender false number text token = IsInPlain sender number text token
 
--- what a sender writes: no filler, and an RRC of 0
+-- what a sender writes: no filler, and an RRC of 0, or another one
 abbrev pub sealed_token : Sender → List ℕ → ℕ → List ℕ → List ℕ
 sealed_token sender confounder number text =
     wrap_header (flags_of sender true) 0 0 number
@@ -63,3 +63,18 @@ abbrev pub plain_token : Sender → ℕ → List ℕ → List ℕ
 plain_token sender number text =
     wrap_header (flags_of sender false) (profile_of sender.key).tag_len 0 number
     ++ (text ++ wrap_checksum sender (flags_of sender false) number text)
+
+abbrev pub rotated_token : Sender → ℕ → List ℕ → ℕ → List ℕ → List ℕ
+rotated_token sender rotation confounder number text =
+    wrap_header (flags_of sender true) 0 rotation number
+    ++ rotated rotation (sealed (profile_of sender.key) sender.key.bytes (seal_usage sender.side) confounder (text ++ wrap_header (flags_of sender true) 0 0 number))
+
+-- sealed and rotated, or in plain
+abbrev pub wrap_token : Sender → Bool → ℕ → List ℕ → ℕ → List ℕ → List ℕ
+wrap_token sender true rotation confounder number text = rotated_token sender rotation confounder number text
+wrap_token sender false rotation confounder number text = plain_token sender number text
+
+-- how much longer than its text a token is that a sender writes: a sealed one has two headers, a confounder and a tag, one in plain a header
+-- and a checksum
+abbrev pub wrap_overhead : Sender → Bool → ℕ
+wrap_overhead sender is_sealed = (if is_sealed then 48 else 16) + (profile_of sender.key).tag_len

@@ -1,11 +1,11 @@
 //! What protects the tokens that one side sends.
 
-ghost use Rattle.std.specs.Prelude.{◌≡◌, ◌+◌, ◌%◌, ◌/◌, ◌≤◌, ◌-◌, ◌++◌, ◌↔◌, ℕ, List, IfOk, IfErr, IfSome, IsNone, IsOkAnd, IsErrOf, IsOk, IsTrue, length, take, drop, replicate, Ok, if◌then◌else◌, Bool, true, false};
+ghost use Rattle.std.specs.Prelude.{◌≡◌, ◌<◌, ◌+◌, ◌%◌, ◌/◌, ◌≤◌, ◌-◌, ◌++◌, ◌↔◌, ℕ, List, IfOk, IfErr, IfSome, IsNone, IsOkAnd, IsErrOf, IsOk, IsTrue, length, take, drop, replicate, Ok, if◌then◌else◌, Bool, true, false};
 ghost use Rattle.krb_enc.specs.Key.{KeyValue, profile_of};
 ghost use Rattle.krb_enc.specs.Written.{IsWritten};
 ghost use Rattle.krb_context.specs.Side.{Sender, HasFlags, flags_of, sender_flag};
 ghost use Rattle.krb_context.specs.Mic.{IsMic, mic_token};
-ghost use Rattle.krb_context.specs.Wrap.{IsWrap, plain_token, sealed_token, wrap_checksum, wrap_header};
+ghost use Rattle.krb_context.specs.Wrap.{IsWrap, plain_token, rotated, rotated_token, sealed_token, wrap_checksum, wrap_header, wrap_overhead, wrap_token};
 ghost use Rattle.krb_context.specs.Faults.{HasRoom, IsMicFault, IsWrapFault, sender_bit, subkey_bit};
 ghost use Rattle.krb_context.specs.Inner.Forms.{Holds, IsFlagFault, IsFormed, OpensTo};
 ghost use Rattle.krb_context.specs.Inner.Prepared.{IsPrepared, sender_of};
@@ -159,7 +159,7 @@ impl Direction {
         ensures { IsWritten ShortSlice (λ needed. record { needed = needed })
             (sealed_token self.now confounder.now number text.now) token.old token.new result }
     {
-        let header = self.wrap_header(true, 0, number);
+        let header = self.wrap_header(true, 0, 0, number);
         let body_len = CONFOUNDER_LEN + text.len() + HEADER_LEN + self.sealing.tag_len();
         let needed = HEADER_LEN + body_len;
         if token.len() < needed {
@@ -192,9 +192,60 @@ impl Direction {
     {
         let checksum = self
             .checksums
-            .checksum(&[text, &self.wrap_header(false, 0, number)]);
-        let header = self.wrap_header(false, self.sealing.tag_len() as u16, number);
+            .checksum(&[text, &self.wrap_header(false, 0, 0, number)]);
+        let header = self.wrap_header(false, self.sealing.tag_len() as u16, 0, number);
         put(&header, text, &checksum, token)
+    }
+
+    // Writes the sealed Wrap token as `seal_to` does, rotated by `rotation` bytes.
+    fn seal_rotated_to(
+        &self,
+        rotation: u16,
+        number: u64,
+        confounder: &[u8; 16],
+        text: &[u8],
+        token: &mut [u8],
+    ) -> Result<usize, ShortSlice>
+        ensures { IsWritten ShortSlice (λ needed. record { needed = needed })
+            (rotated_token self.now rotation confounder.now number text.now) token.old token.new result }
+    {
+        let size = self.seal_to(number, confounder, text, token)?;
+        let header = self.wrap_header(true, 0, rotation, number);
+        rotate(&header, rotation, &mut token[..size]);
+        Ok(size)
+    }
+
+    // Writes the Wrap token, sealed and rotated or in plain.
+    pub(crate) fn wrap_to(
+        &self,
+        is_sealed: bool,
+        rotation: u16,
+        number: u64,
+        confounder: &[u8; 16],
+        text: &[u8],
+        token: &mut [u8],
+    ) -> Result<usize, ShortSlice>
+        ensures { IsWritten ShortSlice (λ needed. record { needed = needed })
+            (wrap_token self.now is_sealed rotation confounder.now number text.now) token.old token.new result }
+    {
+        if is_sealed {
+            self.seal_rotated_to(rotation, number, confounder, text, token)
+        } else {
+            self.wrap_in_plain_to(number, text, token)
+        }
+    }
+
+    // How much longer than its text a Wrap token is.
+    pub(crate) fn wrap_overhead(&self, is_sealed: bool) -> usize
+        ensures value { result ≡ wrap_overhead self.now is_sealed }
+        ensures most { result ≤ 72 }
+    {
+        let beside_tag = if is_sealed {
+            HEADER_LEN + CONFOUNDER_LEN + HEADER_LEN
+        } else {
+            HEADER_LEN
+        };
+        beside_tag + self.sealing.tag_len()
     }
 
     /// Opens a Wrap token of this side in place, and returns where its text is in `token`.
@@ -219,7 +270,8 @@ impl Direction {
     pub fn unwrap(&self, token: &mut [u8]) -> Result<Unwrapped, MessageFault>
         ensures ok { IfOk result (λ it.
             IsWrap self.now it.is_sealed it.number (take it.len (drop it.start token.new)) token.old) }
-        ensures within { IfOk result (λ it. it.start + it.len ≤ length token.new) }
+        ensures within { IfOk result (λ it. (16 ≤ it.start) × (it.start + it.len ≤ length token.new)) }
+        ensures header { take 16 token.new ≡ take 16 token.old }
         ensures found { (is_sealed : Bool) (number : ℕ) (text : List ℕ)
             → IsWrap self.now is_sealed number text token.old
             → IsOkAnd result (λ it. (it.is_sealed ≡ is_sealed) × (it.number ≡ number)
@@ -245,13 +297,19 @@ impl Direction {
         })
     }
 
-    fn wrap_header(&self, is_sealed: bool, extra: u16, number: u64) -> [u8; HEADER_LEN]
-        ensures { result ≡ wrap_header (flags_of self.now is_sealed) extra 0 number }
+    fn wrap_header(
+        &self,
+        is_sealed: bool,
+        extra: u16,
+        rotation: u16,
+        number: u64,
+    ) -> [u8; HEADER_LEN]
+        ensures { result ≡ wrap_header (flags_of self.now is_sealed) extra rotation number }
     {
         WrapHeader {
             flags: self.flags(is_sealed),
             extra,
-            rotation: 0,
+            rotation,
             number,
         }
         .bytes()
@@ -408,6 +466,16 @@ fn put(
     let (end, _) = rest.split_at_mut(checksum.len());
     end.copy_from_slice(checksum);
     Ok(needed)
+}
+
+// Gives a token that isn't rotated another header, and rotates what comes after it.
+fn rotate(header: &[u8; HEADER_LEN], rotation: u16, token: &mut [u8])
+    requires { 16 < length token.old }
+    ensures { token.new ≡ header.now ++ rotated rotation (drop 16 token.old) }
+{
+    let (front, body) = token.split_at_mut(HEADER_LEN);
+    front.copy_from_slice(header);
+    body.rotate_right(usize::from(rotation) % body.len());
 }
 
 // Writes a text and a header after it to where they stand in a body before it is sealed.

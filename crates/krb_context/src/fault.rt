@@ -1,5 +1,9 @@
-//! Why a token isn't one of the text, or of the context.
+//! Why a token isn't one of the text, or of the context; and why none is written.
 
+ghost use Rattle.std.specs.Prelude.{◌≡◌};
+ghost use Rattle.krb_context.specs.declared.fault.ReceiveFault.TheVariants.{NotAccepted};
+
+use crate::order::Order;
 use thiserror::Error;
 
 /// Why a token isn't accepted.
@@ -18,4 +22,37 @@ pub enum MessageFault {
     /// The checksum or the tag is wrong, or the sealed header differs from the token's.
     #[error("the checksum is wrong")]
     Integrity,
+}
+
+/// Why a side of a context sends no token.
+#[derive(Clone, Copy, Debug, PartialEq, Eq, Error)]
+pub enum SendFault {
+    /// The slice is shorter than the token, which has this many bytes.
+    #[error("the slice has fewer than {needed} bytes")]
+    ShortSlice {
+        /// The length of the token.
+        needed: usize,
+    },
+    /// The side has sent a token with the number 2^64 - 1, the last one.
+    #[error("all sequence numbers are used up")]
+    NumbersUsedUp,
+}
+
+/// Why a side of a context doesn't take a token.
+#[derive(Clone, Copy, Debug, PartialEq, Eq, Error)]
+pub enum ReceiveFault {
+    /// It isn't a token of the other side, or not of the text.
+    #[error("{0}")]
+    NotAccepted(MessageFault),
+    /// It is a token of the other side, but not the next one, and the side takes them only in order.
+    #[error("the token isn't the next one")]
+    OutOfOrder(Order),
+}
+
+impl From<MessageFault> for ReceiveFault {
+    ghost from_gives = { λ fault refusal. refusal ≡ NotAccepted fault };
+
+    fn from(fault: MessageFault) -> ReceiveFault {
+        ReceiveFault::NotAccepted(fault)
+    }
 }

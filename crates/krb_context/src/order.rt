@@ -23,6 +23,15 @@ pub enum Order {
     Old,
 }
 
+impl Order {
+    /// Returns whether it is the next one.
+    pub fn is_next(self) -> bool
+        ensures { IsTrue result ↔ (self ≡ Order.Next) }
+    {
+        matches!(self, Order::Next)
+    }
+}
+
 /// The numbers of the tokens that were taken: the next one, and those of the 64 before it.
 #[derive(Drop)]
 pub struct Window {
@@ -32,14 +41,14 @@ pub struct Window {
 }
 
 impl Model for Window {
-    ghost use Rattle.std.specs.Prelude.{◌≤◌, ◌^◌};
-    ghost use Rattle.krb_context.specs.Sequence.{Recent};
+    ghost use Rattle.krb_context.specs.Sequence.{Known};
+    ghost use Rattle.krb_context.specs.Inner.Ring.{IsRing, known_of};
 
-    ghost Value = { Recent };
+    ghost Value = { Known };
 
-    ghost view = { λ w. record { first = w.first; next = w.next; slots = w.slots } };
+    ghost view = { λ w. known_of w.first w.next w.slots };
 
-    ghost invariant = { λ w. w.next ≤ 2 ^ 64 };
+    ghost invariant = { λ w. IsRing w.next w.slots };
 }
 
 impl Window {
@@ -62,11 +71,19 @@ impl Window {
             → Stands self.new first (number ∷ taken) }
     {
         let order = self.order(number);
+        self.mark(number);
+        order
+    }
+
+    // Takes a number.
+    pub(crate) fn mark(&mut self, number: u64)
+        ensures { (first : ℕ) (taken : List ℕ) → Stands self.old first taken
+            → Stands self.new first (number ∷ taken) }
+    {
         if self.is_near(number) {
             self.slots[(number % 64) as usize] = Some(number);
             self.next = self.next.max(u128::from(number) + 1);
         }
-        order
     }
 
     // Whether a number isn't before the first, nor more than 64 before the next.
@@ -76,8 +93,8 @@ impl Window {
         self.first <= number && self.next <= u128::from(number) + 64
     }
 
-    // How a number stands to those that were taken.
-    fn order(&self, number: u64) -> Order
+    /// Returns how a number stands to those that were taken, and takes nothing.
+    pub fn order(&self, number: u64) -> Order
         ensures { (first : ℕ) (taken : List ℕ) → Stands self.now first taken
             → IsOrder first taken number result }
     {

@@ -1,7 +1,10 @@
--- The keys that a direction holds.
-use Rattle.std.specs.Prelude.{◌≡◌, Bool}
+-- The keys that a direction holds, and what a side of a context holds.
+use Rattle.std.specs.Prelude.{◌≡◌, ℕ, Bool, Option}
 use Rattle.krb_enc.specs.Key.{KeyValue, UsageKeyValue}
 use Rattle.krb_context.specs.Side.{Sender, sign_usage, seal_usage}
+use Rattle.krb_context.specs.Sequence.{Known}
+use Rattle.krb_context.specs.Context.{State}
+use Rattle.krb_context.specs.declared.agreed.Options.{Options}
 use Rattle.krb_context.specs.declared.role.Role.{Role}
 
 abbrev pub sender_of : KeyValue → Role → Bool → Sender
@@ -12,3 +15,6 @@ pub record IsPrepared (side : Role) (mics checksums sealing : UsageKeyValue) : T
   pub mics_are : mics ≡ record { key = sealing.key; usage = sign_usage side }
   pub checksums_are : checksums ≡ record { key = sealing.key; usage = seal_usage side }
   pub sealing_is : sealing.usage ≡ seal_usage side
+
+abbrev pub state_of : Sender → Options → Option ℕ → Known → State
+state_of sender options next window = record { sender = sender; options = options; next = next; window = window }

@@ -1,0 +1,56 @@
+-- The next token that one side sends and the other takes.
+use Rattle.std.proofs.Common.{◌≡◌, ◌∙◌, ◌⊎◌, ◌<◌, ◌+◌, ◌^◌, ℕ, List, ◌∷◌, Bool, length, Some, None, sym, ap, subst, add-one, arith}
+use Rattle.std.specs.Prelude.{All, if◌then◌else◌}
+use Rattle.std.proofs.lemmas.Bool.{lt-ltb}
+use Rattle.krb_context.specs.Side.{Sender, peer_sender}
+use Rattle.krb_context.specs.Mic.{IsMic, mic_token}
+use Rattle.krb_context.specs.Wrap.{IsWrap, wrap_token}
+use Rattle.krb_context.specs.Sequence.{Stands, sent_numbers}
+use Rattle.krb_context.specs.Context.{State, HasOrder, IsNextFor, IsOutOfOrder, Takes, number_after}
+use Rattle.krb_context.specs.declared.order.Order.{Order}
+use Rattle.krb_context.specs.declared.order.Order.TheVariants.{Next, Repeat, Old}
+use Rattle.krb_context.specs.declared.fault.ReceiveFault.{ReceiveFault}
+use Rattle.krb_context.specs.declared.fault.ReceiveFault.TheVariants.{NotAccepted, OutOfOrder}
+use Rattle.krb_context.proofs.Windows.{in_order, once, one_order, in_front}
+use Rattle.krb_context.proofs.Written.{mic_is_read, wrap_is_read}
+
+pub next_wrap : (from to : State) (first count : ℕ) (is_sealed : Bool) (confounder text : List ℕ)
+    → IsNextFor from to first count → length confounder ≡ 16 → All (λ byte. byte < 256) confounder → All (λ byte. byte < 256) text
+    → IsWrap (peer_sender to.sender) is_sealed (first + count) text (wrap_token from.sender is_sealed from.options.rotation confounder (first + count) text)
+next_wrap from to first count is_sealed confounder text next size confounder_bytes bytes =
+    subst (λ (s : Sender). IsWrap s is_sealed (first + count) text (wrap_token from.sender is_sealed from.options.rotation confounder (first + count) text)) next.sender_is
+    (wrap_is_read from.sender is_sealed from.options.rotation confounder (first + count) text next.fits next.rotation_fits size confounder_bytes bytes)
+
+pub next_mic : (from to : State) (first count : ℕ) (text : List ℕ) → IsNextFor from to first count
+    → IsMic (peer_sender to.sender) (first + count) text (mic_token from.sender (first + count) text)
+next_mic from to first count text next =
+    subst (λ (s : Sender). IsMic s (first + count) text (mic_token from.sender (first + count) text)) next.sender_is (mic_is_read from.sender (first + count) text next.fits)
+
+pub next_order : (from to : State) (first count : ℕ) (order : Order) → IsNextFor from to first count → HasOrder to.window (first + count) order → order ≡ Next
+next_order from to first count order next has =
+    one_order first (sent_numbers first count) (first + count) order Next (has first (sent_numbers first count) next.took) (in_order first count)
+
+pub not_refused : (from to : State) (first count : ℕ) (fault : ReceiveFault) → IsNextFor from to first count → IsOutOfOrder to (first + count) fault → ⊥
+not_refused from to first count (NotAccepted fault) next it = it
+not_refused from to first count (OutOfOrder order) next it = it.1 (next_order from to first count order next it.2)
+
+pub taken_again : (from to after : State) (first count : ℕ) (order : Order) → IsNextFor from to first count → Takes to (first + count) Next after
+    → HasOrder after.window (first + count) order → (order ≡ Repeat) ⊎ (order ≡ Old)
+taken_again from to after first count order next takes has =
+    let taken : List ℕ = (first + count) ∷ sent_numbers first count in
+    once first taken (first + count) order (has first taken (takes.taken first (sent_numbers first count) next.took)) (in_front (first + count) (sent_numbers first count))
+
+one_more : (number : ℕ) → number + 1 < 2 ^ 64 → number_after number ≡ Some (number + 1)
+one_more number fits = ap (λ (b : Bool). if b then Some (number + 1) else None) (lt-ltb (number + 1) (2 ^ 64) fits)
+
+pub goes_on : (from to after : State) (first count : ℕ) → IsNextFor from to first count → Takes to (first + count) Next after → first + count + 1 < 2 ^ 64
+    → IsNextFor (record from { next = number_after (first + count) }) after first (count + 1)
+goes_on from to after first count next takes fits =
+    let sum : first + count + 1 ≡ first + (count + 1) = omega arith in
+    record {
+      sender_is = next.sender_is ∙ ap (λ (s : State). peer_sender s.sender) (sym takes.rest);
+      next_is = one_more (first + count) fits ∙ ap (λ (n : ℕ). Some n) sum;
+      fits = omega (arith, fits);
+      rotation_fits = next.rotation_fits;
+      took = subst (λ (n : ℕ). Stands after.window first (sent_numbers first n)) (sym (add-one count)) (takes.taken first (sent_numbers first count) next.took);
+    }

@@ -1,0 +1,106 @@
+-- A side of a context: what both sides agreed on, what it sends, and what it took (RFC 4121, sections 2 and 4.2; RFC 2743, section 1.2.3).
+use Rattle.std.specs.Prelude.{◌≡◌, ◌≢◌, ◌+◌, ◌<◌, ◌^◌, ℕ, List, ◌∷◌, ◌++◌, Bool, IsTrue, Option, Some, None, Result, Err, IsOk, IsErr, is_some, length, take, replicate, ◌-◌, nat_lt, if◌then◌else◌}
+use Rattle.krb_enc.specs.Key.{KeyValue}
+use Rattle.krb_enc.specs.Written.{IsWritten}
+use Rattle.krb_context.specs.Side.{Sender, peer_sender}
+use Rattle.krb_context.specs.Mic.{IsMic}
+use Rattle.krb_context.specs.Wrap.{IsWrap}
+use Rattle.krb_context.specs.Faults.{IsMicFault, IsWrapFault}
+use Rattle.krb_context.specs.Sequence.{Known, Stands, IsOrder, sent_numbers}
+use Rattle.krb_context.specs.declared.agreed.Agreed.{Agreed}
+use Rattle.krb_context.specs.declared.agreed.Options.{Options}
+use Rattle.krb_context.specs.declared.role.Role.{Role}
+use Rattle.krb_context.specs.declared.role.Role.TheVariants.{Initiator, Acceptor}
+use Rattle.krb_context.specs.declared.order.Order.{Order}
+use Rattle.krb_context.specs.declared.order.Order.TheVariants.{Next}
+use Rattle.krb_context.specs.declared.fault.MessageFault.TheVariants.{Defective, Direction, OtherKey, Integrity}
+use Rattle.krb_context.specs.declared.fault.SendFault.{SendFault}
+use Rattle.krb_context.specs.declared.fault.SendFault.TheVariants.{ShortSlice, NumbersUsedUp}
+use Rattle.krb_context.specs.declared.fault.ReceiveFault.{ReceiveFault}
+use Rattle.krb_context.specs.declared.fault.ReceiveFault.TheVariants.{NotAccepted, OutOfOrder}
+
+abbrev pub key_or : Option KeyValue → KeyValue → KeyValue
+key_or (Some key) other = key
+key_or None other = other
+
+-- the acceptor's subkey if it has one, else the initiator's if it has one, else the session key (RFC 4121, section 2)
+abbrev pub key_of : Agreed → KeyValue
+key_of agreed = key_or agreed.acceptor_subkey (key_or agreed.initiator_subkey agreed.session_key)
+
+-- what protects the tokens that a side sends
+abbrev pub sender_in : Agreed → Role → Sender
+sender_in agreed side = record { key = key_of agreed; side = side; acceptor_subkey = is_some agreed.acceptor_subkey }
+
+-- the number of the first token that a side sends
+abbrev pub first_of : Agreed → Role → ℕ
+first_of agreed Initiator = agreed.initiator_number
+first_of agreed Acceptor = agreed.acceptor_number
+
+-- one side: what protects the tokens that it sends, how it writes and takes tokens, the number of the next one that it sends (none if all are
+-- used up), and what it knows of those that it took
+pub record State : Type 0 where
+  pub sender : Sender
+  pub options : Options
+  pub next : Option ℕ
+  pub window : Known
+
+-- numbers are below 2 ^ 64
+abbrev pub number_after : ℕ → Option ℕ
+number_after number = if nat_lt (number + 1) (2 ^ 64) then Some (number + 1) else None
+
+-- A side sends the token that is written with its next number. It writes nothing if all numbers are used up, or if the slice is too short.
+pub record IsSent (token_of : ℕ → List ℕ) (old new : State) (before after : List ℕ) (result : Result ℕ SendFault) : Type 0 where
+  pub written : (number : ℕ) → old.next ≡ Some number → IsWritten SendFault ShortSlice (token_of number) before after result
+  pub counted : (number : ℕ) → old.next ≡ Some number → IsOk result → new ≡ record old { next = number_after number }
+  pub used_up : old.next ≡ None → (result ≡ Err NumbersUsedUp) × (after ≡ before)
+  pub stays : IsErr result → new ≡ old
+
+-- how a number stands to all that were taken
+abbrev pub HasOrder : Known → ℕ → Order → Type 0
+HasOrder window number order = (first : ℕ) (taken : List ℕ) → Stands window first taken → IsOrder first taken number order
+
+-- a side takes a token with this number, and nothing else of it changes
+pub record Takes (old : State) (number : ℕ) (order : Order) (new : State) : Type 0 where
+  pub has_order : HasOrder old.window number order
+  pub in_order : IsTrue old.options.is_in_order → order ≡ Next
+  pub taken : (first : ℕ) (taken : List ℕ) → Stands old.window first taken → Stands new.window first (number ∷ taken)
+  pub rest : new ≡ record old { window = new.window }
+
+-- the side takes tokens in order alone, and this number isn't the next one
+abbrev pub IsOutOfOrder : State → ℕ → ReceiveFault → Type 0
+IsOutOfOrder side number (NotAccepted fault) = ⊥
+IsOutOfOrder side number (OutOfOrder order) =
+    IsTrue side.options.is_in_order × (order ≢ Next) × HasOrder side.window number order
+
+-- why a side doesn't take a MIC token
+abbrev pub IsMicRefusal : State → List ℕ → List ℕ → ReceiveFault → Type 0
+IsMicRefusal side text token (NotAccepted fault) = IsMicFault (peer_sender side.sender) text token fault
+IsMicRefusal side text token (OutOfOrder order) =
+    (number : ℕ) × IsMic (peer_sender side.sender) number text token × IsOutOfOrder side number (OutOfOrder order)
+
+-- why a side doesn't take a Wrap token
+abbrev pub IsWrapRefusal : State → List ℕ → ReceiveFault → Type 0
+IsWrapRefusal side token (NotAccepted fault) = IsWrapFault (peer_sender side.sender) token fault
+IsWrapRefusal side token (OutOfOrder order) =
+    (is_sealed : Bool) × (number : ℕ) × (text : List ℕ) × IsWrap (peer_sender side.sender) is_sealed number text token
+    × IsOutOfOrder side number (OutOfOrder order)
+
+-- nothing but zeros is left after the header of a token
+abbrev pub IsCleared : List ℕ → List ℕ → Type 0
+IsCleared before after = after ≡ take 16 before ++ replicate (length before - 16) 0
+
+-- what is left of a Wrap token that isn't taken: it is unchanged if nothing was decrypted
+abbrev pub LeavesToken : ReceiveFault → List ℕ → List ℕ → Type 0
+LeavesToken (NotAccepted Defective) before after = after ≡ before
+LeavesToken (NotAccepted Direction) before after = after ≡ before
+LeavesToken (NotAccepted OtherKey) before after = after ≡ before
+LeavesToken (NotAccepted Integrity) before after = IsCleared before after
+LeavesToken (OutOfOrder order) before after = IsCleared before after
+
+-- one side sends what the other takes, and the other took the tokens that it sent so far, each once and in order
+pub record IsNextFor (from to : State) (first count : ℕ) : Type 0 where
+  pub sender_is : from.sender ≡ peer_sender to.sender
+  pub next_is : from.next ≡ Some (first + count)
+  pub fits : first + count < 2 ^ 64
+  pub rotation_fits : from.options.rotation < 2 ^ 16
+  pub took : Stands to.window first (sent_numbers first count)
