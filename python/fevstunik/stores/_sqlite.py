@@ -15,7 +15,7 @@ from typing import TypeVar
 from .._errors import StoreFailed
 from .._values import Moment
 from ._folder import check_file, check_folder, locked
-from ._store import SECONDS, Asked, Made, clock, micros, skew_of
+from ._store import SECONDS, Connected, Made, clock, micros, skew_of
 
 _BOOT = Path("/proc/sys/kernel/random/boot_id")
 # Names of a boot, and what SQLite puts after a file's name.
@@ -62,7 +62,7 @@ class _File:
             wait = min(2 * wait, 0.002)
 
 
-class SQLite(Asked[_File]):
+class SQLite(Connected[_File]):
     """A store in a file, for all processes of one machine: by SQLite, as Python has it.
 
     path          the file, as ``"/run/web/stamps"``; the name of the machine's boot is put after its name. Its folder belongs to the service's user
