@@ -95,7 +95,7 @@ class SQLite(Connected[_File]):
             raise ValueError(f"a boot is named by letters, digits and hyphens, not {self._boot!r}")
         given = Path(os.path.abspath(path))
         self._checked, self._folder, self._name = not unchecked, given.parent.resolve(), given.name
-        self.path = self._folder / f"{self._name}.{self._boot}"
+        self.path = self._folder / f"{self._name}.boot-{self._boot}"
         try:
             if self._checked:
                 check_folder(self._folder)
@@ -117,7 +117,7 @@ class SQLite(Connected[_File]):
 
     def _remove_others(self) -> None:
         """Remove what earlier boots have left, and what is left of a file that was removed."""
-        names = re.compile(rf"{re.escape(self._name)}\.{_NAME.pattern}(\.new)?(-wal|-shm|-journal)?")
+        names = re.compile(rf"{re.escape(self._name)}\.boot-{_NAME.pattern}(\.new)?(-wal|-shm|-journal)?")
         for it in self._folder.iterdir():
             if names.fullmatch(it.name):
                 it.unlink()
