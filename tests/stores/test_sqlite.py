@@ -71,6 +71,22 @@ def test_a_store_after_a_fork(path):
     assert not store.add(b"both", LATER)
 
 
+def test_a_fork_while_a_store_is_asked(path):
+    """The child would take the parent's locks for its own: it refuses, and the parent goes on."""
+    store = SQLite(path)
+    busy = store._connection()
+
+    def child(_):
+        for call in (lambda: store.add(b"a", LATER), lambda: SQLite(path)):
+            with pytest.raises(StoreFailed, match="forked"):
+                call()
+        return True
+
+    assert in_processes(1, child) == [True] and store.add(b"a", LATER)
+    store._shut(busy)
+    assert in_processes(2, lambda number: store.add(b"%d" % number, LATER)) == [True, True]
+
+
 # ---------------------------------------------------------------- who makes it, and when
 
 
@@ -255,6 +271,7 @@ def test_another_process_makes_it(path):
 
 def test_a_full_disk(path):
     store = SQLite(path)
+    store.add(b"first", LATER)
     connection, = store._idle()
     pages, = connection.base.execute("PRAGMA page_count").fetchone()
     connection.base.execute(f"PRAGMA max_page_count = {pages + 1}")

@@ -7,12 +7,14 @@ import re
 import sqlite3
 import time
 import urllib.parse
+import weakref
 from collections.abc import Callable
 from contextlib import suppress
 from pathlib import Path
 from typing import TypeVar
 
 from .._errors import StoreFailed
+from .._library import here
 from .._values import Moment
 from ._folder import check_file, check_folder, locked
 from ._store import SECONDS, Connected, Made, clock, micros, skew_of
@@ -104,8 +106,10 @@ class SQLite(Connected[_File]):
         except (OSError, sqlite3.Error) as fault:
             raise StoreFailed(f"{self.path}: {fault}") from fault
         self._made = made
-        self._idle().append(connection)
+        # (so a process that only makes the store can be forked in any way)
+        self._shut(connection)
         made.for_skew(largest_skew)
+        _stores.add(self)
 
     def _make_if_lacking(self, largest_skew: int) -> None:
         if self.path.exists():
@@ -140,7 +144,9 @@ class SQLite(Connected[_File]):
         try:
             if self._checked:
                 check_file(self.path)
+            _look_for_a_fork()
             file = _File(self.path, self._no_answer)
+            _open_now.add(file)
             try:
                 boot, *made = file.run(last, "SELECT boot, made, largest_skew FROM store").fetchone()
                 file.base.execute("PRAGMA synchronous = OFF")
@@ -150,6 +156,8 @@ class SQLite(Connected[_File]):
             except BaseException:
                 self._shut(file)
                 raise
+        except FileNotFoundError:
+            raise self._removed() from None
         except (OSError, sqlite3.Error, TypeError) as fault:
             raise StoreFailed(f"{self.path}: {fault}") from fault
         return file, Made(*made)
@@ -188,11 +196,39 @@ class SQLite(Connected[_File]):
         except FileNotFoundError:
             is_there = False
         if not is_there:
-            raise StoreFailed(f"{self.path} was removed: start the services that use it again")
+            raise self._removed()
+
+    def _removed(self) -> StoreFailed:
+        return StoreFailed(f"{self.path} was removed: start the services that use it again")
 
     def _shut(self, connection: _File) -> None:
+        _open_now.discard(connection)
         with suppress(sqlite3.Error):
             connection.base.close()
+
+
+# SQLite doesn't notice a fork, and takes locks of the parent for its own, on the same file: so nothing is open when a process forks; and if a call of
+# another thread is, the child doesn't open a file.
+_stores: weakref.WeakSet[SQLite] = weakref.WeakSet()
+_open_now: weakref.WeakSet[_File] = weakref.WeakSet()
+_process = here()
+
+
+def _look_for_a_fork() -> None:
+    global _process
+    if _process != here():
+        if _open_now:
+            raise StoreFailed("another thread was asking a store when this process was forked")
+        _process = here()
+
+
+def _before_fork() -> None:
+    for it in list(_stores):
+        with suppress(StoreFailed):
+            it.close()
+
+
+os.register_at_fork(before=_before_fork)
 
 
 def _identity(path: Path) -> tuple[int, int]:
