@@ -112,7 +112,7 @@ class Phases:
     def __init__(self, store, instances, plain, killed, last):
         self.rng, self.store, self.instances = random.Random(4120), store, instances
         self.plain, self.killed = plain, killed
-        self.broken, self.down, self.back = last[::4], last[1::4], [*last[2::4], *last[3::4]]
+        self.broken, self.down, self.back = last[::2], last[1::4], last[3::4]
         # How often each request was let in so far.
         self.let_in = Counter()
 
@@ -181,7 +181,8 @@ class Phases:
 
 
 def in_time(store, instance, requests):
-    """A store that is stopped, before an instance has connected to it and after."""
+    """A store that is stopped after an instance has connected to it."""
+    yield "an instance that has started", is_it(instance.asked(next(requests)), ACCEPTED)
     for when in ("at first", "later"):
         store.signalled(signal.SIGSTOP)
         began = time.monotonic()
