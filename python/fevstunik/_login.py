@@ -265,15 +265,16 @@ class _Waiting:
                  later: Callable[[], Moment]) -> None:
         self._connection, self._store, self._carried, self._let_in, self._later = connection, store, carried, let_in, later
         self._known = connection._known()
-        self._stamp = Known(**self._known).stamp(store.largest_skew)
         self._said: Code = Code.STORE_FAILED
         self._fault: Exception | None = None
 
     def ask(self) -> None:
         """Ask the store, which may take long. No lock is held."""
         try:
-            is_new = self._store.add(self._stamp.data, self._stamp.keep_until)
-        except (StoreFailed, MemoryError) as fault:
+            # (after the year 9999 there is no moment until which to keep it)
+            stamp = Known(**self._known).stamp(self._store.largest_skew)
+            is_new = self._store.add(stamp.data, stamp.keep_until)
+        except (StoreFailed, Fault, MemoryError) as fault:
             self._fault = fault
             return
         except BaseException:

@@ -258,6 +258,15 @@ def test_memory_runs_out(cache, monkeypatch, name):
     assert isinstance(refused, Refused) and (refused.cause, store) == (Code.OUT_OF_MEMORY, [])
 
 
+def test_no_moment_until_which_to_keep_a_stamp(cache, monkeypatch):
+    """The service is asked in the year 9999."""
+    call, none, store = _library.Library.call, _interface.Answer(Code.BAD_MOMENT), Asked(True)
+    monkeypatch.setattr(_library.Library, "call", lambda self, called, *words: (
+        none if called == "accepted_stamp" else call(self, called, *words)))
+    refused = serving(store).answer(request(cache), NOW)
+    assert (refused.cause, store.asked) == (Code.STORE_FAILED, []) and refused.__cause__.code == Code.BAD_MOMENT
+
+
 def no_memory(*_):
     raise MemoryError
 
