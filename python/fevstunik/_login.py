@@ -434,7 +434,11 @@ class Service(Serving):
         >>> asyncio.run(service.answer_async(request, now=1_700_000_100)).client
         'alice@EX'
         """
-        return await self.login().answer_async(data, now)
+        try:
+            connection = self.login()
+        except MemoryError:
+            return Refused(Code.OUT_OF_MEMORY)
+        return await connection.answer_async(data, now)
 
     def login(self) -> Connection:
         """Return the login of one client, which may take several rounds.

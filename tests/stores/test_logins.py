@@ -275,11 +275,12 @@ def no_memory(*_):
     (os, "urandom"), (_login.ctypes, "create_string_buffer"), (_login.ctypes, "string_at"), (_login, "octets"),
     (_login, "_LoginHandle"), (_login, "_later"), (_login.Asked, "read")])
 @pytest.mark.parametrize("store", [None, Asked(True), Asked(False), Asked(MemoryError())])
-def test_pythons_memory_runs_out(cache, monkeypatch, module, name, store):
+@pytest.mark.parametrize("is_async", [False, True])
+def test_pythons_memory_runs_out(cache, monkeypatch, module, name, store, is_async):
     """It is a refusal, and no exception."""
     service, token = alone() if store is None else serving(store), request(cache)
     monkeypatch.setattr(module, name, no_memory)
-    decision = service.answer(token, NOW)
+    decision = asyncio.run(service.answer_async(token, NOW)) if is_async else service.answer(token, NOW)
     if isinstance(decision, Refused):
         assert decision.cause in (Code.OUT_OF_MEMORY, Code.REPEAT)
     else:

@@ -29,7 +29,7 @@ REQUESTS, MORE = int(os.environ.get("STORES_REQUESTS", "300")), 20
 KILLS = 4
 # How long a process waits for the store while both run on a busy machine, and where that is tested; how long a phase
 # may take; and how long a process that is started again, which on a machine that does nothing else is below a second.
-PATIENT, IMPATIENT, SECONDS, STARTING = 20, 1, 90, 5
+PATIENT, IMPATIENT, SECONDS, STARTING = 20, 1, 120, 5
 JUST_STARTED, SKEW = ("refused", "JUST_STARTED"), ("refused", "SKEW")
 # Runs a program over the package whose boot is named by a file.
 WITH_BOOT = """
@@ -155,7 +155,8 @@ class Phases:
     def all_again(self):
         """Instances that have forgotten all get what they got before."""
         self.start_again()
-        self.delivered([*self.plain[:500], *self.killed, *self.broken, *self.down, *self.back])
+        let_in = [it for part in (self.plain, self.killed, self.broken, self.back) for it in part[:250]]
+        self.delivered([*let_in, *self.down])
         yield "what was let in before isn't let in again by instances that have forgotten it", self.none_twice()
         down = Counter(self.let_in[it] for it in self.down)
         yield "what wasn't let in because the store was down is let in once", is_it(down, Counter({1: len(self.down)}))
