@@ -1,8 +1,8 @@
-"""Servers of Redis and PostgreSQL for tests (Debian's redis-server and postgresql): each in a folder of its own, on a
-socket there, with no port.
+"""Stores for tests: a file, and servers of Redis and PostgreSQL (Debian's redis-server and postgresql), each in a
+folder of its own, on a socket there, with no port.
 
-They keep what they were told, also when they are killed, as docs/OPERATING.md configures it. The table of PostgreSQL is
-the document's.
+They keep what they were told, also when they are killed, as docs/OPERATING.md configures it. `age` makes a store one
+that has been in use for long: then there is no pause any more.
 """
 import contextlib
 import glob
@@ -12,19 +12,23 @@ import pwd
 import re
 import shutil
 import signal
+import sqlite3
 import subprocess
 import tempfile
 import time
 from pathlib import Path
 
+from fevstunik.stores import PostgreSQL, SQLite
+
 from support import TOP
 
-SECONDS = 60
+SECONDS, AGE = 60, 1000
 
 
 def statements():
-    """The SQL of the document: what makes the table, and what deletes old stamps."""
-    return re.findall(r"^ *```sql\n(.*?)^ *```$", (TOP / "docs/OPERATING.md").read_text(), re.S | re.M)
+    """The SQL of the document, which makes the database."""
+    (found,) = re.findall(r"^ *```sql\n(.*?)^ *```$", (TOP / "docs/OPERATING.md").read_text(), re.S | re.M)
+    return found.strip().splitlines()
 
 
 def wait_for(is_so, what, process=None):
@@ -37,6 +41,34 @@ def wait_for(is_so, what, process=None):
 
 def said(words, **more):
     return subprocess.run([str(it) for it in words], capture_output=True, text=True, timeout=SECONDS, **more)
+
+
+class File:
+    """A store in a file, and the name of a boot in another one."""
+    name = "SQLite"
+
+    def __init__(self, place=None):
+        self.folder = Path(tempfile.mkdtemp(prefix="sqlite-", dir=place))
+        self.path, self.boot_file, self.boots = self.folder / "stamps", self.folder / "boot", 0
+
+    def start(self):
+        self.boot()
+
+    def boot(self):
+        self.boots += 1
+        self.boot_file.write_text(f"boot-{self.boots}\n")
+
+    def opened(self):
+        return SQLite(self.path, boot=self.boot_file.read_text().strip())
+
+    def age(self):
+        store = self.opened()
+        with contextlib.closing(sqlite3.connect(store.path)) as base, base:
+            base.execute("UPDATE store SET made = made - ?", (AGE * 1_000_000,))
+        store.close()
+
+    def close(self):
+        shutil.rmtree(self.folder)
 
 
 class Server:
@@ -69,7 +101,7 @@ class Redis(Server):
     def __init__(self):
         super().__init__()
         self.socket = self.folder / "redis.sock"
-        self.words = ["--redis", self.socket]
+        self.where = f"unix://{self.socket}"
 
     def start(self, users="", wanted="PONG\n"):
         more = f'port 0\nunixsocket {self.socket}\ndir {self.folder}\nsave ""\n{users}'
@@ -82,6 +114,9 @@ class Redis(Server):
     def start_with_user(self, password):
         """Starts it with the document's users. Nobody may do anything without a password, not even a ping."""
         self.start(lines_of_redis("user").replace("HASH", hashlib.sha256(password.encode()).hexdigest()), "NOAUTH")
+
+    def age(self):
+        self.said("set", "fevstunik-store", f"{(int(time.time()) - AGE) * 1_000_000} 300")
 
     def said(self, *command, user=()):
         """What redis-cli prints of a command; the user is a name and a password."""
@@ -96,7 +131,7 @@ class Postgres(Server):
 
     def __init__(self):
         super().__init__()
-        self.words = ["--postgres", f"host={self.folder} dbname=postgres user=web"]
+        self.where = f"host={self.folder} dbname=web user=web"
         self.user, self.tools = {}, None
 
     def make(self):
@@ -124,13 +159,17 @@ class Postgres(Server):
         wait_for(lambda: said([self.tools / "pg_isready", "-q", "-h", self.folder]).returncode == 0,
                  "postgres doesn't answer", self.process)
         if is_first:
-            self.run("CREATE ROLE web LOGIN")
-            self.run(statements()[0])
+            for it in statements():
+                self.run(it, "postgres")
 
-    def run(self, statement):
+    def age(self):
+        PostgreSQL(self.where).close()
+        self.run(f"UPDATE fevstunik_store SET made = made - {AGE * 1_000_000}")
+
+    def run(self, statement, database="web"):
         """What psql says of a statement."""
         ran = said([self.tools / "psql", "-h", self.folder, "-U", "postgres", "-v", "ON_ERROR_STOP=1", "-c", statement,
-                    "postgres"])
+                    database])
         if ran.returncode:
             raise OSError(ran.stderr)
         return ran.stdout.strip()
