@@ -1,0 +1,46 @@
+"""What docs/WEB.md shows is run: the applications by their commands, and each term is one of Negotiate."""
+import inspect
+import re
+import shlex
+
+import pytest
+
+from fevstunik import Service
+from fevstunik.web import Negotiate
+from support import TOP, kdc, web, web_servers
+
+pytestmark = [pytest.mark.packages, pytest.mark.slow]
+TEXT = (TOP / "docs/WEB.md").read_text()
+
+
+def page(title):
+    """The program and the command of a page."""
+    text = re.search(rf"^## {title}\n(.*?)(?=^## )", TEXT, re.S | re.M)[1]
+    return [re.search(rf"^```{kind}\n(.*?)^```$", text, re.S | re.M)[1] for kind in ("python", "sh")]
+
+
+@pytest.mark.parametrize("title, greeting", [("gunicorn", b"hello alice@EX\n"), ("uvicorn", b"hello alice@EX\n")])
+def test_from_nothing_to_a_login(tmp_path, monkeypatch, keytab, title, greeting):
+    """The paths and the name are the tests'; the keys are new, so nobody waits."""
+    program, command = page(title)
+    assert len([it for it in program.splitlines() if "egotiate" in it]) == 3
+    (tmp_path / "run").mkdir(mode=0o700)
+    store = f'store="{tmp_path}/run/stamps", ' if "store" in inspect.signature(Service).parameters else ""
+    for old, new in (("/etc/web/www.keytab", str(keytab)), ("HTTP/www.example.com@EXAMPLE.COM", web.NAME),
+                     ('store="/run/web/stamps"', f"{store}first_life=True")):
+        assert old in program
+        program = program.replace(old, new)
+    (tmp_path / "app.py").write_text(program)
+    port = kdc.free_port()
+    words = shlex.split(command.replace("8000", str(port)))
+    monkeypatch.chdir(tmp_path)
+    with web_servers.Server(tmp_path, ["/usr/bin/python3", "-m", *words], port) as server:
+        assert server.ask().status == 401
+        answer = server.ask(token=web.token())
+        assert (answer.status, answer.body) == (200, greeting) and answer.token
+
+
+def test_terms():
+    named = re.findall(r"^\| (`.*?) \|", TEXT, re.M)
+    listed = {it for row in named for it in re.findall(r"`(\w+)`", row)}
+    assert set(inspect.signature(Negotiate).parameters) <= listed
