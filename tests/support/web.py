@@ -28,10 +28,10 @@ def ticket(client, realm, flags, kvno, service, hours, size):
 
 
 def request(client=(b"alice",), *, realm=b"EX", flags=1 << 19, kvno=3, service=(b"host", b"web"), hours=8, size=0,
-            mutual=True, bindings=None, ahead=0):
+            mutual=True, bindings=None, checksum=None, ahead=0):
     """A request whose clock is ahead by so many seconds. No two have the same time."""
     now = time.time() + ahead
-    checksum = None if bindings is None else fixture.context(mutual, bindings=bindings)
+    checksum = checksum if bindings is None else fixture.context(mutual, bindings=bindings)
     auth = der.authenticator(realm, der.name(1, *client), next(_micros) % 1_000_000, int(now), checksum=checksum)
     cipher = sealed(19, fixture.SESSION_KEY, 11, os.urandom(16), auth)
     of = ticket(client, realm, flags, kvno, service, hours, size)

@@ -156,6 +156,8 @@ def test_two_rounds(made, over):
     answer = ask(headers=first)
     assert (answer.status, answer.token) == (401, gss_rules.response(gss_rules.KERBEROS, None, 1))
     assert ask(headers=later, port="4712").status == 401
+    # Another client of the same proxy doesn't get into it.
+    assert ask(headers=authorized(negotiate(token()))).status == 200
     assert ask(headers=later).status == 200
 
 

@@ -5,7 +5,7 @@ import time
 
 import pytest
 
-from fevstunik.web import Sessions
+from fevstunik.web import Sessions, Users
 
 from support.web import negotiate, token
 
@@ -112,6 +112,14 @@ def test_a_cookie_of_another_service(made, over, tmp_path):
     key = tmp_path / "session.key"
     cookie = cookie_of(logged_in(over(made(sessions=Sessions(key=key), service=None))))
     assert with_cookie(over(made(sessions=Sessions(key=key))), cookie) == 401
+
+
+def test_rules_that_have_changed(made, over, tmp_path):
+    def asking(**rules):
+        users = Users(realms={"EX": "{user}"}, **rules)
+        return over(made(sessions=Sessions(key=tmp_path / "session.key"), users=users))
+    cookie = cookie_of(logged_in(asking()))
+    assert [with_cookie(asking(only=[it]), cookie) for it in ("alice", "bob")] == ["alice", 401]
 
 
 @pytest.mark.parametrize("mode, size", [(0o640, 32), (0o604, 32), (0o600, 31), (0o600, 33), (0o600, 0)])

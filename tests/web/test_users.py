@@ -38,6 +38,7 @@ RULES = Users(realms={"EX": "{user}", "PARTNER": "{user}@{realm}", "A@B/C": "{us
     ("@EX", None),
     ("alice/@EX", None),
     ("/alice@EX", None),
+    ("WELLKNOWN/ANONYMOUS@EX", None),
 ])
 def test_names(client, name):
     if name is not None:
@@ -122,6 +123,12 @@ def test_channels(made, over, certificates, rule, sent, status, which):
     value = [("Authorization", negotiate(token(bindings=bindings)))]
     assert ask(headers=value).status == status
     assert ask(headers=value).status == 401
+
+
+def test_a_checksum_that_cannot_be_read(made, over, certificates):
+    ask = over(made(certificates=certificates[0]))
+    value = negotiate(token(checksum=web.der.key(0x8003, bytes(5))))
+    assert ask(headers=[("Authorization", value)]).status == 401
 
 
 def test_certificates_are_read_again(made, over, certificates, tmp_path, monkeypatch):

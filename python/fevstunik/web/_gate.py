@@ -12,6 +12,7 @@ from dataclasses import dataclass
 from http import HTTPStatus
 
 from .._codes import Code
+from .._errors import Fault
 from .._login import Login
 from .._service import Refused
 from .._tokens import GoOn
@@ -77,7 +78,11 @@ class Terms:
             hashes = self.certificates.known
         if not hashes:
             return True
-        context = login.context
+        try:
+            context = login.context
+        except Fault:
+            # (what can't be read doesn't say that there are none)
+            return False
         sent = _UNBOUND if context is None else context.bindings
         return sent in hashes or (sent == _UNBOUND and not self.needs_bindings)
 

@@ -62,7 +62,7 @@ class Negotiate:
         given: dict[str, Any] = {
             "skew": skew, "first_life": first_life, "limit": limit, "limit_for_client": limit_for_client,
             "anonymous": users.anonymous, "realms": users.realms, **({} if store is None else {"store": store})}
-        cookies = None if sessions is None else Cookies(sessions, service or "")
+        cookies = None if sessions is None else Cookies(sessions, service or "", users)
         self._gate = Gate(lambda: Serving(path, service, given), terms, cookies)
         self._waits = store is not None
 

@@ -212,4 +212,9 @@ def serve(app: App, listener: socket.socket) -> None:
             _log.error("no connection is taken: %s", error)
             time.sleep(0.1)
             continue
-        threading.Thread(target=run, args=(stream, peer), daemon=True).start()
+        try:
+            threading.Thread(target=run, args=(stream, peer), daemon=True).start()
+        except RuntimeError as error:
+            _log.error("no thread for a connection: %s", error)
+            stream.close()
+            free.release()

@@ -17,6 +17,8 @@ from ._files import Watched, keytab_for
 
 # How many clients may be between two rounds of a negotiation, and for how many seconds.
 _ROUNDS, _PATIENCE = 1024, 60.0
+# A NegTokenResp begins with it (RFC 4178, section 4.2).
+_GOES_ON = b"\xa1"
 _log = logging.getLogger("fevstunik.web")
 
 
@@ -42,7 +44,8 @@ class Serving:
     def answer(self, token: bytes, connection: Hashable) -> Login | GoOn | Refused:
         """Decide about a token. `connection` stands for the client's connection: the second round of a negotiation comes over the same."""
         self._look(False)
-        going_on = self._taken(connection)
+        # (a proxy's connection carries requests of several clients, so a token that begins a negotiation never goes on with another's)
+        going_on = self._taken(connection) if token.startswith(_GOES_ON) else None
         login = going_on or self._service.login()
         decision = login.answer(token)
         if isinstance(decision, Refused) and decision.code == Code.BAD_KEY_VERSION and self._look(True) and not going_on:

@@ -14,7 +14,7 @@ from dataclasses import dataclass
 from .._errors import Fault
 from .._values import Key
 from ._files import Path, Watched, session_key
-from ._users import User
+from ._users import NotAllowed, User, Users
 
 # Of those that RFC 3961 leaves to applications (1024 to 2047, even ones for sealing).
 USAGE = 1100
@@ -59,8 +59,8 @@ class Sessions:
 class Cookies:
     """The cookies of sessions of a service."""
 
-    def __init__(self, sessions: Sessions, service: str) -> None:
-        self._seconds, self._service, self.logout = int(sessions.hours * 3600), service, sessions.logout
+    def __init__(self, sessions: Sessions, service: str, users: Users) -> None:
+        self._seconds, self._service, self._users, self.logout = int(sessions.hours * 3600), service, users, sessions.logout
         self.name = "__Host-fevstunik" if sessions.secure else "fevstunik"
         self._terms = "; Path=/; HttpOnly; SameSite=Lax" + ("; Secure" if sessions.secure else "")
         self._file = None if sessions.key is None else Watched(sessions.key)
@@ -103,9 +103,16 @@ class Cookies:
         except (binascii.Error, Fault):
             return None
         version, of, end, name, client, realm, *components = held
-        if version != _VERSION or of != self._service or now >= end:
+        if version != _VERSION or of != self._service or now >= end or not self._is_still(client, name):
             return None
         return User(name, client, realm, tuple(components), end)
+
+    def _is_still(self, client: str, name: str) -> bool:
+        """Whether the rules for users, which may have changed since, let the client in by this name."""
+        try:
+            return self._users.name_of(client) == name
+        except NotAllowed:
+            return False
 
     def _current(self) -> Key:
         """The key, as the file has it. If the file can't be read, the one before is kept."""

@@ -138,13 +138,15 @@ class Users:
         'alice'
         """
         components, realm = parts_of(login.client)
-        if not self.anonymous and (TicketFlags.ANONYMOUS in login.flags or components == _ANONYMOUS):
+        if not self.anonymous and TicketFlags.ANONYMOUS in login.flags:
             raise NotAllowed("the client is anonymous")
         return User(self._named(components, realm), login.client, realm, components, login.endtime, login)
 
     def _named(self, components: tuple[str, ...], realm: str) -> str:
         text = self._realms.get(realm, self._others)
-        if components == _ANONYMOUS and self.anonymous:
+        if components == _ANONYMOUS:
+            if not self.anonymous:
+                raise NotAllowed("the client is anonymous")
             # (of a realm of its own, or of one that is known)
             text = "{user}@{realm}" if text is None else text
         if text is None:
