@@ -1,9 +1,11 @@
 """What each request is answered, over WSGI and ASGI, in this process."""
 import base64
+import threading
 
 import pytest
 
 from fevstunik import open_answer
+from fevstunik.web import _gate, _negotiate
 from support import gss_rules, web
 from support.web import negotiate, token
 
@@ -244,3 +246,41 @@ def test_other_scopes_pass(made):
         seen.append(scope)
     web.asyncio.run(made().asgi(app)({"type": "lifespan"}, None, None))
     assert seen == [{"type": "lifespan"}]
+
+
+# ---------------------------------------------------------------- stores
+
+
+def test_a_store_that_is_down(made, over, monkeypatch):
+    """Nobody is let in until it is up again. Then the service is made."""
+    ask, down = over(made()), [True]
+    real = _negotiate.Serving
+
+    def serving(*words):
+        if down:
+            raise ConnectionError("no answer in 2 seconds")
+        return real(*words)
+    monkeypatch.setattr(_negotiate, "Serving", serving)
+    monkeypatch.setattr(_gate, "_store_failures", lambda: (ConnectionError,))
+    for _ in range(2):
+        answer = ask(headers=authorized(negotiate(token())))
+        assert (answer.status, answer.one("Retry-After"), answer.token) == (503, "60", None)
+    down.clear()
+    assert ask(headers=authorized(negotiate(token()))).status == 200
+
+
+def test_the_loop_goes_on_while_a_store_is_asked(made, monkeypatch):
+    """Two requests that wait for each other are both answered."""
+    both = threading.Barrier(2, timeout=20)
+    monkeypatch.setattr(_gate.Gate, "decide", lambda self, request: (both.wait(), _gate.Passed(None))[1])
+    seen = []
+
+    async def app(scope, receive, send):
+        seen.append(scope["path"])
+    inner = made(store=object()).asgi(app)
+
+    async def run():
+        scopes = ({"type": "http", "method": "GET", "path": path, "headers": []} for path in "ab")
+        await web.asyncio.gather(*(inner(it, None, None) for it in scopes))
+    web.asyncio.run(run())
+    assert sorted(seen) == ["a", "b"]
