@@ -39,6 +39,7 @@ class Code(enum.IntEnum):
     ANONYMOUS_CLIENT = 280
     FOREIGN_REALM = 290
     CHANNEL_BINDINGS = 300
+    STORE_FAILED = 310
     OUT_OF_MEMORY = 400
     SHORT_BUFFER = 401
     EMPTY_HANDLE = 402
@@ -136,6 +137,7 @@ _TEXTS = {
     Code.ANONYMOUS_CLIENT: "the client is anonymous",
     Code.FOREIGN_REALM: "the client is of a realm that isn't let in",
     Code.CHANNEL_BINDINGS: "the channel bindings aren't those of the connection",
+    Code.STORE_FAILED: "the store of stamps doesn't answer",
     Code.OUT_OF_MEMORY: "out of memory",
     Code.SHORT_BUFFER: "the buffer is too short",
     Code.EMPTY_HANDLE: "the handle is empty",

@@ -53,3 +53,32 @@ class LibraryError(OSError):
         ...
     fevstunik.LibraryError: the shared library /nowhere/libfevstunik.so.0 can't be loaded: ...
     """
+
+
+class StoreFailed(Exception):
+    """The store doesn't say in time whether a stamp is new. It may have added the stamp.
+
+    A service then lets nobody in: it refuses the client with STORE_FAILED, and the client may try again with a new request.
+
+    >>> from fevstunik.stores import StoreFailed
+    >>> print(StoreFailed("no answer in 2 seconds"))
+    no answer in 2 seconds
+    """
+
+
+class UnsafeStore(StoreFailed):
+    """A store isn't set up as its promise needs, so a request could be let in twice.
+
+    name  the setting that is wrong, as ``"appendfsync"``
+
+    >>> from fevstunik.stores import UnsafeStore
+    >>> print(UnsafeStore("appendfsync", "it is everysec, and has to be always"))
+    appendfsync: it is everysec, and has to be always
+    """
+
+    def __init__(self, name: str, why: str) -> None:
+        super().__init__(name, why)
+        self.name, self.why = name, why
+
+    def __str__(self) -> str:
+        return f"{self.name}: {self.why}"

@@ -201,7 +201,7 @@ class Handle(Secret):
 
     def __init__(self, kind: str, opaque: type[ctypes.Structure] = Opaque) -> None:
         self.library = library()
-        self._made_in = _life, os.getpid()
+        self._made_in = here()
         # (a signal handler may make a call while its thread has the lock)
         self._lock = threading.RLock()
         self._opaque: Any = opaque()
@@ -217,7 +217,7 @@ class Handle(Secret):
     def locked(self) -> threading._RLock:
         """The lock, to be entered for a call."""
         # (in a child, the lock may be held by a thread that isn't there)
-        if not _is_here(self._made_in):
+        if self._made_in != here():
             raise RuntimeError("this was made before a fork, and belongs to the process that made it")
         return self._lock
 
@@ -230,11 +230,11 @@ class Handle(Secret):
         self.call(f"{self._kind}_free")
 
 
-def _is_here(made_in: tuple[_Life, int]) -> bool:
-    """Whether this is the process, also if something has forked it without Python's knowledge."""
-    return made_in[0] is _life and made_in[1] == os.getpid()
+def here() -> tuple[object, int]:
+    """This process: no other is equal, also if something has forked it without Python's knowledge."""
+    return _life, os.getpid()
 
 
-def _free(library: Library, kind: str, opaque: ctypes.Structure, made_in: tuple[_Life, int]) -> None:
-    if _is_here(made_in):
+def _free(library: Library, kind: str, opaque: ctypes.Structure, made_in: tuple[object, int]) -> None:
+    if made_in == here():
         library.call(f"{kind}_free", byref(opaque))

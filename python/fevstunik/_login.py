@@ -3,28 +3,38 @@ from __future__ import annotations
 
 import ctypes
 import os
-from collections.abc import Iterable
+import time
+from collections.abc import Callable, Iterable
 from ctypes import byref
 from dataclasses import dataclass, field
-from typing import Any
+from typing import TYPE_CHECKING, Any
 
 from . import _interface
 from ._accepted import Known, known_by
 from ._codes import Code
-from ._errors import Fault
+from ._errors import Fault, StoreFailed
 from ._files import Keytab, kvnos_of
 from ._interface import Answer
-from ._library import Bytes, Handle, Secret, done, fault_of, library, octets, read, text_of
+from ._library import Bytes, Handle, Secret, done, fault_of, fitting, library, octets, read, text_of
 from ._service import Refused, Serving, options_of
 from ._shown import fit_for_a_line
-from ._tokens import GoOn, bindings_of
-from ._values import CONFOUNDER, Key, When, clock
+from ._tokens import GoOn, Negotiation, Token, bindings_of
+from ._values import CONFOUNDER, LAST_SECOND, Key, Moment, When, clock
+
+if TYPE_CHECKING:
+    from .stores import Store
 
 _IGNORED, _IF_SENT, _REQUIRED = range(3)
 # How many bytes of a key each type has.
 _KEYS = {None: 0, 19: 16, 20: 32}
 # The buffer for an answer: enough, but for very long names.
 _ROOM = 1024
+# The first byte of a request that comes without a token.
+_REQUEST = b"\x6e"
+# The code of RFC 4120, section 7.5.9, that belongs to what is decided after the store has spoken.
+_KERBEROS = {Code.REPEAT: 34, Code.SKEW: 37, Code.STORE_FAILED: 60}
+# The largest skew for which the file of a store is made, unless its service has a larger one.
+_SKEW = 300
 # The call wasn't made as it should be, so nothing was decided.
 _MISUSE = (Code.EMPTY_HANDLE, Code.BAD_MOMENT, Code.BAD_RANDOM)
 
@@ -120,6 +130,7 @@ class Connection(Secret):
 
     def __init__(self, service: Service) -> None:
         self._service, self._handle, self._over = service, _LoginHandle(), False
+        self._negotiation = Negotiation()
 
     def answer(self, data: Bytes, now: When | None = None) -> Login | GoOn | Refused:
         """Answer the client's next bytes, as Service.answer does. After GoOn, call it again with the client's next token.
@@ -133,14 +144,52 @@ class Connection(Secret):
         >>> print(connection.answer(b"hello"))
         NEGOTIATION_OVER: the negotiation is over: it has taken a request, or refused a token
         """
-        data = octets(data)
+        decision = self._decided(data, now)
+        if not isinstance(decision, _Waiting):
+            return decision
+        decision.ask()
+        return decision.settled()
+
+    async def answer_async(self, data: Bytes, now: When | None = None) -> Login | GoOn | Refused:
+        """Answer the client's next bytes, as `answer` does, but ask the store in another thread: the loop goes on meanwhile.
+
+        >>> import asyncio
+        >>> from fevstunik import Keytab, Service
+        >>> connection = Service(Keytab.read("examples/service.keytab"), "host/web@EX", first_life=True).login()
+        >>> print(asyncio.run(connection.answer_async(b"hello")))
+        NOT_A_TOKEN: the first byte isn't that of a token
+        """
+        from asyncio import to_thread
+        decision = self._decided(data, now)
+        if not isinstance(decision, _Waiting):
+            return decision
+        await to_thread(decision.ask)
+        return decision.settled()
+
+    def _decided(self, data: Bytes, now: When | None) -> Login | GoOn | Refused | _Waiting:
+        """What the service decides; or, if it accepts a request and has a store, what the store has to be asked."""
         with self._handle.locked():
             if self._over:
                 return Refused(Code.NEGOTIATION_OVER)
-            random = os.urandom(CONFOUNDER + _KEYS[self._service._subkey])
-            answer, reply = self._answer(data, now, random)
-            self._over = answer.code != Code.GO_ON
-            return self._decision(answer, reply, random)
+            try:
+                return self._decision(octets(data), now)
+            except MemoryError:
+                return self._out_of_memory()
+
+    def _decision(self, data: bytes, now: When | None) -> Login | GoOn | Refused | _Waiting:
+        began, random = _ticks(), os.urandom(CONFOUNDER + _KEYS[self._service._subkey])
+        answer, reply = self._answer(data, now, random)
+        self._over = answer.code != Code.GO_ON
+        if answer.code not in (Code.OK, Code.GO_ON):
+            asked, held = self._for_a_log(answer.code)
+            self._handle.close()
+            return Refused(answer.code, answer.kerberos, answer.at, reply=reply, asked=asked, held=held)
+        store, carried = self._service._store, None if self._service._store is None else self._carried(data)
+        if answer.code == Code.GO_ON:
+            return GoOn(reply)
+        if store is None or carried is None:
+            return self._let_in(self._known(), reply, random)
+        return _Waiting(self, store, carried, lambda known: self._let_in(known, reply, random), lambda: _later(now, began))
 
     def _answer(self, data: bytes, now: When | None, random: bytes) -> tuple[Answer, bytes]:
         """What the service decides, and the bytes that go back."""
@@ -157,20 +206,25 @@ class Connection(Secret):
             raise fault_of(answer)
         return answer, ctypes.string_at(buffer, answer.size)
 
-    def _decision(self, answer: Answer, reply: bytes, random: bytes) -> Login | GoOn | Refused:
-        if answer.code == Code.GO_ON:
-            return GoOn(reply)
-        if answer.code != Code.OK:
-            asked, held = self._for_a_log(answer.code)
-            self._handle.close()
-            return Refused(answer.code, answer.kerberos, answer.at, reply=reply, asked=asked, held=held)
-        try:
-            known, kind = known_by(self._handle, self._service._skew), self._service._subkey
-        except MemoryError:
-            self._handle.close()
-            return Refused(Code.OUT_OF_MEMORY)
+    def _carried(self, data: bytes) -> _Carried | None:
+        """The request of bytes that the service has taken, and what it came in; or None if none came yet."""
+        if data.startswith(_REQUEST):
+            return _Carried(data, None)
+        found = self._negotiation.take(data)
+        return _Carried(found.request, found) if isinstance(found, Token) else None
+
+    def _known(self) -> dict[str, Any]:
+        return known_by(self._handle, self._service._skew)
+
+    def _let_in(self, known: dict[str, Any], reply: bytes, random: bytes) -> Login:
+        kind = self._service._subkey
         sent = None if kind is None or not known["wants_reply"] else Key(kind, random[CONFOUNDER:])
         return Login(**known, reply=reply, service_subkey=sent)
+
+    def _out_of_memory(self) -> Refused:
+        self._over = True
+        self._handle.close()
+        return Refused(Code.OUT_OF_MEMORY)
 
     def _for_a_log(self, code: int) -> tuple[Asked | None, tuple[int, ...]]:
         """What a refused request asked for, and which version numbers the keytab has, if there is memory for it."""
@@ -179,6 +233,95 @@ class Connection(Secret):
             return asked, self._service._held(asked) if code == Code.BAD_KEY_VERSION else ()
         except MemoryError:
             return None, ()
+
+
+@dataclass(frozen=True)
+class _Carried:
+    """A request, and the token that it came in, if any."""
+
+    request: bytes
+    token: Token | None
+
+    def refusal(self, known: Known, code: Code, at: Moment) -> bytes:
+        """What goes back to a client that is refused: an error if it asked for a reply, else a negotiation's reject; nothing if it can't be made."""
+        try:
+            if not known.wants_reply:
+                return b"" if self.token is None else self.token.rejected()
+            error = Refused(code).error(known.service, now=at, name_type=known.service_type)
+            return error if self.token is None else self.token.error(error)
+        except (Fault, MemoryError):
+            return b""
+
+    def asked(self) -> Asked | None:
+        try:
+            return Asked.read(self.request)
+        except MemoryError:
+            return None
+
+
+class _Waiting:
+    """A request that the service has accepted, before its store has spoken. There is no Login yet, and nobody can read the request."""
+
+    def __init__(self, connection: Connection, store: Store, carried: _Carried, let_in: Callable[[dict[str, Any]], Login],
+                 later: Callable[[], Moment]) -> None:
+        self._connection, self._store, self._carried, self._let_in, self._later = connection, store, carried, let_in, later
+        self._known = connection._known()
+        self._stamp = Known(**self._known).stamp(store.largest_skew)
+        self._said: Code = Code.STORE_FAILED
+        self._fault: Exception | None = None
+
+    def ask(self) -> None:
+        """Ask the store, which may take long. No lock is held."""
+        try:
+            is_new = self._store.add(self._stamp.data, self._stamp.keep_until)
+        except (StoreFailed, MemoryError) as fault:
+            self._fault = fault
+            return
+        except BaseException:
+            self._connection._handle.close()
+            raise
+        # (what a store returns that isn't a bool lets nobody in)
+        self._said = Code.OK if is_new is True else Code.REPEAT if is_new is False else Code.STORE_FAILED
+
+    def settled(self) -> Login | Refused:
+        """What comes of it."""
+        connection = self._connection
+        try:
+            if isinstance(self._fault, MemoryError):
+                raise self._fault
+            code, reply = _settle(Known(**self._known), self._carried, self._said, self._later(), connection._service._skew)
+            if code == Code.OK:
+                return self._let_in(self._known)
+            refused = Refused(code, _KERBEROS[code], reply=reply, asked=self._carried.asked())
+            refused.__cause__ = self._fault
+        except MemoryError:
+            return connection._out_of_memory()
+        connection._handle.close()
+        return refused
+
+
+def _settle(known: Known, carried: _Carried, said: Code, at: Moment, skew: int) -> tuple[Code, bytes]:
+    """The last step of a login over a store: what is decided after the store has spoken, and the bytes for a client that is refused.
+
+    The service's clock is read again: of a request that is too late now, the store may have forgotten the stamp before it was asked.
+    """
+    is_late = at > Moment(known.time.seconds + skew, known.time.micros)
+    code = Code.SKEW if said == Code.OK and is_late else said
+    return code, b"" if code == Code.OK else carried.refusal(known, code, at)
+
+
+def _ticks() -> float:
+    """A clock that nobody sets, in seconds; it also counts while the machine sleeps."""
+    return time.clock_gettime(time.CLOCK_BOOTTIME)
+
+
+def _later(now: When | None, began: float) -> Moment:
+    """The service's clock, which said `now` when this clock of the machine said `began`."""
+    if now is None:
+        return Moment.now()
+    at = Moment.of(now)
+    more, micros = divmod(at.micros + int(1_000_000 * (_ticks() - began)), 1_000_000)
+    return Moment(min(at.seconds + more, LAST_SECOND), micros)
 
 
 class _LoginHandle(Handle):
@@ -199,8 +342,12 @@ class Service(Serving):
     keytab      its keys
     service     the name that is served, as ``host/web@EX``, or None for each name of the keytab, as for Acceptor
     skew        by how many seconds clocks may differ
-    started     the service's clock at this start, as time.time(); or
-    first_life  True if every key of the keytab is new: Acceptor says what both mean
+    store       what all processes of the service share, so that no two let a client in by one request: a path, as ``"/run/web/stamps"``, for the
+                processes of one machine, or another store of fevstunik.stores. The service's start is the moment at which the store was made, so
+                there is a pause when it is new, and none when the service is started again
+    started     the service's clock at this start, as time.time(), if there is no store; with one, the later start counts
+    first_life  True if every key of the keytab is new: Acceptor says what both mean. With a store this leaves out the pause after it was made.
+                Take it out again when the service has been started: after the next boot, the keys aren't new
     limit, limit_for_client
                 the most requests that it remembers, as for Acceptor
     bindings    the bindings of the channel, as tls_server_end_point returns them; None looks at no client's
@@ -209,6 +356,8 @@ class Service(Serving):
     anonymous   whether anonymous clients are let in (RFC 8062)
     realms      the realms of which clients are let in, as ["EX"], or None for any: a KDC checked the realms between
     subkey      19 or 20 to send a new key of this type with each reply, or None. Those who go on to seal messages want one
+
+    Pass a store, or just one of started and first_life. The skew is no larger than that of the store.
 
     A client that breaks these terms is Refused with ANONYMOUS_CLIENT, FOREIGN_REALM or CHANNEL_BINDINGS.
 
@@ -228,7 +377,10 @@ class Service(Serving):
     def __init__(self, keytab: Keytab, service: str | None, skew: int = 300, *, started: When | None = None, first_life: bool = False,
                  limit: int | None = None, limit_for_client: int | None = None, bindings: Bytes | None = None,
                  bindings_required: bool = False, anonymous: bool = False, realms: Iterable[str] | None = None,
-                 subkey: int | None = None) -> None:
+                 subkey: int | None = None, store: Store | str | os.PathLike[str] | None = None) -> None:
+        asked = None if store is None else _store_of(store, fitting(skew, 32))
+        if asked is not None and not first_life:
+            started = _start_over(asked, skew, started)
         options = options_of(service, skew, started, first_life, (limit, limit_for_client))
         _bind(options, bindings, _flag("bindings_required", bindings_required))
         if subkey not in _KEYS or isinstance(subkey, bool):
@@ -239,7 +391,7 @@ class Service(Serving):
         options.anonymous, options.only_realms = _flag("anonymous", anonymous), listed is not None
         options.subkey_type = subkey or 0
         super().__init__(keytab, service, skew, options)
-        self._subkey, self._keytab = subkey, keytab
+        self._subkey, self._keytab, self._store = subkey, keytab, asked
         self._kvnos: tuple[Keytab, dict[tuple[str, int], list[int]]] | None = None
         for realm in listed or []:
             done(self._handle.call("acceptor_add_realm", realm, len(realm)))
@@ -254,6 +406,10 @@ class Service(Serving):
         true. A GoOn says that the client has
         sent no request yet: to take its next token, too, use login(). If memory runs out, the client is Refused with OUT_OF_MEMORY.
 
+        A service that has a store asks it after it has accepted a request, with no lock held, and then reads its clock again: to `now`, if it was
+        passed, the time is added that has gone by. Nothing of the request can be read before. Of a stamp that the store has, the client is Refused with
+        REPEAT; if the store fails, or doesn't answer in time, with STORE_FAILED.
+
         >>> from fevstunik import Keytab, Service
         >>> request = bytes.fromhex(open("examples/calls.txt").readline().split()[2])
         >>> service = Service(Keytab.read("examples/service.keytab"), "host/web@EX", first_life=True)
@@ -262,7 +418,23 @@ class Service(Serving):
         >>> print(service.answer(request, now=1_700_000_100))
         REPEAT: a request of this service, client and time was seen before (ticket for host/web@EX, etype 19, kvno 3)
         """
-        return self.login().answer(data, now)
+        try:
+            connection = self.login()
+        except MemoryError:
+            return Refused(Code.OUT_OF_MEMORY)
+        return connection.answer(data, now)
+
+    async def answer_async(self, data: Bytes, now: When | None = None) -> Login | GoOn | Refused:
+        """Answer what a client sent, as `answer` does, but ask the store in another thread: the loop goes on meanwhile.
+
+        >>> import asyncio
+        >>> from fevstunik import Keytab, Service
+        >>> request = bytes.fromhex(open("examples/calls.txt").readline().split()[2])
+        >>> service = Service(Keytab.read("examples/service.keytab"), "host/web@EX", first_life=True)
+        >>> asyncio.run(service.answer_async(request, now=1_700_000_100)).client
+        'alice@EX'
+        """
+        return await self.login().answer_async(data, now)
 
     def login(self) -> Connection:
         """Return the login of one client, which may take several rounds.
@@ -299,6 +471,24 @@ class Service(Serving):
         if kvnos is None or kvnos[0] is not keytab:
             self._kvnos = kvnos = keytab, kvnos_of(keytab)
         return tuple(kvnos[1].get((asked.name, asked.etype), ()))
+
+
+def _store_of(store: Store | str | os.PathLike[str], skew: int) -> Store:
+    """The store that a service of this skew asks: a path stands for a file."""
+    if isinstance(store, (str, os.PathLike)):
+        from .stores import SQLite
+        store = SQLite(store, skew if skew > _SKEW else None)
+    if skew > store.largest_skew:
+        raise ValueError(f"the store is made for a skew of up to {store.largest_skew} seconds, and the service's is {skew}")
+    return store
+
+
+def _start_over(store: Store, skew: int, started: When | None) -> Moment:
+    """The start of a service that has a store. What a service with the store's largest skew may have accepted before the store was made is earlier
+    than this start by the skew."""
+    made = store.remembers_from
+    start = Moment(made.seconds + store.largest_skew - skew, made.micros)
+    return start if started is None else max(start, Moment.of(started))
 
 
 def _bind(options: _interface.AcceptorOptions, bindings: Bytes | None, required: bool) -> None:

@@ -21,6 +21,8 @@ if TYPE_CHECKING:
     from ._login import Asked
 
 FIRST_CAUSE, AFTER_CAUSES = 100, 400
+# The package's own refusal has the error KRB_ERR_GENERIC, as this one of the library.
+_AS_GENERIC = {Code.STORE_FAILED: Code.AUTHORIZATION}
 # How many version numbers a text names.
 _LISTED = 8
 
@@ -28,7 +30,8 @@ _LISTED = 8
 class Refused(Error):
     """A refusal of a request.
 
-    cause     the first cause that applies, such as ``Code.REPEAT``; from Service.answer also a fault of a token, FULL or OUT_OF_MEMORY
+    cause     the first cause that applies, such as ``Code.REPEAT``; from Service.answer also a fault of a token, FULL, OUT_OF_MEMORY or
+              STORE_FAILED, whose `__cause__` says what is wrong with the store
     code      the same
     kerberos  the error code of RFC 4120, section 7.5.9, that belongs to it
     offset    the place of the fault, if the cause is MALFORMED or TOKEN_MALFORMED
@@ -68,7 +71,7 @@ class Refused(Error):
         >>> Refused(Code.JUST_STARTED).may_pass, Refused(Code.REPEAT).may_pass
         (True, False)
         """
-        return self.code in (Code.JUST_STARTED, Code.FULL, Code.OUT_OF_MEMORY)
+        return self.code in (Code.JUST_STARTED, Code.FULL, Code.OUT_OF_MEMORY, Code.STORE_FAILED)
 
     def __str__(self) -> str:
         if self.asked is None:
@@ -92,7 +95,7 @@ class Refused(Error):
         """
         name, at = text_of(service), clock(now)
         return filled(lambda *into: library().call(
-            "error", fitting(self.code, 32), name, len(name), fitting(name_type, 32, signed=True), byref(at), *into))
+            "error", fitting(_AS_GENERIC.get(self.code, self.code), 32), name, len(name), fitting(name_type, 32, signed=True), byref(at), *into))
 
 
 class _Restart(enum.IntEnum):

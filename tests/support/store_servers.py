@@ -23,8 +23,9 @@ SECONDS = 60
 
 
 def statements():
-    """The SQL of the document: what makes the table, and what deletes old stamps."""
-    return re.findall(r"^ *```sql\n(.*?)^ *```$", (TOP / "docs/OPERATING.md").read_text(), re.S | re.M)
+    """The SQL of the document, which makes the database."""
+    (found,) = re.findall(r"^ *```sql\n(.*?)^ *```$", (TOP / "docs/OPERATING.md").read_text(), re.S | re.M)
+    return found.strip().splitlines()
 
 
 def wait_for(is_so, what, process=None):
@@ -69,7 +70,7 @@ class Redis(Server):
     def __init__(self):
         super().__init__()
         self.socket = self.folder / "redis.sock"
-        self.words = ["--redis", self.socket]
+        self.where = f"unix://{self.socket}"
 
     def start(self, users="", wanted="PONG\n"):
         more = f'port 0\nunixsocket {self.socket}\ndir {self.folder}\nsave ""\n{users}'
@@ -96,7 +97,7 @@ class Postgres(Server):
 
     def __init__(self):
         super().__init__()
-        self.words = ["--postgres", f"host={self.folder} dbname=postgres user=web"]
+        self.where = f"host={self.folder} dbname=web user=web"
         self.user, self.tools = {}, None
 
     def make(self):
@@ -124,13 +125,13 @@ class Postgres(Server):
         wait_for(lambda: said([self.tools / "pg_isready", "-q", "-h", self.folder]).returncode == 0,
                  "postgres doesn't answer", self.process)
         if is_first:
-            self.run("CREATE ROLE web LOGIN")
-            self.run(statements()[0])
+            for it in statements():
+                self.run(it, "postgres")
 
-    def run(self, statement):
+    def run(self, statement, database="web"):
         """What psql says of a statement."""
         ran = said([self.tools / "psql", "-h", self.folder, "-U", "postgres", "-v", "ON_ERROR_STOP=1", "-c", statement,
-                    "postgres"])
+                    database])
         if ran.returncode:
             raise OSError(ran.stderr)
         return ran.stdout.strip()

@@ -14,6 +14,12 @@ ok = 0
 abbrev pub go_on : ℕ
 go_on = 1
 
+abbrev pub ask_store : ℕ
+ask_store = 2
+
+abbrev pub store_failed : ℕ
+store_failed = 310
+
 abbrev pub out_of_memory : ℕ
 out_of_memory = 400
 

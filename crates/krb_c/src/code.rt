@@ -7,6 +7,8 @@ pub(crate) const OK: u32 = 0;
 
 pub(crate) const GO_ON: u32 = 1;
 
+pub(crate) const ASK_STORE: u32 = 2;
+
 pub(crate) const MESSAGE_TYPE: u32 = 100;
 
 pub(crate) const MALFORMED: u32 = 110;
@@ -48,6 +50,8 @@ pub(crate) const ANONYMOUS_CLIENT: u32 = 280;
 pub(crate) const FOREIGN_REALM: u32 = 290;
 
 pub(crate) const CHANNEL_BINDINGS: u32 = 300;
+
+pub(crate) const STORE_FAILED: u32 = 310;
 
 pub(crate) const OUT_OF_MEMORY: u32 = 400;
 

@@ -1,0 +1,200 @@
+"""A store in a file, for the processes of one machine."""
+from __future__ import annotations
+
+import os
+import random
+import re
+import sqlite3
+import time
+import urllib.parse
+from collections.abc import Callable
+from contextlib import suppress
+from pathlib import Path
+from typing import TypeVar
+
+from .._errors import StoreFailed
+from .._values import Moment
+from ._folder import check_file, check_folder, locked
+from ._store import SECONDS, Asked, Made, clock, micros, skew_of
+
+_BOOT = Path("/proc/sys/kernel/random/boot_id")
+# Names of a boot, and what SQLite puts after a file's name.
+_NAME, _BESIDE = re.compile(r"[0-9A-Za-z-]{1,64}"), ("", "-wal", "-shm", "-journal")
+# What was written before a process was killed is in the page cache: so nothing is synced, and a file is used within one boot alone.
+_TABLES = """
+PRAGMA journal_mode = WAL;
+CREATE TABLE store (boot TEXT NOT NULL, made INTEGER NOT NULL, largest_skew INTEGER NOT NULL, forgotten INTEGER NOT NULL);
+CREATE TABLE stamps (stamp BLOB PRIMARY KEY, keep_until INTEGER NOT NULL) WITHOUT ROWID;
+CREATE INDEX stamps_until ON stamps (keep_until);
+"""
+# A stamp that may have been forgotten isn't added: the clock was set back.
+_ADD = "INSERT INTO stamps SELECT ?1, ?2 WHERE ?2 > (SELECT forgotten FROM store) ON CONFLICT DO NOTHING"
+_FORGET = """DELETE FROM stamps WHERE stamp IN (SELECT stamp FROM stamps WHERE keep_until < ? ORDER BY keep_until LIMIT ?)
+RETURNING keep_until"""
+# After so many stamps, at most twice as many are forgotten.
+_PORTION = 32
+_T = TypeVar("_T")
+
+
+class _File:
+    """A connection to a file. Two processes that want to write at once try again and again."""
+
+    def __init__(self, path: Path, no_answer: Callable[[], Exception]) -> None:
+        self.file, self.no_answer, self.added = _identity(path), no_answer, 0
+        self.base = sqlite3.connect(f"file:{urllib.parse.quote(str(path))}?mode=rw", uri=True, timeout=0, isolation_level=None,
+                                    check_same_thread=False)
+
+    def run(self, last: float, statement: str, *words: object) -> sqlite3.Cursor:
+        return self.retried(last, lambda: self.base.execute(statement, words))
+
+    def retried(self, last: float, step: Callable[[], _T]) -> _T:
+        """What a step returns, which is made again while another process writes, until this moment of the monotonic clock."""
+        wait = 0.0001
+        while True:
+            try:
+                return step()
+            except sqlite3.OperationalError as fault:
+                if fault.sqlite_errorcode & 0xff not in (sqlite3.SQLITE_BUSY, sqlite3.SQLITE_LOCKED):
+                    raise
+            if time.monotonic() > last:
+                raise self.no_answer()
+            time.sleep(wait * random.random())
+            wait = min(2 * wait, 0.002)
+
+
+class SQLite(Asked[_File]):
+    """A store in a file, for all processes of one machine: by SQLite, as Python has it.
+
+    path          the file, as ``"/run/web/stamps"``; the name of the machine's boot is put after its name. Its folder belongs to the service's user
+    largest_skew  the largest skew of the services that use it, in seconds; 300 if this is left out, and the file is new
+    seconds       how long to wait for an answer: then StoreFailed is raised
+    boot          the name of the machine's boot: by default /proc/sys/kernel/random/boot_id
+    unchecked     True if the file's place and mode aren't to be looked at
+
+    The first process of a boot makes the file, and removes those of earlier boots. So clients are refused with JUST_STARTED for the skew after each
+    boot, and never after a service was started again. What a killed process has added stays. Nothing is synced: a file of another boot may lack stamps,
+    and isn't used. If the file is removed, the services that use it let nobody in until they are started again.
+
+    Raises UnsafeStore if others may write to the folder or read the file, if the file system isn't known to be on this machine, or if the file was made
+    with another largest skew.
+
+    >>> import tempfile
+    >>> from fevstunik import Moment
+    >>> store = SQLite(tempfile.mkdtemp() + "/stamps")
+    >>> store.add(b"a stamp", Moment(2_000_000_000)), store.add(b"a stamp", Moment(2_000_000_000))
+    (True, False)
+    >>> store.largest_skew, store.remembers_from <= Moment.now()
+    (300, True)
+    """
+
+    def __init__(self, path: str | os.PathLike[str], largest_skew: int | None = None, *, seconds: float = SECONDS, boot: str | None = None,
+                 unchecked: bool = False) -> None:
+        super().__init__(seconds)
+        self._boot = _BOOT.read_text().strip() if boot is None else boot
+        if not _NAME.fullmatch(self._boot):
+            raise ValueError(f"a boot is named by letters, digits and hyphens, not {self._boot!r}")
+        given = Path(os.path.abspath(path))
+        self._checked, self._folder, self._name = not unchecked, given.parent.resolve(), given.name
+        self.path = self._folder / f"{self._name}.{self._boot}"
+        try:
+            if self._checked:
+                check_folder(self._folder)
+            self._make_if_lacking(skew_of(largest_skew))
+            connection, made = self._open(self._last())
+        except (OSError, sqlite3.Error) as fault:
+            raise StoreFailed(f"{self.path}: {fault}") from fault
+        self._made = made
+        self._idle().append(connection)
+        made.for_skew(largest_skew)
+
+    def _make_if_lacking(self, largest_skew: int) -> None:
+        if self.path.exists():
+            return
+        with locked(self._folder, self._last(), self._no_answer):
+            if not self.path.exists():
+                self._remove_others()
+                self._make(largest_skew)
+
+    def _remove_others(self) -> None:
+        """Remove what earlier boots have left, and what is left of a file that was removed."""
+        names = re.compile(rf"{re.escape(self._name)}\.{_NAME.pattern}(\.new)?(-wal|-shm|-journal)?")
+        for it in self._folder.iterdir():
+            if names.fullmatch(it.name):
+                it.unlink()
+
+    def _make(self, largest_skew: int) -> None:
+        """Make the file under another name, and rename it. The clock is read after it was seen that there is none."""
+        new = self.path.with_name(f"{self.path.name}.new")
+        os.close(os.open(new, os.O_CREAT | os.O_EXCL | os.O_RDWR | os.O_CLOEXEC, 0o600))
+        os.chmod(new, 0o600)
+        base = sqlite3.connect(new, isolation_level=None)
+        try:
+            base.execute("PRAGMA synchronous = OFF")
+            base.executescript(_TABLES)
+            base.execute("INSERT INTO store VALUES (?, ?, ?, 0)", (self._boot, clock(), largest_skew))
+        finally:
+            base.close()
+        new.rename(self.path)
+
+    def _open(self, last: float) -> tuple[_File, Made]:
+        try:
+            if self._checked:
+                check_file(self.path)
+            file = _File(self.path, self._no_answer)
+            try:
+                boot, *made = file.run(last, "SELECT boot, made, largest_skew FROM store").fetchone()
+                file.base.execute("PRAGMA synchronous = OFF")
+                self._is_there(file)
+                if boot != self._boot:
+                    raise StoreFailed(f"{self.path} is of another boot")
+            except BaseException:
+                self._shut(file)
+                raise
+        except (OSError, sqlite3.Error, TypeError) as fault:
+            raise StoreFailed(f"{self.path}: {fault}") from fault
+        return file, Made(*made)
+
+    def _is_open(self, connection: _File) -> bool:
+        return True
+
+    def _add(self, connection: _File, stamp: bytes, keep_until: Moment, last: float) -> bool:
+        until = micros(keep_until)
+        try:
+            if connection.added % _PORTION == 0:
+                self._forget(connection, last)
+            connection.added += 1
+            is_new = connection.run(last, _ADD, stamp, until).rowcount == 1
+            if not is_new and connection.run(last, "SELECT forgotten >= ? FROM store", until).fetchone()[0]:
+                raise StoreFailed("the clock was set back, so the stamp may have been forgotten")
+            # (after the stamp was added: a file that is made from now on is of a later moment than the request)
+            self._is_there(connection)
+        except (OSError, sqlite3.Error) as fault:
+            raise StoreFailed(f"{self.path}: {fault}") from fault
+        return is_new
+
+    def _forget(self, connection: _File, last: float) -> None:
+        """Forget some of the stamps that needn't be kept any longer, and note up to which time they were."""
+        if connection.run(last, "SELECT 1 FROM stamps WHERE keep_until < ? LIMIT 1", clock()).fetchone() is None:
+            return
+        connection.run(last, "BEGIN IMMEDIATE")
+        with connection.base:
+            forgotten = [it for it, in connection.run(last, _FORGET, clock(), 2 * _PORTION)]
+            if forgotten:
+                connection.run(last, "UPDATE store SET forgotten = max(forgotten, ?)", max(forgotten))
+
+    def _is_there(self, connection: _File) -> None:
+        try:
+            is_there = connection.file == _identity(self.path)
+        except FileNotFoundError:
+            is_there = False
+        if not is_there:
+            raise StoreFailed(f"{self.path} was removed: start the services that use it again")
+
+    def _shut(self, connection: _File) -> None:
+        with suppress(sqlite3.Error):
+            connection.base.close()
+
+
+def _identity(path: Path) -> tuple[int, int]:
+    found = os.stat(path)
+    return found.st_dev, found.st_ino

@@ -1,0 +1,42 @@
+"""What the tests of stores share: the package runs over the built library, at the top of the repository."""
+import contextlib
+
+import fevstunik
+import pytest
+
+from support import TOP, store_servers
+
+
+@pytest.fixture(scope="session")
+def loaded(library):
+    fevstunik.load(library)
+
+
+@pytest.fixture
+def at_the_top(library, loaded, monkeypatch):
+    """Programs find the library, too, and examples name their files from the top."""
+    monkeypatch.setenv("FEVSTUNIK_LIBRARY", str(library))
+    monkeypatch.setenv("PYTHONPATH", str(TOP / "python"))
+    monkeypatch.chdir(TOP)
+
+
+def started(kind):
+    with contextlib.closing(kind()) as made:
+        made.start()
+        yield made
+
+
+@pytest.fixture(scope="module")
+def redis():
+    yield from started(store_servers.Redis)
+
+
+@pytest.fixture(scope="module")
+def postgresql():
+    yield from started(store_servers.Postgres)
+
+
+@pytest.fixture(params=["redis", "postgresql"])
+def server(request):
+    """A server of each kind that has a store."""
+    return request.getfixturevalue(request.param)
