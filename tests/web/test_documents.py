@@ -5,7 +5,6 @@ import shlex
 
 import pytest
 
-from fevstunik import Service
 from fevstunik.web import Negotiate
 from support import TOP, kdc, web, web_servers
 
@@ -25,9 +24,8 @@ def test_from_nothing_to_a_login(tmp_path, monkeypatch, keytab, title, greeting)
     program, command = page(title)
     assert len([it for it in program.splitlines() if "egotiate" in it]) == 3
     (tmp_path / "run").mkdir(mode=0o700)
-    store = f'store="{tmp_path}/run/stamps", ' if "store" in inspect.signature(Service).parameters else ""
     for old, new in (("/etc/web/www.keytab", str(keytab)), ("HTTP/www.example.com@EXAMPLE.COM", web.NAME),
-                     ('store="/run/web/stamps"', f"{store}first_life=True")):
+                     ('store="/run/web/stamps"', f'store="{tmp_path}/run/stamps", first_life=True')):
         assert old in program
         program = program.replace(old, new)
     (tmp_path / "app.py").write_text(program)

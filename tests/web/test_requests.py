@@ -5,6 +5,7 @@ import threading
 import pytest
 
 from fevstunik import open_answer
+from fevstunik.stores import StoreFailed
 from fevstunik.web import _gate, _negotiate
 from support import gss_rules, web
 from support.web import negotiate, token
@@ -258,10 +259,9 @@ def test_a_store_that_is_down(made, over, monkeypatch):
 
     def serving(*words):
         if down:
-            raise ConnectionError("no answer in 2 seconds")
+            raise StoreFailed("no answer in 2 seconds")
         return real(*words)
     monkeypatch.setattr(_negotiate, "Serving", serving)
-    monkeypatch.setattr(_gate, "_store_failures", lambda: (ConnectionError,))
     for _ in range(2):
         answer = ask(headers=authorized(negotiate(token())))
         assert (answer.status, answer.one("Retry-After"), answer.token) == (503, "60", None)

@@ -1,4 +1,5 @@
 """Applications of Flask, Django and Starlette under gunicorn and uvicorn, with tokens over the wire."""
+import random
 import re
 from concurrent.futures import ThreadPoolExecutor
 
@@ -81,3 +82,23 @@ def test_a_body_is_no_request(server, method):
     head = b"%s / HTTP/1.1\r\nHost: web\r\nContent-Length: %d\r\n\r\n" % (method, len(HIDDEN))
     answers = server.raw(head + HIDDEN)
     assert re.findall(rb"^HTTP/1\.1 (\d+)", answers, re.M) == [b"401"]
+
+
+@pytest.mark.parametrize("kind", ["Flask, gunicorn", "Flask, gunicorn, preloaded", "Starlette, uvicorn"])
+def test_a_token_is_good_once(tmp_path, keytab, kind):
+    """Over all workers, and over a restart. If the store is lost, nobody is let in."""
+    (tmp_path / "run").mkdir(mode=0o700)
+    terms = {"keytab": keytab, "service": web.NAME, "first_life": True, "store": tmp_path / "run/stamps"}
+    tokens = [web.token() for _ in range(30)]
+    order = random.sample(tokens * 6, 180)
+    start = web_servers.KINDS[kind]
+    with start(tmp_path, **terms) as server, ThreadPoolExecutor(30) as pool:
+        statuses = list(pool.map(lambda it: server.ask(token=it).status, order))
+    assert (statuses.count(200), statuses.count(401)) == (30, 150)
+    with start(tmp_path, **terms) as server:
+        assert {server.ask(token=it).status for it in tokens} == {401}
+        assert server.ask(token=web.token()).status == 200
+        for it in (tmp_path / "run").iterdir():
+            it.unlink()
+        answer = server.ask(token=web.token(), headers={"Accept": "text/html"})
+        assert (answer.status, answer.one("Retry-After")) == (503, "60") and b"STORE_FAILED" in answer.body

@@ -8,7 +8,7 @@ import os
 import socket
 import sys
 
-from .._errors import Fault
+from .._errors import Fault, StoreFailed
 from ._server import serve
 from .service import app
 
@@ -40,7 +40,7 @@ def main() -> None:
     logging.basicConfig(format="%(levelname)s %(message)s", level=logging.DEBUG if given.verbose else logging.INFO)
     try:
         serve(app(given.config), listener_at(given.socket))
-    except (OSError, ValueError, Fault, ImportError) as error:
+    except (OSError, ValueError, Fault, StoreFailed, ImportError) as error:
         sys.exit(f"fevstunik.web: {given.config}: {error}")
 
 

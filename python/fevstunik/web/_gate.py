@@ -2,7 +2,6 @@
 from __future__ import annotations
 
 import base64
-import importlib
 import logging
 import os
 import threading
@@ -12,7 +11,7 @@ from dataclasses import dataclass
 from http import HTTPStatus
 
 from .._codes import Code
-from .._errors import Fault
+from .._errors import Fault, StoreFailed
 from .._login import Login
 from .._service import Refused
 from .._tokens import GoOn
@@ -28,7 +27,6 @@ _log = logging.getLogger("fevstunik.web")
 _CHALLENGE = ("WWW-Authenticate", "Negotiate")
 # Refusals of clients that are who they say.
 _NOT_ALLOWED = (Code.ANONYMOUS_CLIENT, Code.FOREIGN_REALM)
-_STORE_FAILED = 310
 _UNBOUND = bytes(16)
 _Decided = tuple["Passed | Answer", Event]
 
@@ -134,9 +132,9 @@ class Gate:
             if self._serving is None:
                 try:
                     self._serving = self._make()
-                except _store_failures() as error:
+                except StoreFailed as error:
                     _log.error("the store can't be used: %s", error)
-                    return Refused(_STORE_FAILED)
+                    return Refused(Code.STORE_FAILED)
             serving = self._serving
         return serving.answer(token, connection)
 
@@ -146,7 +144,7 @@ class Gate:
         if isinstance(decision, GoOn):
             return Answer(HTTPStatus.UNAUTHORIZED, "GO_ON", (_header(decision.reply),)), Event("GO_ON", "the negotiation goes on")
         event = Event(decision.cause.name, str(decision), asked=decision.asked)
-        if decision.may_pass or decision.cause == _STORE_FAILED:
+        if decision.may_pass:
             return Answer(HTTPStatus.SERVICE_UNAVAILABLE, event.cause, (self._terms.retry,)), event
         if decision.cause in _NOT_ALLOWED:
             return Answer(HTTPStatus.FORBIDDEN, event.cause), event
@@ -177,14 +175,6 @@ def _begin_all() -> None:
 
 
 os.register_at_fork(after_in_child=_begin_all)
-
-
-def _store_failures() -> tuple[type[Exception], ...]:
-    """What a store raises that is down, if there are stores."""
-    try:
-        return (importlib.import_module("fevstunik.stores").StoreFailed,)
-    except ImportError:
-        return ()
 
 
 def _refused(status: HTTPStatus, cause: str, text: str, headers: Headers = ()) -> _Decided:

@@ -5,6 +5,7 @@ import os
 from collections.abc import Iterable
 from typing import Any
 
+from ..stores import SQLite, Store
 from . import _asgi, _wsgi
 from ._events import networks_of
 from ._files import Certificates, Path, content, keytab_for, realms_of
@@ -13,14 +14,17 @@ from ._serving import Serving
 from ._sessions import Cookies, Sessions
 from ._users import Users
 
+# The skew for which the file of a store is made, unless the service has a larger one.
+_SKEW = 300
+
 
 class Negotiate:
     """Logs users in, in front of an application over WSGI or ASGI.
 
     keytab        the path of the keytab with the service's keys. It is read again when it changes
     service       the name that is served, as ``HTTP/www.example.com@EXAMPLE.COM``, or None for each name of the keytab
-    store         what remembers requests for all processes, and over restarts: a path, or a store. Without it each process refuses
-                  everybody for the skew after its start
+    store         what remembers requests for all processes, and over restarts: a path, or a store of fevstunik.stores. Without it each
+                  process refuses everybody for the skew, from its first request on
     users         who is let in, and by which names: by default clients of the service's realm, as ``alice@EXAMPLE.COM``
     sessions      Sessions, or None: then each request needs a token of its own
     certificates  files with the TLS server's certificates in PEM. Channel bindings are checked against them
@@ -34,7 +38,8 @@ class Negotiate:
                   the most requests that are remembered, as for Service
     retry_after   after how many seconds a client that is answered 503 is to try again
 
-    If the keytab has no key of type 19 or 20 for the service, it raises ValueError; invalid files raise Fault, ValueError or OSError.
+    If the keytab has no key of type 19 or 20 for the service, it raises ValueError; invalid files raise Fault, ValueError or OSError, and a
+    store's file that isn't safe StoreFailed.
 
     >>> from fevstunik.web import Negotiate, Users
     >>> negotiate = Negotiate(keytab="examples/service.keytab", service="host/web@EX", users=Users(realms={"EX": "{user}"}))
@@ -48,7 +53,7 @@ class Negotiate:
     ValueError: the keytab has no key of type 19 or 20 for HTTP/web@EX
     """
 
-    def __init__(self, *, keytab: Path, service: str | None, store: object = None, users: Users | None = None,
+    def __init__(self, *, keytab: Path, service: str | None, store: Store | Path | None = None, users: Users | None = None,
                  sessions: Sessions | None = None, certificates: Iterable[Path] = (), bindings: str = "check",
                  exempt: Iterable[str] = (), proxies: Iterable[str] = (), token_limit: int = 65_536, skew: int = 300,
                  first_life: bool = False, limit: int | None = None, limit_for_client: int | None = None,
@@ -61,7 +66,7 @@ class Negotiate:
                       networks_of(_listed("proxies", proxies)), token_limit, ("Retry-After", str(retry_after)))
         given: dict[str, Any] = {
             "skew": skew, "first_life": first_life, "limit": limit, "limit_for_client": limit_for_client,
-            "anonymous": users.anonymous, "realms": users.realms, **({} if store is None else {"store": store})}
+            "anonymous": users.anonymous, "realms": users.realms, "store": _opened(store, skew)}
         cookies = None if sessions is None else Cookies(sessions, service or "", users)
         self._gate = Gate(lambda: Serving(path, service, given), terms, cookies)
         self._waits = store is not None
@@ -103,6 +108,13 @@ class Negotiate:
         {}
         """
         return self._gate.events.so_far()
+
+
+def _opened(store: Store | Path | None, skew: int) -> Store | None:
+    """The store. A file is made here, and not at the first request: nobody is let in for a while after that."""
+    if isinstance(store, (str, os.PathLike)):
+        return SQLite(store, skew if skew > _SKEW else None)
+    return store
 
 
 def _needs_bindings(bindings: str, certificates: Certificates) -> bool:

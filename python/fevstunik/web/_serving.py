@@ -35,7 +35,7 @@ class Serving:
         data = self._file.changed(at_once=True)
         if data is None:
             raise FileNotFoundError(keytab)
-        if "store" not in terms and not terms.get("first_life"):
+        if terms["store"] is None and not terms["first_life"]:
             terms = {**terms, "started": time.time()}
         self._service = Service(keytab_for(data, name), name, **terms)
         self._lock = threading.Lock()

@@ -9,20 +9,20 @@ key of sessions, without a leading ``/`` is sought beside it.
 """
 from __future__ import annotations
 
-import importlib
 import os
 import tomllib
 from collections.abc import Callable, Iterable
 from typing import Any
 from urllib.parse import quote
 
+from ..stores import PostgreSQL, Redis, Store
 from ._files import Path
 from ._negotiate import Negotiate
 from ._sessions import Sessions
 from ._users import Users
 from ._wsgi import App
 
-_STORES = {"redis": "Redis", "postgresql": "PostgreSQL"}
+_STORES: dict[str, Callable[[str], Store]] = {"redis": Redis, "postgresql": PostgreSQL}
 # The proxy is on this machine, and says who asks it.
 _PROXIES = ("127.0.0.0/8", "::1/128")
 
@@ -54,8 +54,7 @@ def negotiate_of(config: dict[str, Any]) -> Negotiate:
             given["sessions"] = Sessions(**given["sessions"])
         if isinstance(given.get("store"), dict):
             (kind, where), = given["store"].items()
-            name = _STORES[kind]
-            given["store"] = getattr(importlib.import_module("fevstunik.stores"), name)(where)
+            given["store"] = _STORES[kind](where)
         return Negotiate(**given)
     except (TypeError, KeyError, AttributeError) as error:
         raise ValueError(f"the configuration is wrong: {error}") from None
