@@ -55,7 +55,8 @@ def test_the_configuration_names_what_systemd_hands_over():
 def test_the_command_serves(unpacked, tmp_path):
     """With the keytab where systemd puts it, on the socket that systemd passes, and in memory that is never both written and run."""
     config = CONFIG.read_text().replace("HTTP/www.example.com@EXAMPLE.COM", "host/web@EX")
-    (tmp_path / CONFIG.name).write_text(config)
+    (tmp_path / "store").mkdir(mode=0o700)
+    (tmp_path / CONFIG.name).write_text(config.replace(f"/run/{value('RuntimeDirectory')}", str(tmp_path / "store")))
     (tmp_path / "www.keytab").write_bytes(KEYTAB.read_bytes())
     words = shlex.split(value("ExecStart").replace("${CREDENTIALS_DIRECTORY}", str(tmp_path)))
     command = shlex.join(["/usr/bin/python3", "-c", DENY_WRITE_EXECUTE, *words])
