@@ -60,9 +60,10 @@ def test_the_file_is_looked_at_once_a_second(made, keytab, monkeypatch):
     lambda path: replace(path, b"\x05\x02"),
     lambda path: replace(path, fixture.keytab(((3, 18, bytes(32)),))),
 ], ids=["gone", "text", "half", "empty", "other types"])
-def test_a_file_that_is_no_use_keeps_the_old_keys(made, keytab, monkeypatch, caplog, spoil):
+@pytest.mark.parametrize("before", [200, None], ids=["running", "at the first request"])
+def test_a_file_that_is_no_use_keeps_the_old_keys(made, keytab, monkeypatch, caplog, spoil, before):
     ask = web.by_wsgi(made())
-    assert asked(ask) == 200
+    assert before is None or asked(ask) == before
     monkeypatch.setattr("fevstunik.web._files._PAUSE", 0)
     spoil(keytab)
     assert [asked(ask) for _ in range(3)] == [200] * 3

@@ -68,7 +68,7 @@ class Negotiate:
             "skew": skew, "first_life": first_life, "limit": limit, "limit_for_client": limit_for_client,
             "anonymous": users.anonymous, "realms": users.realms, "store": _opened(store, skew)}
         cookies = None if sessions is None else Cookies(sessions, service or "", users)
-        self._gate = Gate(lambda: Serving(path, service, given), terms, cookies)
+        self._gate = Gate(lambda: Serving(path, data, service, given), terms, cookies)
         self._waits = store is not None
 
     def wsgi(self, app: _wsgi.App) -> _wsgi.App:

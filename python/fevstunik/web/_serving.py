@@ -25,16 +25,14 @@ _log = logging.getLogger("fevstunik.web")
 class Serving:
     """A Service that takes a changed keytab by itself.
 
-    keytab  the file
+    file    the keytab's file
+    data    what was read of it when the login was made
     name    the name that is served, or None
     terms   the other arguments of Service
     """
 
-    def __init__(self, keytab: str, name: str | None, terms: dict[str, Any]) -> None:
-        self._file, self._name = Watched(keytab), name
-        data = self._file.changed(at_once=True)
-        if data is None:
-            raise FileNotFoundError(keytab)
+    def __init__(self, file: str, data: bytes, name: str | None, terms: dict[str, Any]) -> None:
+        self._file, self._data, self._name = Watched(file), data, name
         if terms["store"] is None and not terms["first_life"]:
             terms = {**terms, "started": time.time()}
         self._service = Service(keytab_for(data, name), name, **terms)
@@ -70,9 +68,10 @@ class Serving:
         with self._lock:
             try:
                 data = self._file.changed(at_once)
-                if data is None:
+                if data is None or data == self._data:
                     return False
                 self._service.replace_keytab(keytab_for(data, self._name), self._name)
+                self._data = data
             except (OSError, ValueError, Fault) as error:
                 _log.error("the old keys are kept, since %s can't be used: %s", self._file.path, error)
                 return False

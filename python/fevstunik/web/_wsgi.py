@@ -25,7 +25,7 @@ class Middleware:
             environ.pop(name, None)
         found = self._gate.decide(request_of(environ))
         if isinstance(found, Answer):
-            return _page(found, environ, lambda *words: start_response(*words))
+            return _page(found, environ, start_response)
         if found.user is not None:
             environ["REMOTE_USER"], environ["AUTH_TYPE"] = found.user.name, "Negotiate"
             environ["fevstunik.user"], environ["fevstunik.login"] = found.user, found.user.login
