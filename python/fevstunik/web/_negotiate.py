@@ -30,7 +30,8 @@ class Negotiate:
     certificates  files with the TLS server's certificates in PEM. Channel bindings are checked against them
     bindings      ``"check"`` refuses a client that sends other bindings, ``"require"`` also one that sends none
     exempt        paths for which nobody has to log in: one path, or all below it if it ends with ``/``
-    proxies       addresses or networks of trusted proxies, whose X-Forwarded-For says the peer's address for the log
+    proxies       addresses or networks of trusted proxies, whose X-Forwarded-For says the peer's address for the log. If there is one, a
+                  peer at a Unix socket is trusted, too
     token_limit   the longest token, in bytes
     skew          by how many seconds clocks may differ
     first_life    True if every key of the keytab is new, as for Service
