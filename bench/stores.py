@@ -1,13 +1,15 @@
 #!/usr/bin/env python3
-"""Times instances of a service that share a store, and prints a table of accepted requests a second.
+"""Times instances of a service that share a store, and prints a table of logins a second, and one of what a store adds to one login.
 
     bench/stores.py
 
 Beside them are one instance without a store, and MIT krb5's krb5_rd_req with its replay cache in a file, which its processes share. Needs what
-tests/peers/test_stores.py and bench/from_c.py need. Each number is the best of some runs. Nothing here is a test, but each request has to be accepted.
+tests/stores and bench/from_c.py need. Each number is the best of some runs. Nothing here is a test, but each request has to be accepted.
 """
+import contextlib
 import itertools
 import os
+import statistics
 import subprocess
 import sys
 import tempfile
@@ -18,11 +20,23 @@ from pathlib import Path
 import exchange
 
 TOP = Path(__file__).resolve().parent.parent
-sys.path += [str(TOP / "tests")]
+sys.path += [str(TOP / "tests"), str(TOP / "python")]
 import builds  # noqa: E402
 from support import c_programs, instances, store_servers  # noqa: E402
+from fevstunik import Moment  # noqa: E402
+from fevstunik.stores import PostgreSQL, Redis, SQLite  # noqa: E402
 
 INSTANCES, REQUESTS, RUNS = (1, 2, 4), 2_000, 3
+# The stores, by what they are named in the tables: how one is made, and how it is opened. (/run is in memory on most machines.)
+STORES = (("a file in memory", lambda: AFile("/dev/shm"), SQLite), ("a file on disk", lambda: AFile(TOP / "build"), SQLite),
+          ("Redis", store_servers.Redis, Redis), ("PostgreSQL", store_servers.Postgres, PostgreSQL))
+
+
+class AFile(store_servers.File):
+    """A file of this boot."""
+
+    def boot(self):
+        self.boot_file.write_text(Path("/proc/sys/kernel/random/boot_id").read_text())
 
 
 def must(ran):
@@ -111,18 +125,36 @@ def table(folder):
 
     print("\n| accepted requests a second | " + " | ".join(f"{count} instance{'s' * (count > 1)}" for count in INSTANCES) + " |\n|---|---|---|---|")
     in_python = [instances.PYTHON, "-B", TOP / "examples/shared.py", *instances.SERVICE]
+    added = {}
     row("C, no store", (1,), timed([folder / "alone", *instances.SERVICE, "none"]))
     row("Python, no store", (1,), timed([instances.PYTHON, "-B", TOP / "examples/serve.py", *instances.SERVICE, "--first"]))
-    for make in (store_servers.Redis, store_servers.Postgres):
-        store = make()
-        try:
+    for name, make, opened in STORES:
+        with contextlib.closing(make()) as store:
             store.start()
-            if make is store_servers.Redis:
+            store.age()
+            where = store.where if hasattr(store, "where") else store.path
+            if name == "Redis":
                 row("C, Redis", INSTANCES, timed([folder / "shared", *instances.SERVICE, store.socket, 20]))
-            row(f"Python, {store.name}", INSTANCES, timed([*in_python, *store.words, "--wait", "20"]))
-        finally:
-            store.close()
+            row(f"Python, {name}", INSTANCES, timed([*in_python, where, "--wait", "20"]))
+            added[name] = micros_of(opened(where))
     row("MIT krb5 in C, a replay cache in a file", INSTANCES, lambda count: with_file(folder, count))
+
+
+    print("\n| a store adds to one login | microseconds |\n|---|---|")
+    for name, micros in added.items():
+        print(f"| {name} | {micros:,.0f} |")
+
+
+def micros_of(store):
+    """How long it takes in the median to add a stamp of a usual length, by one process."""
+    until, times = Moment(int(time.time()) + 600), []
+    for number in range(REQUESTS):
+        stamp = b"%80d" % number
+        began = time.perf_counter()
+        if not store.add(stamp, until):
+            sys.exit("a stamp isn't new")
+        times.append(time.perf_counter() - began)
+    return 1e6 * statistics.median(times)
 
 
 def tables(folder):

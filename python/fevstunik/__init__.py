@@ -5,7 +5,8 @@ A service makes one Service from its Keytab, and passes what clients send to it:
 >>> from fevstunik import Client, CredentialCache, Keytab, Login, Service
 >>> service = Service(Keytab.read("examples/service.keytab"), "host/web@EX", first_life=True)
 
-(If a service has used one of these keys before, pass started=time.time() instead.) A client makes its first token from a ticket of its
+(If a service has used one of these keys before, pass what its processes share, as store="/run/web/stamps", or else started=time.time(), instead.)
+A client makes its first token from a ticket of its
 CredentialCache:
 
 >>> client = Client(CredentialCache.read("examples/client.ccache"), "host/web@EX")

@@ -208,7 +208,7 @@ def test_no_server(server, tmp_path):
 
 
 def test_the_user_of_redis():
-    """The user of docs/OPERATING.md may use the store, and do nothing else; without a password nobody may do anything."""
+    """The user of docs/OPERATING.md may use the store, and nothing else; without a password nobody may do anything."""
     server, web = store_servers.Redis(), ("web", "a password")
     try:
         server.start_with_user(web[1])

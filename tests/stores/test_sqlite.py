@@ -71,28 +71,45 @@ def test_a_store_after_a_fork(path):
     assert not store.add(b"both", LATER)
 
 
+def test_a_fork_while_a_store_is_asked(path):
+    """The child would take the parent's locks for its own: it refuses, and the parent goes on."""
+    store = SQLite(path)
+    busy = store._connection()
+
+    def child(_):
+        for call in (lambda: store.add(b"a", LATER), lambda: SQLite(path)):
+            with pytest.raises(StoreFailed, match="forked"):
+                call()
+        return True
+
+    assert in_processes(1, child) == [True] and store.add(b"a", LATER)
+    store._shut(busy)
+    assert in_processes(2, lambda number: store.add(b"%d" % number, LATER)) == [True, True]
+
+
 # ---------------------------------------------------------------- who makes it, and when
 
 
 def test_one_of_many_makes_it(path):
     found = in_processes(16, lambda _: SQLite(path, boot="a").remembers_from)
     assert len(set(found)) == 1 and abs(found[0].seconds - NOW) < 600
-    assert {it.name for it in path.parent.iterdir()} <= {"stamps.a", "stamps.a-wal", "stamps.a-shm"}
+    assert {it.name for it in path.parent.iterdir()} <= {f"stamps.boot-a{it}" for it in ("", "-wal", "-shm")}
 
 
 def test_another_boot(path):
     """What an earlier boot has left isn't used, whatever it holds; other files stay."""
     before = SQLite(path, boot="a")
     assert before.add(b"a", LATER)
-    for name in ("stamps.c", "stamps.d-wal", "stamps.b.new", "stamps.b-wal"):
+    for name in ("stamps.boot-c", "stamps.boot-d-wal", "stamps.boot-b.new", "stamps.boot-b-wal"):
         path.with_name(name).write_bytes(os.urandom(9000))
-    others = {path.with_name(name) for name in ("stamps", "stamps.a.txt", "other.a", "xstamps.a")}
+    names = "stamps", "stamps.bak", "stamps.boot-a.txt", "other.boot-a", "xstamps.boot-a"
+    others = {path.with_name(name) for name in names}
     for it in others:
         it.write_text("")
     found = in_processes(8, lambda _: SQLite(path, boot="b").remembers_from)
     assert len(set(found)) == 1 and found[0] > before.remembers_from
-    left = set(path.parent.iterdir()) - {Path(f"{path}.b{it}") for it in ("-wal", "-shm")}
-    assert left == others | {Path(f"{path}.b")}
+    left = set(path.parent.iterdir()) - {Path(f"{path}.boot-b{it}") for it in ("-wal", "-shm")}
+    assert left == others | {Path(f"{path}.boot-b")}
     assert SQLite(path, boot="b").add(b"a", LATER)
     with pytest.raises(StoreFailed, match="was removed"):
         before.add(b"b", LATER)
@@ -114,15 +131,15 @@ def test_a_file_that_was_removed(path):
 
 @pytest.mark.parametrize("content", [b"", b"text", bytes(8192)])
 def test_a_file_that_is_no_store(path, content):
-    file = path.with_name("stamps.a")
+    file = path.with_name("stamps.boot-a")
     file.write_bytes(content)
     file.chmod(0o600)
-    with pytest.raises(StoreFailed, match="stamps.a"):
+    with pytest.raises(StoreFailed, match="stamps.boot-a"):
         SQLite(path, boot="a")
 
 
 def test_the_boot_of_this_machine(path):
-    assert SQLite(path).path.name == f"stamps.{Path('/proc/sys/kernel/random/boot_id').read_text().strip()}"
+    assert SQLite(path).path.name == f"stamps.boot-{Path('/proc/sys/kernel/random/boot_id').read_text().strip()}"
     for boot in ("", "../a", "a b", "a" * 65):
         with pytest.raises(ValueError, match="boot"):
             SQLite(path, boot=boot)
@@ -254,6 +271,7 @@ def test_another_process_makes_it(path):
 
 def test_a_full_disk(path):
     store = SQLite(path)
+    store.add(b"first", LATER)
     connection, = store._idle()
     pages, = connection.base.execute("PRAGMA page_count").fetchone()
     connection.base.execute(f"PRAGMA max_page_count = {pages + 1}")

@@ -10,7 +10,7 @@ PYTHON = "/usr/bin/python3"
 SERVICE = [TOP / "examples/service.keytab", "host/web@EX"]
 # How many requests an instance is sent before its answers are read; they fit into a pipe.
 BATCH = 40
-ACCEPTED, REPEAT, STORE = ("accepted", "alice@EX"), ("refused", "REPEAT"), ("refused", "STORE")
+ACCEPTED, REPEAT, STORE = ("accepted", "alice@EX"), ("refused", "REPEAT"), ("refused", "STORE_FAILED")
 MAKE = """
 import sys
 from fevstunik import CredentialCache, Moment, make_request
@@ -38,7 +38,9 @@ class Instance:
     def answers(self, count):
         """The first two words of so many answers, or of fewer if the instance has ended."""
         lines = (self.process.stdout.readline() for _ in range(count))
-        return [tuple(line.split()[:2]) for line in lines if line.endswith("\n")]
+        found = [tuple(line.split()[:2]) for line in lines if line.endswith("\n")]
+        # (as examples/service/shared.c says it)
+        return [STORE if it == ("refused", "STORE") else it for it in found]
 
     def asked(self, request):
         self.send([request])

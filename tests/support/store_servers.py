@@ -1,8 +1,8 @@
-"""Servers of Redis and PostgreSQL for tests (Debian's redis-server and postgresql): each in a folder of its own, on a
-socket there, with no port.
+"""Stores for tests: a file, and servers of Redis and PostgreSQL (Debian's redis-server and postgresql), each in a
+folder of its own, on a socket there, with no port.
 
-They keep what they were told, also when they are killed, as docs/OPERATING.md configures it. The table of PostgreSQL is
-the document's.
+They keep what they were told, also when they are killed, as docs/OPERATING.md configures it. `age` makes a store one
+that has been in use for long: then there is no pause any more.
 """
 import contextlib
 import glob
@@ -12,14 +12,17 @@ import pwd
 import re
 import shutil
 import signal
+import sqlite3
 import subprocess
 import tempfile
 import time
 from pathlib import Path
 
+from fevstunik.stores import PostgreSQL, SQLite
+
 from support import TOP
 
-SECONDS = 60
+SECONDS, AGE = 60, 1000
 
 
 def statements():
@@ -38,6 +41,34 @@ def wait_for(is_so, what, process=None):
 
 def said(words, **more):
     return subprocess.run([str(it) for it in words], capture_output=True, text=True, timeout=SECONDS, **more)
+
+
+class File:
+    """A store in a file, and the name of a boot in another one."""
+    name = "SQLite"
+
+    def __init__(self, place=None):
+        self.folder = Path(tempfile.mkdtemp(prefix="sqlite-", dir=place))
+        self.path, self.boot_file, self.boots = self.folder / "stamps", self.folder / "boot", 0
+
+    def start(self):
+        self.boot()
+
+    def boot(self):
+        self.boots += 1
+        self.boot_file.write_text(f"boot-{self.boots}\n")
+
+    def opened(self):
+        return SQLite(self.path, boot=self.boot_file.read_text().strip())
+
+    def age(self):
+        store = self.opened()
+        with contextlib.closing(sqlite3.connect(store.path)) as base, base:
+            base.execute("UPDATE store SET made = made - ?", (AGE * 1_000_000,))
+        store.close()
+
+    def close(self):
+        shutil.rmtree(self.folder)
 
 
 class Server:
@@ -84,6 +115,9 @@ class Redis(Server):
         """Starts it with the document's users. Nobody may do anything without a password, not even a ping."""
         self.start(lines_of_redis("user").replace("HASH", hashlib.sha256(password.encode()).hexdigest()), "NOAUTH")
 
+    def age(self):
+        self.said("set", "fevstunik-store", f"{(int(time.time()) - AGE) * 1_000_000} 300")
+
     def said(self, *command, user=()):
         """What redis-cli prints of a command; the user is a name and a password."""
         login = ["--no-auth-warning", "--user", user[0], "--pass", user[1]] if user else []
@@ -127,6 +161,10 @@ class Postgres(Server):
         if is_first:
             for it in statements():
                 self.run(it, "postgres")
+
+    def age(self):
+        PostgreSQL(self.where).close()
+        self.run(f"UPDATE fevstunik_store SET made = made - {AGE * 1_000_000}")
 
     def run(self, statement, database="web"):
         """What psql says of a statement."""

@@ -9,7 +9,7 @@ from typing import Any
 
 from .._errors import StoreFailed, UnsafeStore
 from .._values import Moment
-from ._store import SECONDS, Asked, Made, clock, micros, skew_of
+from ._store import SECONDS, Connected, Made, clock, micros, skew_of
 
 _LACKS = "SELECT to_regclass('fevstunik_stamps') IS NULL OR to_regclass('fevstunik_store') IS NULL"
 _TABLES = """
@@ -36,7 +36,7 @@ INSERT INTO fevstunik_stamps VALUES (sha256(%s), %s) ON CONFLICT DO NOTHING
 """
 
 
-class PostgreSQL(Asked[Any]):
+class PostgreSQL(Connected[Any]):
     """A store in a database of PostgreSQL. It needs the Python package psycopg2: ``fevstunik[postgresql]``.
 
     where         the database, as libpq takes it: ``"dbname=web"``, ``"host=/run/postgresql dbname=web user=web"`` or ``"postgresql://.."``

@@ -7,15 +7,17 @@ import re
 import sqlite3
 import time
 import urllib.parse
+import weakref
 from collections.abc import Callable
 from contextlib import suppress
 from pathlib import Path
 from typing import TypeVar
 
 from .._errors import StoreFailed
+from .._library import here
 from .._values import Moment
 from ._folder import check_file, check_folder, locked
-from ._store import SECONDS, Asked, Made, clock, micros, skew_of
+from ._store import SECONDS, Connected, Made, clock, micros, skew_of
 
 _BOOT = Path("/proc/sys/kernel/random/boot_id")
 # Names of a boot, and what SQLite puts after a file's name.
@@ -62,7 +64,7 @@ class _File:
             wait = min(2 * wait, 0.002)
 
 
-class SQLite(Asked[_File]):
+class SQLite(Connected[_File]):
     """A store in a file, for all processes of one machine: by SQLite, as Python has it.
 
     path          the file, as ``"/run/web/stamps"``; the name of the machine's boot is put after its name. Its folder belongs to the service's user
@@ -95,7 +97,7 @@ class SQLite(Asked[_File]):
             raise ValueError(f"a boot is named by letters, digits and hyphens, not {self._boot!r}")
         given = Path(os.path.abspath(path))
         self._checked, self._folder, self._name = not unchecked, given.parent.resolve(), given.name
-        self.path = self._folder / f"{self._name}.{self._boot}"
+        self.path = self._folder / f"{self._name}.boot-{self._boot}"
         try:
             if self._checked:
                 check_folder(self._folder)
@@ -104,8 +106,10 @@ class SQLite(Asked[_File]):
         except (OSError, sqlite3.Error) as fault:
             raise StoreFailed(f"{self.path}: {fault}") from fault
         self._made = made
-        self._idle().append(connection)
+        # (so a process that only makes the store can be forked in any way)
+        self._shut(connection)
         made.for_skew(largest_skew)
+        _stores.add(self)
 
     def _make_if_lacking(self, largest_skew: int) -> None:
         if self.path.exists():
@@ -117,7 +121,7 @@ class SQLite(Asked[_File]):
 
     def _remove_others(self) -> None:
         """Remove what earlier boots have left, and what is left of a file that was removed."""
-        names = re.compile(rf"{re.escape(self._name)}\.{_NAME.pattern}(\.new)?(-wal|-shm|-journal)?")
+        names = re.compile(rf"{re.escape(self._name)}\.boot-{_NAME.pattern}(\.new)?(-wal|-shm|-journal)?")
         for it in self._folder.iterdir():
             if names.fullmatch(it.name):
                 it.unlink()
@@ -140,7 +144,9 @@ class SQLite(Asked[_File]):
         try:
             if self._checked:
                 check_file(self.path)
+            _look_for_a_fork()
             file = _File(self.path, self._no_answer)
+            _open_now.add(file)
             try:
                 boot, *made = file.run(last, "SELECT boot, made, largest_skew FROM store").fetchone()
                 file.base.execute("PRAGMA synchronous = OFF")
@@ -150,6 +156,8 @@ class SQLite(Asked[_File]):
             except BaseException:
                 self._shut(file)
                 raise
+        except FileNotFoundError:
+            raise self._removed() from None
         except (OSError, sqlite3.Error, TypeError) as fault:
             raise StoreFailed(f"{self.path}: {fault}") from fault
         return file, Made(*made)
@@ -188,11 +196,39 @@ class SQLite(Asked[_File]):
         except FileNotFoundError:
             is_there = False
         if not is_there:
-            raise StoreFailed(f"{self.path} was removed: start the services that use it again")
+            raise self._removed()
+
+    def _removed(self) -> StoreFailed:
+        return StoreFailed(f"{self.path} was removed: start the services that use it again")
 
     def _shut(self, connection: _File) -> None:
+        _open_now.discard(connection)
         with suppress(sqlite3.Error):
             connection.base.close()
+
+
+# SQLite doesn't notice a fork, and takes locks of the parent for its own, on the same file: so nothing is open when a process forks; and if a call of
+# another thread is, the child doesn't open a file.
+_stores: weakref.WeakSet[SQLite] = weakref.WeakSet()
+_open_now: weakref.WeakSet[_File] = weakref.WeakSet()
+_process = here()
+
+
+def _look_for_a_fork() -> None:
+    global _process
+    if _process != here():
+        if _open_now:
+            raise StoreFailed("another thread was asking a store when this process was forked")
+        _process = here()
+
+
+def _before_fork() -> None:
+    for it in list(_stores):
+        with suppress(StoreFailed):
+            it.close()
+
+
+os.register_at_fork(before=_before_fork)
 
 
 def _identity(path: Path) -> tuple[int, int]:

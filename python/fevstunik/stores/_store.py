@@ -70,7 +70,7 @@ def skew_of(wanted: int | None) -> int:
 _Connection = TypeVar("_Connection")
 
 
-class Asked(Secret, ABC, Generic[_Connection]):
+class Connected(Secret, ABC, Generic[_Connection]):
     """A store that is asked over connections, one call at a time over each.
 
     Only a connection over which the whole answer came in time is used again: so no answer can be taken for that about another stamp. A process that

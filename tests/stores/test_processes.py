@@ -1,12 +1,15 @@
-"""Instances of a service that share a store: examples/service/shared.c and examples/shared.py over Redis, and the
-latter over PostgreSQL.
+"""Processes of a service that share a store: examples/shared.py over each store, and examples/service/shared.c over
+Redis.
 
-Each of thousands of requests is delivered to four instances at the same time, in random order: it is let in exactly
-once. Meanwhile instances are killed and started again, or the store is: then none is let in twice, and none while the
-store is down. A store that doesn't answer in time lets nobody in, nor does an instance that gets the answer too late.
+Each request is delivered to four processes at the same time, in random order: it is let in exactly once. Meanwhile
+processes are killed and started again, or the store is: then none is let in twice, and none while the store is down. A
+store that doesn't answer in time lets nobody in, nor does a process that gets the answer too late. With the file of
+another boot, nothing that was let in before is let in again. The environment variable STORES_REQUESTS says how many
+requests there are in each phase: 2,000 is the whole, and less a share of it.
 """
 import contextlib
 import itertools
+import os
 import random
 import signal
 import threading
@@ -20,14 +23,23 @@ from support import TESTS, TOP, c_programs, store_servers
 from support.instances import ACCEPTED, BATCH, PYTHON, REPEAT, SERVICE, STORE, Instance, made_requests
 
 pytestmark = [pytest.mark.packages, pytest.mark.slow]
-# How many requests there are in each phase (PostgreSQL takes some milliseconds for each), and more for what comes after
-# the phases.
-REQUESTS, MORE = {"Redis": (2_000, 2_000, 2_000), "PostgreSQL": (2_000, 1_000, 1_000)}, 20
-# How often each instance is killed in the second phase.
+# How many requests there are in each phase, and more for what comes after the phases.
+REQUESTS, MORE = int(os.environ.get("STORES_REQUESTS", "300")), 20
+# How often each process is killed in the second phase.
 KILLS = 4
-# How long an instance waits for the store while both run on a busy machine, and where that is tested; how long a phase
-# may take.
-PATIENT, IMPATIENT, SECONDS = 20, 1, 90
+# How long a process waits for the store while both run on a busy machine, and where that is tested; how long a phase
+# may take; and how long a process that is started again, which on a machine that does nothing else is below a second.
+PATIENT, IMPATIENT, SECONDS, STARTING = 20, 1, 90, 5
+JUST_STARTED, SKEW = ("refused", "JUST_STARTED"), ("refused", "SKEW")
+# Runs a program over the package whose boot is named by a file.
+WITH_BOOT = """
+import runpy, sys
+from pathlib import Path
+from fevstunik.stores import _sqlite
+_sqlite._BOOT = Path(sys.argv[1])
+sys.argv = sys.argv[2:]
+runpy.run_path(sys.argv[0], run_name="__main__")
+"""
 
 
 class Delivery:
@@ -142,13 +154,30 @@ class Phases:
 
     def all_again(self):
         """Instances that have forgotten all get what they got before."""
-        for one in self.instances:
-            one.close()
-            one.start()
+        self.start_again()
         self.delivered([*self.plain[:500], *self.killed, *self.broken, *self.down, *self.back])
         yield "what was let in before isn't let in again by instances that have forgotten it", self.none_twice()
         down = Counter(self.let_in[it] for it in self.down)
         yield "what wasn't let in because the store was down is let in once", is_it(down, Counter({1: len(self.down)}))
+
+    def another_boot(self):
+        """The machine is started again, and what was written before a power failure may be lost."""
+        for one in self.instances:
+            one.kill()
+        self.store.boot()
+        self.start_again()
+        requests = [*self.plain, *self.killed]
+        refused = Counter({JUST_STARTED: len(requests) * len(self.instances)})
+        yield "after another boot, all that may have been let in before it is refused", is_it(
+            self.delivered(requests).count, refused)
+        self.store.age()
+        self.start_again()
+        yield "after the pause, each is let in exactly once", self.each_once([*self.broken, *self.down, *self.back])
+
+    def start_again(self):
+        for one in self.instances:
+            one.close()
+            one.start()
 
 
 def in_time(store, instance, requests):
@@ -171,12 +200,25 @@ def too_late(store, instance, ahead, request):
     time.sleep(0.5)
     ahead.write_text("302")
     store.signalled(signal.SIGCONT)
-    yield "an answer that comes too late", is_it(instance.answers(1), [STORE])
+    found, = instance.answers(1)
+    yield "an answer that comes too late", None if found in (STORE, SKEW) else f"{found!r}"
 
 
-def over(store, kinds, folder, library, requests):
+def started_again(instance, request):
+    """How long it takes until a process that was killed lets a new request in."""
+    instance.close()
+    began = time.monotonic()
+    instance.start()
+    yield "a process that is started again lets a new request in", is_it(instance.asked(request), ACCEPTED)
+    took = time.monotonic() - began
+    print(f"started again, and a request let in: {took:.2f} seconds")
+    yield "and at once", None if took < STARTING else f"after {took} seconds"
+
+
+def over(store, kinds, folder, library):
     """`kinds` has a function for each instance, which gives its words for a store and how long it waits for it."""
     store.start()
+    store.age()
     started, ahead = [], folder / "ahead"
 
     def instance(kind, wait, **more):
@@ -184,46 +226,24 @@ def over(store, kinds, folder, library, requests):
         return started[-1]
 
     try:
-        given = iter(requests)
-        parts = [list(itertools.islice(given, count)) for count in REQUESTS[store.name]]
+        given = iter(made_requests(folder / "cache", 3 * REQUESTS + MORE, library))
+        parts = [list(itertools.islice(given, REQUESTS)) for _ in range(3)]
         phases = Phases(store, [instance(it, PATIENT) for it in kinds], *parts)
-        for checks in (phases.once, phases.instances_killed, phases.store_killed, phases.all_again):
+        more = [phases.another_boot] if store.name == "SQLite" else [phases.store_killed, phases.all_again]
+        for checks in (phases.once, phases.instances_killed, *more):
             yield from checks()
         for kind in dict.fromkeys(kinds):
+            yield from started_again(instance(kind, PATIENT), next(given))
+            if store.name == "SQLite":
+                continue
             yield from in_time(store, instance(kind, IMPATIENT), given)
             ahead.write_text("0")
             late = instance(kind, PATIENT, LD_PRELOAD=str(folder / "clock.so"), CLOCK_FILE=str(ahead))
             yield "an instance with another clock", is_it(late.asked(next(given)), ACCEPTED)
             yield from too_late(store, late, ahead, next(given))
-            again = instance(lambda *words: kind(*words, again=True), PATIENT)
-            found = again.asked(next(given))
-            yield "an instance whose store may have lost stamps", is_it(found, ("refused", "JUST_STARTED"))
     finally:
         for it in started:
             it.close()
-
-
-def old_stamps(store):
-    """The document's statement deletes stamps that are no longer needed, and no others."""
-    count = int(store.run("SELECT count(*) FROM stamps").split()[2])
-    store.run("INSERT INTO stamps VALUES ('old', now() - interval '1 second'), ('new', now() + interval '1 hour')")
-    yield "old stamps are deleted", is_it(store.run(store_servers.statements()[1]), "DELETE 1")
-    yield "others aren't", is_it(store.run("SELECT count(*) FROM stamps").split()[2], str(count + 1))
-
-
-def user_of_redis():
-    """The user of docs/OPERATING.md may set stamps, and do nothing else; without a password, nobody may do anything."""
-    store, web = store_servers.Redis(), ("web", "a password")
-    try:
-        store.start_with_user(web[1])
-        step = "set", "fevstunik:a stamp", "", "NX", "EXAT", int(time.time()) + 60
-        yield "Redis: the user web adds a stamp", is_it(store.said(*step, user=web), "OK\n")
-        yield "Redis: a stamp that is there isn't added", is_it(store.said(*step, user=web), "\n")
-        for other in (("get", step[1]), ("del", step[1]), ("set", "another", ""), ("flushall",), ("acl", "list")):
-            yield f"Redis: the user web may not {' '.join(other)}", is_it(store.said(*other, user=web)[:6], "NOPERM")
-        yield "Redis: without a password nobody adds a stamp", is_it(store.said(*step)[:6], "NOAUTH")
-    finally:
-        store.close()
 
 
 # ---------------------------------------------------------------- tests
@@ -242,27 +262,31 @@ def folder(library, tmp_path_factory):
     return made
 
 
-def in_python(store, wait, again=False):
-    return [PYTHON, "-B", TOP / "examples/shared.py", *SERVICE, *store.words, "--wait", wait, *["--again"][:again]]
+def in_python(store, wait):
+    return [PYTHON, "-B", TOP / "examples/shared.py", *SERVICE, store.where, "--wait", wait]
+
+
+def over_a_file(store, wait):
+    return [PYTHON, "-B", "-c", WITH_BOOT, store.boot_file, TOP / "examples/shared.py", *SERVICE, store.path, "--wait",
+            wait]
+
+
+def test_sqlite(folder, library, checks):
+    """Four processes in Python."""
+    with contextlib.closing(store_servers.File()) as store:
+        checks.all(over(store, [over_a_file] * 4, folder, library))
 
 
 def test_redis(folder, library, checks):
-    """Two instances in C and two in Python."""
-    def in_c(store, wait, again=False):
-        return [folder / "shared", *SERVICE, store.socket, wait, *["again"][:again]]
+    """Two processes in C and two in Python."""
+    def in_c(store, wait):
+        return [folder / "shared", *SERVICE, store.socket, wait]
 
-    requests = made_requests(folder / "cache", sum(REQUESTS["Redis"]) + MORE, library)
     with contextlib.closing(store_servers.Redis()) as store:
-        checks.all(over(store, [in_c, in_c, in_python, in_python], folder, library, requests))
-
-
-def test_user_of_redis(checks):
-    checks.all(user_of_redis())
+        checks.all(over(store, [in_c, in_c, in_python, in_python], folder, library))
 
 
 def test_postgresql(folder, library, checks):
-    """Four instances in Python."""
-    requests = made_requests(folder / "cache", sum(REQUESTS["PostgreSQL"]) + MORE, library)
+    """Four processes in Python."""
     with contextlib.closing(store_servers.Postgres()) as store:
-        checks.all(over(store, [in_python] * 4, folder, library, requests))
-        checks.all(old_stamps(store))
+        checks.all(over(store, [in_python] * 4, folder, library))
