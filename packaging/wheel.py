@@ -65,6 +65,8 @@ def metadata(version):
         sys.exit(f"wheel: python/pyproject.toml has the version {about['version']}, the header {version}")
     rows = [("Metadata-Version", "2.1"), ("Name", about["name"]), ("Version", version), ("Summary", about["description"])]
     rows += [("Classifier", it) for it in about["classifiers"]] + [("Requires-Python", about["requires-python"])]
+    for extra, needed in about.get("optional-dependencies", {}).items():
+        rows += [("Provides-Extra", extra), *(("Requires-Dist", f'{it}; extra == "{extra}"') for it in needed)]
     return rows
 
 
@@ -76,7 +78,8 @@ def contents(version, build):
     """The files of the wheel by name, and its tag."""
     libraries = {cpu: library(build, cpu) for cpu in PLACES}
     tag = ("py3", "none", platform(libraries.values()))
-    files = {f"fevstunik/{it.name}": it.read_bytes() for it in [*(TOP / "python/fevstunik").glob("*.py"), TOP / "python/fevstunik/py.typed"]}
+    package = TOP / "python/fevstunik"
+    files = {f"fevstunik/{it.relative_to(package)}": it.read_bytes() for it in [*package.rglob("*.py"), package / "py.typed"]}
     files |= {f"fevstunik/{PLACES[cpu]}/{SONAME}": it.read_bytes() for cpu, it in libraries.items()}
     files["fevstunik/lib/libfevstunik.so"] = entry(build).read_bytes()
     about = f"fevstunik-{version}.dist-info"
