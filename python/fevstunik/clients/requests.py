@@ -111,9 +111,9 @@ def _rewind(request: requests.PreparedRequest, response: requests.Response) -> N
         return
     try:
         rewind_body(request)
-    except requests.exceptions.UnrewindableBodyError as fault:
+    except requests.exceptions.UnrewindableBodyError:
         raise LoginError(LoginTrouble.BODY_SPENT, "the service asks for a login after it was sent the body, which can't be read again: "
-                         "pass bytes, a file that can be rewound, or preemptive=True", response) from fault
+                         "pass bytes, a file that can be rewound, or preemptive=True", response) from None
 
 
 def _certificate(response: requests.Response) -> bytes | None:
