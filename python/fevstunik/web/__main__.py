@@ -8,6 +8,7 @@ import os
 import socket
 import sys
 
+from .._errors import Fault
 from ._server import serve
 from .service import app
 
@@ -39,8 +40,8 @@ def main() -> None:
     logging.basicConfig(format="%(levelname)s %(message)s", level=logging.DEBUG if given.verbose else logging.INFO)
     try:
         serve(app(given.config), listener_at(given.socket))
-    except (OSError, ValueError) as error:
-        sys.exit(f"fevstunik.web: {error}")
+    except (OSError, ValueError, Fault, ImportError) as error:
+        sys.exit(f"fevstunik.web: {given.config}: {error}")
 
 
 if __name__ == "__main__":

@@ -4,11 +4,13 @@ It answers 200 with the user in the header Remote-User, percent-encoded, or what
 
     gunicorn --bind unix:/run/fevstunik-web/socket 'fevstunik.web.service:app("/etc/fevstunik/web.toml")'
 
-The file is in TOML. Its names are those of the arguments of Negotiate, with tables for `users`, `sessions` and `store`.
+The file is in TOML. Its names are those of the arguments of Negotiate, with tables for `users`, `sessions` and `store`. A keytab, and the
+key of sessions, without a leading ``/`` is sought beside it.
 """
 from __future__ import annotations
 
 import importlib
+import os
 import tomllib
 from collections.abc import Callable, Iterable
 from typing import Any
@@ -28,7 +30,11 @@ _PROXIES = ("127.0.0.0/8", "::1/128")
 def app(config: Path) -> App:
     """Return the service of a configuration as an application over WSGI. A name in it that isn't known raises ValueError."""
     with open(config, "rb") as file:
-        return negotiate_of(tomllib.load(file)).wsgi(_answer)
+        given = tomllib.load(file)
+    for table, name in ((given, "keytab"), (given.get("sessions", {}), "key")):
+        if name in table:
+            table[name] = os.path.join(os.path.dirname(os.path.abspath(config)), table[name])
+    return negotiate_of(given).wsgi(_answer)
 
 
 def negotiate_of(config: dict[str, Any]) -> Negotiate:
@@ -48,9 +54,10 @@ def negotiate_of(config: dict[str, Any]) -> Negotiate:
             given["sessions"] = Sessions(**given["sessions"])
         if isinstance(given.get("store"), dict):
             (kind, where), = given["store"].items()
-            given["store"] = getattr(importlib.import_module("fevstunik.stores"), _STORES[kind])(where)
+            name = _STORES[kind]
+            given["store"] = getattr(importlib.import_module("fevstunik.stores"), name)(where)
         return Negotiate(**given)
-    except (TypeError, KeyError) as error:
+    except (TypeError, KeyError, AttributeError) as error:
         raise ValueError(f"the configuration is wrong: {error}") from None
 
 
