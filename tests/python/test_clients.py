@@ -137,11 +137,12 @@ def test_a_page_that_is_missing_is_handed_on(made, service):
     assert made().ask(f"{service.url}/missing").status_code == 404
 
 
-def test_a_session_with_a_cookie(made, service):
-    """It needs one token."""
-    client = made()
+@pytest.mark.parametrize("words, tokens", [({}, 1), ({"preemptive": True}, 3)], ids=str)
+def test_a_session_with_a_cookie(made, service, words, tokens):
+    """It needs one token. Others that are sent with the cookie aren't answered."""
+    client = made(**words)
     texts = [client.ask(f"{service.url}/cookie").text for _ in range(3)]
-    assert texts == [HELLO, "hello again\n", "hello again\n"] and pages(service) == ["cookie"]
+    assert texts == [HELLO, "hello again\n", "hello again\n"] and pages(service) == ["cookie"] * tokens
 
 
 @pytest.mark.parametrize("page", ["repeat", "repeats"])
@@ -229,6 +230,8 @@ def test_nothing_is_proved(made, service, page, trouble, cause):
     else:
         with fails(trouble, cause):
             client.ask(f"{service.url}/{page}")
+    with fails(LoginTrouble.REFUSED if page == "basic" else trouble, cause):
+        made(preemptive=True).ask(f"{service.url}/{page}")
 
 
 @pytest.mark.parametrize("page, cause", [("forged", Fault), ("garbled", ValueError), ("replayed", Fault)])

@@ -51,7 +51,7 @@ class LoginError(Exception):
     """A request with a login failed. Its ``__cause__`` is the ServiceError, Fault or CacheError that says more, if there is one.
 
     trouble   why
-    response  the response as the library has it, or None. Nothing proves who it is from
+    response  the response as the library has it, closed, and perhaps without its body; or None. Nothing proves who it is from
 
     >>> from fevstunik.clients import LoginError, LoginTrouble
     >>> str(LoginError(LoginTrouble.NOT_PROVED, "https://www.example.com sent no proof of who it is"))
@@ -134,11 +134,12 @@ class Settings:
 
 @dataclass
 class _Sent:
-    """A token that was sent."""
+    """A token that was sent, before the service asked for it or afterwards."""
 
     client: Client
     origin: Origin
     ahead: float
+    is_unasked: bool
 
 
 class HttpLogin:
@@ -189,7 +190,7 @@ class HttpLogin:
         settings = self._settings
         if sent is not None and settings.mutual != "off" and text is not None:
             self._verify(heard, sent, text)
-        if settings.mutual != "required" or heard.is_redirect or sent is None and heard.origin in settings.proved:
+        if settings.mutual != "required" or heard.is_redirect or self._is_of_session(heard, sent):
             return
         if sent is None:
             raise heard.error(LoginTrouble.NOT_PROVED, f"answered with status {heard.status} and didn't ask for a login by Negotiate, so "
@@ -198,6 +199,11 @@ class HttpLogin:
             raise heard.error(LoginTrouble.REFUSED, "refused the login, and didn't say why")
         if text is None:
             raise heard.error(LoginTrouble.NOT_PROVED, f"answered with status {heard.status} and sent no proof of who it is")
+
+    def _is_of_session(self, heard: Heard, sent: _Sent | None) -> bool:
+        """Whether the response may be one that needs no token, from a service that has proved who it is."""
+        is_asked = sent is not None and (not sent.is_unasked or heard.status == _UNAUTHORIZED)
+        return heard.origin in self._settings.proved and not is_asked
 
     def _verify(self, heard: Heard, sent: _Sent, text: str) -> None:
         """Check the service's answer to a token."""
@@ -227,7 +233,7 @@ class HttpLogin:
             token = client.first(clock_offset=ahead)
         except (CacheError, Fault, OSError) as fault:
             raise LoginError(LoginTrouble.NO_TICKET, f"there is no token for {origin}: {fault}", response) from fault
-        self._sent = _Sent(client, origin, ahead)
+        self._sent = _Sent(client, origin, ahead, heard is None)
         return f"Negotiate {base64.b64encode(token).decode()}"
 
     def _ticket(self, origin: Origin) -> tuple[CredentialCache, str]:
