@@ -91,9 +91,9 @@ def path_of(location: str, source: str) -> str:
         return rest[1:] if rest.startswith(":") else _primary(rest)
     shown = fit_for_a_line(location)
     if kind in _ELSEWHERE:
-        raise CacheError(CacheTrouble.OTHER_KIND, f"{source} is {shown}: {_ELSEWHERE[kind]}. Keep them in a file: `export KRB5CCNAME="
-                         f"FILE:/tmp/krb5cc_{os.getuid()}`, then `kinit`; for all programs, set `default_ccache_name = {_DEFAULT}` in "
-                         "[libdefaults] of krb5.conf")
+        raise CacheError(CacheTrouble.OTHER_KIND, f"{source} is {shown}: {_ELSEWHERE[kind]}. Keep the tickets in a file: `export "
+                         f"{_VARIABLE}=FILE:/tmp/krb5cc_{os.getuid()}`, then `kinit`; for all programs, set `default_ccache_name = "
+                         f"{_DEFAULT}` in [libdefaults] of krb5.conf")
     raise CacheError(CacheTrouble.BAD_LOCATION, f"{source} is {shown}: name a file (FILE:/path), or a folder (DIR:/path)")
 
 
@@ -126,19 +126,15 @@ def _primary(folder: str) -> str:
 def _configured() -> str | None:
     """The value of default_ccache_name. The first one counts, over all files."""
     for path in os.environ.get(_CONFIG, _CONFIG_FILES).split(":"):
-        section = [""]
-        for line in _lines(path, _DEEPEST):
-            found = re.match(r"\[(\w+)\]", line)
-            if found:
-                section[0] = found[1]
+        for section, line in _lines(path, _DEEPEST):
             value = re.match(r"default_ccache_name\s*=\s*(.*)", line)
-            if value and section[0] == "libdefaults":
+            if value and section == "libdefaults":
                 return value[1].strip().strip('"')
     return None
 
 
-def _lines(path: str, deepest: int) -> Iterator[str]:
-    """The lines of a configuration file, and those of the files that it includes."""
+def _lines(path: str, deepest: int) -> Iterator[tuple[str, str]]:
+    """The lines of a configuration file that aren't in braces, each with its section, and those of the files that it includes."""
     try:
         with open(path, encoding="utf-8", errors="surrogateescape") as file:
             lines = [it.strip() for it in file]
@@ -146,13 +142,17 @@ def _lines(path: str, deepest: int) -> Iterator[str]:
         return
     except OSError as fault:
         raise CacheError(CacheTrouble.UNREADABLE, f"the file {fit_for_a_line(path)} can't be read: {fault.strerror}") from fault
+    section, depth = "", 0
     for line in lines:
         word, _, operand = line.partition(" ")
+        depth += line.endswith("{") - line.startswith("}")
         if word in ("include", "includedir") and deepest:
             for included in _included(word, operand.strip()):
                 yield from _lines(included, deepest - 1)
-        else:
-            yield line
+        elif line.startswith("["):
+            section, depth = line.strip("[]"), 0
+        elif not depth:
+            yield section, line
 
 
 def _included(word: str, operand: str) -> list[str]:

@@ -66,10 +66,13 @@ def test_no_cache(home, monkeypatch, location, trouble, words):
     ("[libdefaults]\ndefault_ccache_name = FILE:HOME/c_%{uid}_%{USERID}_%{null}\ndefault_ccache_name = KCM:",
      "c_UID_UID_"),
     ("include HOME/more.conf\n[libdefaults]\n default_ccache_name = KCM:\n", "cache"),
+    ("[libdefaults]\ninclude HOME/empty.conf\n EX = {\n  default_ccache_name = KCM:\n }\n include HOME/realms.conf\n"
+     " default_ccache_name = HOME/cache\n", "cache"),
     ("includedir HOME/more.d\n", "cache"), ("include HOME/none.conf\n# default_ccache_name = KCM:\n", None)], ids=str)
 def test_the_configuration(home, monkeypatch, text, at):
     """The first value counts, over all files; a file that isn't there is passed over."""
     (home / "more.conf").write_text(named(home, "[libdefaults]\ndefault_ccache_name = HOME/cache\n"))
+    (home / "realms.conf").write_text("[realms]\n default_ccache_name = KCM:\n")
     (home / "more.d").mkdir()
     (home / "more.d/first.conf").write_text((home / "more.conf").read_text())
     (home / "more.d/a.conf.bak").write_text("[libdefaults]\ndefault_ccache_name = KCM:\n")
