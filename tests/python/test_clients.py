@@ -201,6 +201,13 @@ def test_from_http_to_https_and_not_back(made, service, tls, certificate):
     assert not service.tokens
 
 
+def test_a_first_token_over_http(made, service, tls, certificate):
+    """It may be sent on to the same host over TLS, and is answered there."""
+    client = made(verify=str(certificate), preemptive=True)
+    assert client.ask(f"{service.url}/moved?to={tls.url}/").text == HELLO
+    assert client.ask(f"{service.url}/inside").text == HELLO
+
+
 def test_a_redirect_that_is_not_followed(made, service):
     client = made()
     words = {"allow_redirects": False} if isinstance(client, Requests) else {"follow_redirects": False}

@@ -7,7 +7,7 @@ import enum
 import re
 import socket
 from collections.abc import Callable, Iterable
-from dataclasses import dataclass
+from dataclasses import dataclass, replace
 from typing import Literal, NamedTuple, get_args
 
 from .._bindings import tls_server_end_point
@@ -88,12 +88,14 @@ class Heard:
     """A response.
 
     origin       where its request went
+    credentials  the field Authorization of its request, or None
     challenges   the values of its fields WWW-Authenticate
     certificate  returns the certificate of the channel it came by, in DER, or None
     response     what the library made of it
     """
 
     origin: Origin
+    credentials: str | None
     status: int
     is_redirect: bool
     challenges: Iterable[str]
@@ -132,14 +134,17 @@ class Settings:
         return f"HTTP/{(found[0][3] or host).lower().removesuffix('.')}"
 
 
-@dataclass
+@dataclass(frozen=True, repr=False)
 class _Sent:
-    """A token that was sent, before the service asked for it or afterwards."""
+    """A token that was sent, as the field Authorization; whether that was before the service asked for it, and whether a redirect has
+    answered it. (httpx then sends it again to the same host.)"""
 
     client: Client
+    field: str
     origin: Origin
     ahead: float
     is_unasked: bool
+    is_answered: bool = False
 
 
 class HttpLogin:
@@ -161,15 +166,24 @@ class HttpLogin:
     def answered(self, heard: Heard) -> str | None:
         """Return the field Authorization with which the request of this response is to be sent again, or None if the response may be handed
         on. Raises LoginError."""
-        sent, self._sent = self._sent, None
-        if sent is not None and sent.origin != heard.origin:
-            sent = None
         self._is_over_tls = self._is_over_tls or heard.origin.scheme == "https"
         offered, text = _challenge(heard.challenges)
+        sent = self._sent_with(heard, text)
         if heard.status == _UNAUTHORIZED and offered and (sent is None or self._may_try_again(sent, text)):
             return self._token(heard.origin, heard)
         self._judge(heard, sent, text)
         return None
+
+    def _sent_with(self, heard: Heard, text: str | None) -> _Sent | None:
+        """The token that a response answers, if its request had one of ours."""
+        sent, self._sent = self._sent, None
+        if sent is None or heard.credentials != sent.field or heard.origin.host != sent.origin.host:
+            return None
+        if sent.is_answered and (text is None or heard.status == _UNAUTHORIZED):
+            return None
+        if heard.is_redirect:
+            self._sent = replace(sent, is_answered=True)
+        return sent
 
     def _may_try_again(self, sent: _Sent, text: str | None) -> bool:
         """Whether another token may be let in, if the service says why it refused this one. It has to be asked for a reply to say so."""
@@ -208,8 +222,7 @@ class HttpLogin:
     def _verify(self, heard: Heard, sent: _Sent, text: str) -> None:
         """Check the service's answer to a token."""
         try:
-            with sent.client as client:
-                client.finish(base64.b64decode(text, validate=True))
+            sent.client.finish(base64.b64decode(text, validate=True))
         except ServiceError as fault:
             if heard.status == _UNAUTHORIZED and self._settings.mutual != "required":
                 return
@@ -233,8 +246,9 @@ class HttpLogin:
             token = client.first(clock_offset=ahead)
         except (CacheError, Fault, OSError) as fault:
             raise LoginError(LoginTrouble.NO_TICKET, f"there is no token for {origin}: {fault}", response) from fault
-        self._sent = _Sent(client, origin, ahead, heard is None)
-        return f"Negotiate {base64.b64encode(token).decode()}"
+        field = f"Negotiate {base64.b64encode(token).decode()}"
+        self._sent = _Sent(client, field, origin, ahead, heard is None)
+        return field
 
     def _ticket(self, origin: Origin) -> tuple[CredentialCache, str]:
         """A cache with a ticket for the service, and the service's name."""

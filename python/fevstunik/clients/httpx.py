@@ -69,8 +69,8 @@ def _answered(login: HttpLogin, response: httpx.Response, seen: int) -> str | No
 
 
 def _heard(response: httpx.Response) -> Heard:
-    return Heard(_origin(response.request), response.status_code, response.has_redirect_location,
-                 response.headers.get_list("WWW-Authenticate"), lambda: _certificate(response), response)
+    return Heard(_origin(response.request), response.request.headers.get("Authorization"), response.status_code,
+                 response.has_redirect_location, response.headers.get_list("WWW-Authenticate"), lambda: _certificate(response), response)
 
 
 def _origin(request: httpx.Request) -> Origin:

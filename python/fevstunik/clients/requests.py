@@ -65,10 +65,11 @@ class Negotiate(AuthBase):
 def _answered(login: HttpLogin, response: requests.Response, words: dict[str, Any]) -> requests.Response:
     """The response, or that to the same request with another token."""
     while True:
+        heard = _heard(response)
         # A redirected request is made of this one, and a token is for one host and one time.
         response.request.headers.pop("Authorization", None)
         try:
-            header = login.answered(_heard(response))
+            header = login.answered(heard)
             if header is None:
                 return response
             response = _sent_again(response, header, words)
@@ -79,8 +80,8 @@ def _answered(login: HttpLogin, response: requests.Response, words: dict[str, An
 
 def _heard(response: requests.Response) -> Heard:
     field = response.headers.get("WWW-Authenticate")
-    return Heard(_origin(response.request), response.status_code, response.is_redirect, [] if field is None else [field],
-                 lambda: _certificate(response), response)
+    return Heard(_origin(response.request), response.request.headers.get("Authorization"), response.status_code, response.is_redirect,
+                 [] if field is None else [field], lambda: _certificate(response), response)
 
 
 def _origin(request: requests.PreparedRequest) -> Origin:
