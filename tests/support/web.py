@@ -38,6 +38,15 @@ def request(client=(b"alice",), *, realm=b"EX", flags=1 << 19, kvno=3, service=(
     return der.request(MUTUAL if mutual else 0, of, der.encrypted(19, cipher))
 
 
+def cache():
+    """Alice's cache, with a ticket that is valid now."""
+    now = int(time.time())
+    client, server = fixture.principal(1, b"EX", b"alice"), fixture.principal(3, b"EX", b"host", b"web")
+    times = (now - 3600, 0, now + 28_800, 0)
+    of = ticket((b"alice",), b"EX", 1 << 19, 3, (b"host", b"web"), 8, 0)
+    return b"\x05\x04\0\0" + client + fixture.credential(client, server, 19, fixture.SESSION_KEY, times, of)
+
+
 def token(*client, **more):
     """A token of a negotiation with such a request."""
     inner = gss_rules.kerberos(gss_rules.KERBEROS, request(client or (b"alice",), **more))

@@ -8,7 +8,7 @@ import pytest
 from fevstunik.web import serve
 from support import TOP, kdc, web, web_servers
 
-pytestmark = [pytest.mark.packages, pytest.mark.slow]
+pytestmark = [pytest.mark.packages, pytest.mark.slow, pytest.mark.xdist_group("web-caddy")]
 SITE = (TOP / "examples/negotiate/Caddyfile").read_text()
 CONFIG = """
 keytab = "web.keytab"

@@ -8,7 +8,7 @@ import pytest
 from fevstunik.web import Negotiate
 from support import TOP, kdc, web, web_servers
 
-pytestmark = [pytest.mark.packages, pytest.mark.slow]
+pytestmark = [pytest.mark.packages, pytest.mark.slow, pytest.mark.xdist_group("web-documents")]
 TEXT = (TOP / "docs/WEB.md").read_text()
 
 

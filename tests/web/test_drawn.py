@@ -6,14 +6,16 @@ import pytest
 from hypothesis import HealthCheck, given, settings, strategies as draw
 
 from fevstunik import Key
-from fevstunik.web import NotAllowed, Sessions, Users, _server
+from fevstunik.web import NotAllowed, Sessions, Users, _server, _users
 from fevstunik.web._sessions import USAGE
 from support import web
 
-LETTERS = draw.text(draw.characters(max_codepoint=255), max_size=60)
+LETTERS = draw.binary(max_size=60).map(lambda it: it.decode("latin-1"))
+NAMES = draw.lists(draw.integers(0x20, 0x7E) | draw.sampled_from(b"@/\\x")).map(lambda it: bytes(it).decode())
 SPELLED = draw.sampled_from(["Negotiate", "Negotiate ", "negotiate  ", "Basic ", " ", ",", "=", "YWI=", "\t", "a" * 9])
 VALUES = draw.lists(draw.builds("".join, draw.lists(SPELLED | LETTERS, max_size=5)), max_size=3)
-ONCE = settings(max_examples=300, deadline=None, suppress_health_check=[HealthCheck.function_scoped_fixture])
+ONCE = settings(max_examples=300, deadline=None, database=None,
+                suppress_health_check=[HealthCheck.function_scoped_fixture])
 
 
 @ONCE
@@ -33,7 +35,7 @@ def asked(made, over, kept={}):
 
 
 @ONCE
-@given(name=draw.text(draw.characters(min_codepoint=0x20, max_codepoint=0x7e), max_size=40) | draw.text(max_size=20))
+@given(name=NAMES | NAMES.map(lambda it: f"{it}@EX"))
 def test_any_name(name):
     """A name that is let in is one user of one realm."""
     users = Users(realms={"EX": "{user}"}, others="{user}@{realm}")
@@ -41,7 +43,7 @@ def test_any_name(name):
         found = users.name_of(name)
     except NotAllowed:
         return
-    assert found and found.isprintable() and ("@" in found) != name.endswith("@EX")
+    assert found and found.isprintable() and ("@" in found) != (_users.realm_of(name) == "EX")
 
 
 @ONCE

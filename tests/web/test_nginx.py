@@ -13,7 +13,7 @@ import pytest
 from support import TOP, kdc, web, web_servers
 from support.web import Answer
 
-pytestmark = [pytest.mark.packages, pytest.mark.slow]
+pytestmark = [pytest.mark.packages, pytest.mark.slow, pytest.mark.xdist_group("web-nginx")]
 SITE = (TOP / "examples/negotiate/nginx.conf").read_text()
 HSTS = "max-age=31536000"
 CONTEXT = ssl.SSLContext(ssl.PROTOCOL_TLS_CLIENT)

@@ -4,7 +4,7 @@ import threading
 
 import pytest
 
-from fevstunik import open_answer
+from fevstunik import Client, CredentialCache
 from fevstunik.stores import StoreFailed
 from fevstunik.web import _gate, _negotiate
 from support import gss_rules, web
@@ -17,10 +17,17 @@ def authorized(value):
     return [("Authorization", value)]
 
 
+@pytest.mark.parametrize("path", ["/", "/404", "/raises"])
+def test_a_client_verifies_the_answer(ask, path):
+    with CredentialCache(web.cache()) as cache:
+        client = Client(cache, web.NAME)
+        answer = ask(path=path, headers=authorized(negotiate(client.first())))
+        assert client.finish(answer.token).client == "alice@EX"
+
+
 def test_a_login(ask):
     answer = ask(headers=authorized(negotiate(token(b"alice"))))
-    assert (answer.status, answer.body) == (200, b"alice@EX")
-    assert open_answer(answer.token).verdict is not None
+    assert (answer.status, answer.body) == (200, b"alice@EX") and answer.token
 
 
 def test_a_login_without_a_reply(ask):

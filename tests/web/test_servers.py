@@ -1,4 +1,6 @@
 """Applications of Flask, Django and Starlette under gunicorn and uvicorn, with tokens over the wire."""
+import contextlib
+import functools
 import random
 import re
 from concurrent.futures import ThreadPoolExecutor
@@ -7,22 +9,31 @@ import pytest
 
 from support import web, web_servers
 
-pytestmark = [pytest.mark.packages, pytest.mark.slow]
+pytestmark = [pytest.mark.packages, pytest.mark.slow, pytest.mark.xdist_group("web-servers")]
 WHO = b"alice@EX "
 
 
-@pytest.fixture(scope="module", params=web_servers.KINDS)
-def server(request, tmp_path_factory, library):
-    folder = tmp_path_factory.mktemp("server")
-    with pytest.MonkeyPatch.context() as patch:
+@pytest.fixture(scope="module")
+def servers(tmp_path_factory, library):
+    """Gives the server of a name, which is started once."""
+    with contextlib.ExitStack() as stack:
+        patch = stack.enter_context(pytest.MonkeyPatch.context())
         patch.setenv("FEVSTUNIK_LIBRARY", str(library))
         patch.setenv("PYTHONPATH", "")
-        keytab = folder / "web.keytab"
-        keytab.write_bytes(web.fixture.keytab())
-        start = web_servers.KINDS[request.param]
-        terms = {"keytab": keytab, "service": web.NAME, "first_life": True, "sessions": {"key": str(folder / "key")}}
-        with start(folder, **terms) as made:
-            yield made
+
+        @functools.cache
+        def started(name):
+            folder = tmp_path_factory.mktemp("server")
+            keytab = folder / "web.keytab"
+            keytab.write_bytes(web.fixture.keytab())
+            terms = {"service": web.NAME, "first_life": True, "sessions": {"key": str(folder / "key")}}
+            return stack.enter_context(web_servers.KINDS[name](folder, keytab=keytab, **terms))
+        yield started
+
+
+@pytest.fixture(params=web_servers.KINDS)
+def server(request, servers):
+    return servers(request.param)
 
 
 def test_logins(server):
