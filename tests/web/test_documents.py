@@ -38,6 +38,16 @@ def test_from_nothing_to_a_login(tmp_path, monkeypatch, keytab, title, greeting)
         assert (answer.status, answer.body) == (200, greeting) and answer.token
 
 
+def test_the_service_over_several_processes(tmp_path, monkeypatch, keytab):
+    command = re.search(r"`(gunicorn [^`]* unix:PATH\s[^`]*)`", TEXT)[1]
+    (tmp_path / "web.toml").write_text(f'keytab = "{keytab}"\nservice = "{web.NAME}"\nfirst_life = true\n')
+    words = shlex.split(command.replace("PATH", f"{tmp_path}/socket").replace("/etc/fevstunik", str(tmp_path)))
+    monkeypatch.chdir(tmp_path)
+    with web_servers.Server(tmp_path, ["/usr/bin/python3", "-m", *words], None, tmp_path / "socket") as server:
+        answer = server.ask(token=web.token())
+        assert (answer.status, answer.one("Remote-User")) == (200, "alice@EX") and answer.token
+
+
 def test_terms():
     named = re.findall(r"^\| (`.*?) \|", TEXT, re.M)
     listed = {it for row in named for it in re.findall(r"`(\w+)`", row)}

@@ -6,6 +6,7 @@ import os
 import pytest
 
 from fevstunik import Fault
+from fevstunik.stores import StoreFailed
 from support import fixture, web
 from support.web import negotiate, token
 
@@ -87,6 +88,21 @@ def test_files_that_are_no_keytab(made, tmp_path):
 
 def test_each_name_of_the_keytab(made):
     assert asked(web.by_wsgi(made(service=None))) == 200
+
+
+def test_a_store_that_others_may_write_to(made, tmp_path):
+    (tmp_path / "run").mkdir()
+    (tmp_path / "run").chmod(0o777)
+    with pytest.raises(StoreFailed):
+        made(store=tmp_path / "run/stamps")
+
+
+def test_a_store_begins_with_the_login(made, tmp_path):
+    """And not with the first request: nobody is let in for a while after that."""
+    (tmp_path / "run").mkdir(mode=0o700)
+    gate = made(store=tmp_path / "run/stamps", first_life=False)
+    assert list((tmp_path / "run").iterdir())
+    assert asked(web.by_wsgi(gate)) == 503 and gate.counts == {"JUST_STARTED": 1}
 
 
 def test_a_fork(made):
