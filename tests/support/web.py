@@ -123,8 +123,8 @@ def by_wsgi(negotiate_, app=wsgi_app):
     """A function that asks the application over WSGI: method, path and headers in, an Answer out."""
     inner = negotiate_.wsgi(app)
 
-    def ask(method="GET", path="/", headers=(), address="192.0.2.7", port="4711"):
-        environ = {"REQUEST_METHOD": method, "SCRIPT_NAME": "", "PATH_INFO": path, "REMOTE_ADDR": address,
+    def ask(method="GET", path="/", headers=(), address="192.0.2.7", port="4711", mount=""):
+        environ = {"REQUEST_METHOD": method, "SCRIPT_NAME": mount, "PATH_INFO": path, "REMOTE_ADDR": address,
                    "REMOTE_PORT": port, "REMOTE_USER": "mallory"}
         for name, value in headers:
             key = f"HTTP_{name.upper().replace('-', '_')}"

@@ -10,7 +10,7 @@ from concurrent.futures import ThreadPoolExecutor
 
 import pytest
 
-from support import TOP, kdc, web, web_servers
+from support import TOP, kdc, web, web_realm, web_servers
 from support.web import Answer
 
 pytestmark = [pytest.mark.packages, pytest.mark.slow, pytest.mark.xdist_group("web-nginx")]
@@ -56,10 +56,12 @@ http {{
 """
 
 
-def service(folder, first="true"):
+def service(folder, first="true", keytab=None, name=web.NAME):
     """The service on a Unix socket in the folder."""
-    (folder / "web.toml").write_text(CONFIG.format(first=first))
-    (folder / "web.keytab").write_bytes(web.fixture.keytab())
+    realm = name.partition("@")[2]
+    config = CONFIG.format(first=first).replace(web.NAME, name).replace('"EX"', f'"{realm}"')
+    (folder / "web.toml").write_text(config)
+    (folder / "web.keytab").write_bytes(keytab or web.fixture.keytab())
     path = folder / "socket"
     command = [sys.executable, "-m", "fevstunik.web", "--config", folder / "web.toml", "--socket", path]
     return web_servers.Server(folder, command, None, path)
@@ -267,6 +269,35 @@ def test_a_service_that_is_down_or_has_just_started(nginx, folder, tmp_path_fact
             assert own.ask(token=web.token()).status == 200
     finally:
         own.process.stop()
+
+
+@pytest.mark.parametrize("version, line", [("--http1.1", "HTTP/1.1 200 OK"), ("--http2", "HTTP/2 200 ")])
+def test_curl_with_a_ticket(curl, version, line):
+    """Of a KDC of MIT krb5. Another user's ticket shows the page of 403, and none that of 401."""
+    said = curl("alice", version)
+    assert said.startswith(line) and "ww-authenticate: negotiate o" in said.lower() and "user 'alice'" in said
+    assert "You aren't let in here" in curl("bob", version)
+    assert "<h1>Log in with Kerberos</h1>" in curl("nobody", version)
+
+
+@pytest.fixture(scope="module")
+def curl(folder, tmp_path_factory):
+    """Gives what curl sees with the tickets of a user."""
+    other = tmp_path_factory.mktemp("realm")
+    realm = web_realm.realm_in(other)
+    realm.kadmin("addprinc", "-pw", kdc.PASSWORD, "bob")
+    realm.cache("bob", "default", [web_realm.SERVICE], user="bob")
+    keytab = (realm.folder / "www.keytab").read_bytes()
+    site = Nginx(other)
+
+    def asked(user, version):
+        env = realm.environment("default", KRB5CCNAME=str(realm.folder / f"{user}.ccache"))
+        url = f"https://localhost:{site.port}/"
+        return kdc.done(["curl", "-sSki", version, "--negotiate", "-u", ":", url], seconds=30, env=env).stdout
+    with service(other, keytab=keytab, name=f"{web_realm.SERVICE}@{web_realm.REALM}"):
+        yield asked
+    site.process.stop()
+    realm.stop()
 
 
 # ---------------------------------------------------------------- the service by itself

@@ -192,9 +192,19 @@ def test_exempt_paths(made, over, path, passes):
     assert (answer.status, answer.body) == (200, b"nobody") if passes else answer.status == 401
 
 
+def test_a_mount_that_the_client_chooses(made):
+    """gunicorn before 22 takes it from the header SCRIPT_NAME. The application answers by the rest."""
+    ask = web.by_wsgi(made(exempt=["/static/"]))
+    assert ask(mount="/static", path="/admin").status == 401
+    assert ask(mount="/application", path="/static/a.css").status == 200
+
+
 def test_options_pass(ask):
     """A browser asks before it sends a request of another site, and sends no token then."""
     assert (ask("OPTIONS").status, ask("OPTIONS").body) == (200, b"nobody")
+    # A method of the client's own isn't OPTIONS.
+    for name in ("X-HTTP-Method-Override", "X-HTTP-Method", "X-Method-Override"):
+        assert ask("OPTIONS", headers=[(name, "POST")]).status == 401
 
 
 def test_pages(ask):

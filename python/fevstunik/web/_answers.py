@@ -6,6 +6,8 @@ from dataclasses import dataclass
 from http import HTTPStatus
 
 Headers = tuple[tuple[str, str], ...]
+# An application may take one of these for the method.
+OVERRIDING = ("x-http-method-override", "x-http-method", "x-method-override")
 
 _ADMINISTRATOR = "The administrator of this site can see the reason in its log."
 _KEYS = "The site's keys and those of the Kerberos server differ. Log out and in again. If that doesn't help, tell the administrator."

@@ -6,7 +6,7 @@ from collections.abc import Awaitable, Callable
 from http import HTTPStatus
 from typing import Any
 
-from ._answers import Answer, Headers
+from ._answers import OVERRIDING, Answer, Headers
 from ._gate import Gate, Request
 
 Message = dict[str, Any]
@@ -14,6 +14,7 @@ Receive = Callable[[], Awaitable[Message]]
 Send = Callable[[Message], Awaitable[None]]
 App = Callable[[dict[str, Any], Receive, Send], Awaitable[None]]
 _OWN_PAGE = "websocket.http.response"
+_OVERRIDING = [name.encode() for name in OVERRIDING]
 
 
 class Middleware:
@@ -81,7 +82,8 @@ async def _send_page(answer: Answer, scope: dict[str, Any], send: Send, kind: st
 def request_of(scope: dict[str, Any]) -> Request:
     client = scope.get("client")
     return Request(
-        scope.get("method", "GET"), scope["path"], _values(scope, b"authorization"), _values(scope, b"cookie"),
+        scope.get("method") == "OPTIONS" and not any(_values(scope, name) for name in _OVERRIDING), scope["path"],
+        _values(scope, b"authorization"), _values(scope, b"cookie"),
         _values(scope, b"x-forwarded-for"), client[0] if client else "", tuple(client) if client and client[1] else None)
 
 

@@ -35,7 +35,7 @@ _Decided = tuple["Passed | Answer", Event]
 class Request:
     """What is decided about. `connection` stands for the peer's connection, or is None if it isn't known."""
 
-    method: str
+    is_options: bool
     path: str
     authorization: Sequence[bytes]
     cookies: Sequence[bytes]
@@ -112,7 +112,7 @@ class Gate:
         cookies = self._cookies
         if cookies is not None and request.path == cookies.logout:
             return Answer(HTTPStatus.OK, "LOGOUT", (("Set-Cookie", cookies.ended()),)), Event("LOGOUT", "logged out")
-        if request.method == "OPTIONS" or self._terms.is_exempt(request.path):
+        if request.is_options or self._terms.is_exempt(request.path):
             return Passed(None), Event("EXEMPT", "nobody has to log in here")
         user = None if cookies is None else cookies.user(request.cookies)
         if user is not None:

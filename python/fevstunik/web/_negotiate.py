@@ -29,7 +29,7 @@ class Negotiate:
     sessions      Sessions, or None: then each request needs a token of its own
     certificates  files with the TLS server's certificates in PEM. Channel bindings are checked against them
     bindings      ``"check"`` refuses a client that sends other bindings, ``"require"`` also one that sends none
-    exempt        paths for which nobody has to log in: one path, or all below it if it ends with ``/``
+    exempt        paths of the application for which nobody has to log in: one path, or all below it if it ends with ``/``
     proxies       addresses or networks of trusted proxies, whose X-Forwarded-For says the peer's address for the log. If there is one, a
                   peer at a Unix socket is trusted, too
     token_limit   the longest token, in bytes

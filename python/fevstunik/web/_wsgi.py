@@ -7,11 +7,12 @@ from collections.abc import Callable, Iterable, Iterator
 from http import HTTPStatus
 from typing import Any
 
-from ._answers import Answer, Headers
+from ._answers import OVERRIDING, Answer, Headers
 from ._gate import Gate, Request
 
 App = Callable[[dict[str, Any], Callable[..., Any]], Iterable[bytes]]
 _log = logging.getLogger("fevstunik.web")
+_OVERRIDING = {f"HTTP_{name.upper().replace('-', '_')}" for name in OVERRIDING}
 
 
 class Middleware:
@@ -78,8 +79,9 @@ def _page(answer: Answer, environ: dict[str, Any], start: Callable[..., Any]) ->
 
 def request_of(environ: dict[str, Any]) -> Request:
     address, port = environ.get("REMOTE_ADDR", ""), environ.get("REMOTE_PORT")
+    # (gunicorn before 22 lets the client choose SCRIPT_NAME, so the path is the one by which the application finds its page)
     return Request(
-        environ["REQUEST_METHOD"], environ.get("SCRIPT_NAME", "") + environ.get("PATH_INFO", ""),
+        environ["REQUEST_METHOD"] == "OPTIONS" and not _OVERRIDING & environ.keys(), environ.get("PATH_INFO", ""),
         _values(environ, "HTTP_AUTHORIZATION"), _values(environ, "HTTP_COOKIE"), _values(environ, "HTTP_X_FORWARDED_FOR"),
         address, (address, port) if port else None)
 
