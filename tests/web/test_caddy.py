@@ -2,10 +2,10 @@
 import os
 import sys
 import threading
+from wsgiref import simple_server
 
 import pytest
 
-from fevstunik.web import serve
 from support import TOP, kdc, web, web_servers
 
 pytestmark = [pytest.mark.packages, pytest.mark.slow, pytest.mark.xdist_group("web-caddy")]
@@ -37,11 +37,12 @@ def folder(tmp_path_factory, library):
 
 @pytest.fixture(scope="module")
 def caddy(folder):
-    listener = web_servers.socket.create_server(("127.0.0.1", 0), backlog=100)
-    threading.Thread(target=serve, args=(application, listener), daemon=True).start()
+    # (this server takes `_` in a name for `-`, as many do)
+    server = simple_server.make_server("127.0.0.1", 0, application)
+    threading.Thread(target=server.serve_forever, daemon=True).start()
     port, site = kdc.free_port(), SITE
     for old, new in (("www.example.com {", f"http://127.0.0.1:{port} {{"),
-                     ("127.0.0.1:9000", f"127.0.0.1:{listener.getsockname()[1]}"),
+                     ("127.0.0.1:9000", f"127.0.0.1:{server.server_port}"),
                      ("unix//run/fevstunik-web/socket", f"unix/{folder}/socket")):
         assert old in site
         site = site.replace(old, new)
@@ -53,6 +54,7 @@ def caddy(folder):
     made.port, made.path = port, None
     yield made
     process.stop()
+    server.shutdown()
 
 
 @pytest.fixture(scope="module")
@@ -66,7 +68,7 @@ def site(folder, caddy):
 
 @pytest.mark.parametrize("path, status", [("/", 200), ("/404", 404), ("/500", 500)])
 def test_a_login(site, path, status):
-    headers = {"Remote-User": "mallory", "Negotiate-Answer": "mallory", "Negotiate-Cookie": "mallory"}
+    headers = dict.fromkeys(["Remote-User", "Remote_User", "Negotiate-Answer", "Negotiate-Cookie"], "mallory")
     answer = site.ask(path=path, token=web.token(), headers=headers)
     assert (answer.status, answer.body) == (status, b"{'REMOTE_USER': 'alice'}") and answer.token
     assert answer.one("Set-Cookie").startswith("__Host-fevstunik=") and answer.one("Strict-Transport-Security")

@@ -47,6 +47,8 @@ def negotiate_of(config: dict[str, Any]) -> Negotiate:
     ValueError: the configuration is wrong: Users.__init__() got an unexpected keyword argument 'realm'...
     """
     given: dict[str, Any] = {"proxies": _PROXIES, **config}
+    if "exempt" in given:
+        raise ValueError("the proxy decides which paths need a login, so `exempt` isn't taken here")
     try:
         if "users" in given:
             given["users"] = Users(**given["users"])
