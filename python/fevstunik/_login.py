@@ -184,11 +184,12 @@ class Connection(Secret):
             asked, held = self._for_a_log(answer.code)
             self._handle.close()
             return Refused(answer.code, answer.kerberos, answer.at, reply=reply, asked=asked, held=held)
-        store, carried = self._service._store, None if self._service._store is None else self._carried(data)
+        store = self._service._store
+        if store is None:
+            return GoOn(reply) if answer.code == Code.GO_ON else self._let_in(self._known(), reply, random)
+        carried = self._carried(data)
         if answer.code == Code.GO_ON:
             return GoOn(reply)
-        if store is None or carried is None:
-            return self._let_in(self._known(), reply, random)
         return _Waiting(self, store, carried, lambda known: self._let_in(known, reply, random), lambda: _later(now, began))
 
     def _answer(self, data: bytes, now: When | None, random: bytes) -> tuple[Answer, bytes]:
@@ -206,12 +207,10 @@ class Connection(Secret):
             raise fault_of(answer)
         return answer, ctypes.string_at(buffer, answer.size)
 
-    def _carried(self, data: bytes) -> _Carried | None:
-        """The request of bytes that the service has taken, and what it came in; or None if none came yet."""
-        if data.startswith(_REQUEST):
-            return _Carried(data, None)
-        found = self._negotiation.take(data)
-        return _Carried(found.request, found) if isinstance(found, Token) else None
+    def _carried(self, data: bytes) -> _Carried:
+        """The request of bytes that the service has taken, and what it came in."""
+        found = None if data.startswith(_REQUEST) else self._negotiation.take(data)
+        return _Carried(found.request, found) if isinstance(found, Token) else _Carried(data, None)
 
     def _known(self) -> dict[str, Any]:
         return known_by(self._handle, self._service._skew)
@@ -266,15 +265,16 @@ class _Waiting:
                  later: Callable[[], Moment]) -> None:
         self._connection, self._store, self._carried, self._let_in, self._later = connection, store, carried, let_in, later
         self._known = connection._known()
-        self._stamp = Known(**self._known).stamp(store.largest_skew)
         self._said: Code = Code.STORE_FAILED
         self._fault: Exception | None = None
 
     def ask(self) -> None:
         """Ask the store, which may take long. No lock is held."""
         try:
-            is_new = self._store.add(self._stamp.data, self._stamp.keep_until)
-        except (StoreFailed, MemoryError) as fault:
+            # (after the year 9999 there is no moment until which to keep it)
+            stamp = Known(**self._known).stamp(self._store.largest_skew)
+            is_new = self._store.add(stamp.data, stamp.keep_until)
+        except (StoreFailed, Fault, MemoryError) as fault:
             self._fault = fault
             return
         except BaseException:
@@ -434,7 +434,11 @@ class Service(Serving):
         >>> asyncio.run(service.answer_async(request, now=1_700_000_100)).client
         'alice@EX'
         """
-        return await self.login().answer_async(data, now)
+        try:
+            connection = self.login()
+        except MemoryError:
+            return Refused(Code.OUT_OF_MEMORY)
+        return await connection.answer_async(data, now)
 
     def login(self) -> Connection:
         """Return the login of one client, which may take several rounds.

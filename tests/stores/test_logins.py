@@ -14,7 +14,7 @@ from fevstunik import (
     make_request, stores, wrap_request)
 from fevstunik.stores import SQLite, StoreFailed
 
-from support import fixture, gss_rules
+from support import c_programs, fixture, gss_rules
 
 pytestmark = pytest.mark.usefixtures("at_the_top")
 NAME, NOW = "host/web@EX", 1_700_000_100
@@ -93,17 +93,19 @@ def test_a_new_stamp(cache, form):
     assert login.reply and login.addresses == ()
 
 
-def test_a_real_client(cache, tmp_path):
+def test_a_real_client(tmp_path):
+    """By the machine's clock, over a file."""
+    cache = CredentialCache(c_programs.current_cache(int(time.time()) - 60))
     client, service = Client(cache, NAME), serving(tmp_path / "stamps", first_life=True, subkey=20)
-    token = client.first(now=NOW)
-    login = service.answer(token, NOW)
+    token = client.first()
+    login = service.answer(token)
     assert client.finish(login.reply).service_subkey == login.service_subkey
     other = serving(SQLite(tmp_path / "stamps"), first_life=True)
-    assert [it.answer(token, NOW).cause for it in (service, other, other)] == [Code.REPEAT] * 3
+    assert [it.answer(token).cause for it in (service, other, other)] == [Code.REPEAT] * 3
 
 
 def test_the_largest_skew_counts(cache):
-    store = Asked(True, largest_skew=1000)
+    store = Asked(True, largest_skew=1000, remembers_from=Moment(NOW - 5000))
     assert serving(store).answer(request(cache), NOW)
     assert store.asked[0][1] == Moment(NOW + 2000)
 
@@ -256,6 +258,15 @@ def test_memory_runs_out(cache, monkeypatch, name):
     assert isinstance(refused, Refused) and (refused.cause, store) == (Code.OUT_OF_MEMORY, [])
 
 
+def test_no_moment_until_which_to_keep_a_stamp(cache, monkeypatch):
+    """The service is asked in the year 9999."""
+    call, none, store = _library.Library.call, _interface.Answer(Code.BAD_MOMENT), Asked(True)
+    monkeypatch.setattr(_library.Library, "call", lambda self, called, *words: (
+        none if called == "accepted_stamp" else call(self, called, *words)))
+    refused = serving(store).answer(request(cache), NOW)
+    assert (refused.cause, store.asked) == (Code.STORE_FAILED, []) and refused.__cause__.code == Code.BAD_MOMENT
+
+
 def no_memory(*_):
     raise MemoryError
 
@@ -264,11 +275,12 @@ def no_memory(*_):
     (os, "urandom"), (_login.ctypes, "create_string_buffer"), (_login.ctypes, "string_at"), (_login, "octets"),
     (_login, "_LoginHandle"), (_login, "_later"), (_login.Asked, "read")])
 @pytest.mark.parametrize("store", [None, Asked(True), Asked(False), Asked(MemoryError())])
-def test_pythons_memory_runs_out(cache, monkeypatch, module, name, store):
+@pytest.mark.parametrize("is_async", [False, True])
+def test_pythons_memory_runs_out(cache, monkeypatch, module, name, store, is_async):
     """It is a refusal, and no exception."""
     service, token = alone() if store is None else serving(store), request(cache)
     monkeypatch.setattr(module, name, no_memory)
-    decision = service.answer(token, NOW)
+    decision = asyncio.run(service.answer_async(token, NOW)) if is_async else service.answer(token, NOW)
     if isinstance(decision, Refused):
         assert decision.cause in (Code.OUT_OF_MEMORY, Code.REPEAT)
     else:
@@ -291,15 +303,15 @@ def test_memory_runs_out_for_a_refusal(cache, monkeypatch, name):
 
 
 @pytest.mark.parametrize("words, start", [
-    ({}, MADE.seconds), ({"skew": 100}, MADE.seconds + 200), ({"started": MADE.seconds - 500}, MADE.seconds),
-    ({"started": MADE.seconds + 90}, MADE.seconds + 90), ({"skew": 0}, MADE.seconds + 300)])
-def test_a_service_starts_when_its_store_was_made(cache, words, start):
+    ({}, NOW), ({"skew": 100}, NOW + 200), ({"started": NOW - 500}, NOW), ({"started": NOW + 90}, NOW + 90),
+    ({"skew": 0}, NOW + 300)])
+def test_a_service_starts_when_its_store_was_made(cache, still, words, start):
     """It refuses for the skew from then on, for the largest one if its own is smaller."""
     skew = words.get("skew", 300)
     for late, let_in in ((0, False), (1, True)):
         at = start + skew + late
         token = make_request(cache, NAME, now=at)[0]
-        decision = serving(Asked(True), **words).answer(token, at)
+        decision = serving(Asked(True, remembers_from=Moment(NOW)), **words).answer(token, at)
         assert bool(decision) == let_in and (let_in or decision.cause == Code.JUST_STARTED)
 
 

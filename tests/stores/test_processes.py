@@ -29,7 +29,7 @@ REQUESTS, MORE = int(os.environ.get("STORES_REQUESTS", "300")), 20
 KILLS = 4
 # How long a process waits for the store while both run on a busy machine, and where that is tested; how long a phase
 # may take; and how long a process that is started again, which on a machine that does nothing else is below a second.
-PATIENT, IMPATIENT, SECONDS, STARTING = 20, 1, 90, 5
+PATIENT, IMPATIENT, SECONDS, STARTING = 20, 1, 120, 5
 JUST_STARTED, SKEW = ("refused", "JUST_STARTED"), ("refused", "SKEW")
 # Runs a program over the package whose boot is named by a file.
 WITH_BOOT = """
@@ -112,7 +112,7 @@ class Phases:
     def __init__(self, store, instances, plain, killed, last):
         self.rng, self.store, self.instances = random.Random(4120), store, instances
         self.plain, self.killed = plain, killed
-        self.broken, self.down, self.back = last[::4], last[1::4], [*last[2::4], *last[3::4]]
+        self.broken, self.down, self.back = last[::2], last[1::4], last[3::4]
         # How often each request was let in so far.
         self.let_in = Counter()
 
@@ -155,7 +155,8 @@ class Phases:
     def all_again(self):
         """Instances that have forgotten all get what they got before."""
         self.start_again()
-        self.delivered([*self.plain[:500], *self.killed, *self.broken, *self.down, *self.back])
+        let_in = [it for part in (self.plain, self.killed, self.broken, self.back) for it in part[:250]]
+        self.delivered([*let_in, *self.down])
         yield "what was let in before isn't let in again by instances that have forgotten it", self.none_twice()
         down = Counter(self.let_in[it] for it in self.down)
         yield "what wasn't let in because the store was down is let in once", is_it(down, Counter({1: len(self.down)}))
@@ -181,7 +182,8 @@ class Phases:
 
 
 def in_time(store, instance, requests):
-    """A store that is stopped, before an instance has connected to it and after."""
+    """A store that is stopped after an instance has connected to it."""
+    yield "an instance that has started", is_it(instance.asked(next(requests)), ACCEPTED)
     for when in ("at first", "later"):
         store.signalled(signal.SIGSTOP)
         began = time.monotonic()

@@ -6,11 +6,12 @@ import time
 import uuid
 from concurrent.futures import ThreadPoolExecutor
 from pathlib import Path
+from types import SimpleNamespace
 
 import pytest
 
 from fevstunik import Moment
-from fevstunik.stores import PostgreSQL, Redis, Store, StoreFailed, UnsafeStore
+from fevstunik.stores import PostgreSQL, Redis, Store, StoreFailed, UnsafeStore, _redis
 
 from support import store_servers
 
@@ -172,6 +173,15 @@ def test_a_wrong_setting(request, kind, name, how, wrong, right):
     finally:
         how(server, right)
     assert opened(server).add(named(), LATER)
+
+
+@pytest.mark.parametrize("version, role, name", [
+    ("6.0.16", "master", "version"), ("5.9", "master", "version"), ("7.2.4", "slave", "role")])
+def test_an_old_server_and_a_replica(version, role, name):
+    client = SimpleNamespace(info=lambda: {"redis_version": version, "role": role})
+    with pytest.raises(UnsafeStore) as raised:
+        _redis._check(client)
+    assert raised.value.name == name
 
 
 def test_another_skew_and_clock(server, monkeypatch):
