@@ -9,7 +9,7 @@ import sys
 import pytest
 
 from support import TOP, http_service, kdc
-from support.web_realm import ALICE, OTHER_HOST, PYTHON, SECONDS
+from support.web_realm import ALICE, OTHER_HOST, PYTHON, SECONDS, leading
 
 pytestmark = [pytest.mark.packages, pytest.mark.slow, pytest.mark.xdist_group("browsers")]
 HELLO = f"hello {ALICE}\n"
@@ -60,7 +60,7 @@ def front(world, certificate, tmp_path_factory):
 @pytest.mark.parametrize("version, first", [("--http1.1", "HTTP/1.1 200 OK"), ("--http2", "HTTP/2 200")])
 def test_curl(world, front, certificate, version, first):
     said = kdc.ran(["curl", "-sS", "-i", version, "--cacert", certificate, "--negotiate", "-u", ":", "-L",
-                    f"{front}moved?{front}"], seconds=SECONDS, env=world.env())
+                    leading(front, front)], seconds=SECONDS, env=world.env())
     head, _, page = said.replace("\r", "").rpartition("\n\n")
     last = head.rpartition("\n\n")[2]
     answer = re.search(r"^www-authenticate: Negotiate (\S+)$", last, re.M | re.I)
@@ -80,8 +80,7 @@ for url in sys.argv[1:]:
 
 
 def test_requests_kerberos(world):
-    """It checks the proof of who the service is. Its first login at a host ends in a refusal if it is redirected after
-    it."""
+    """It checks the proof of who the service is."""
     said = kdc.ran([PYTHON, "-B", "-c", REQUESTS_KERBEROS, world["web"].url, world["web"].url], seconds=SECONDS,
                    env=world.env())
     assert said == f"200 {HELLO}" * 2
@@ -140,9 +139,9 @@ def ours(world, certificate, request):
 def test_ours(world, front, ours):
     here = world["web"].url
     there = here.replace("localhost", OTHER_HOST)
-    urls = [here, here, front, f"{here}moved?{front}", f"{here}inside?/", f"{front}moved?{front}inside?/"]
+    urls = [here, here, front, leading(here, front), f"{here}inside", leading(front, f"{front}inside")]
     assert ours.ask(*urls, world["sessions"].url, world["sessions"].url) == f"200 {HELLO}" * (len(urls) + 2)
-    assert ours.ask(f"{here}inside?{there}moved?{here}") == f"200 {HELLO}"
+    assert ours.ask(leading(here, leading(there, here), "inside")) == f"200 {HELLO}"
 
 
 @pytest.mark.parametrize("service, said", [

@@ -6,6 +6,7 @@ import re
 import struct
 import subprocess
 import time
+from urllib.parse import quote
 
 from support import TESTS, TOP, kdc, tickets
 
@@ -66,6 +67,11 @@ def clock(folder, ahead):
         return {}
     (folder / f"ahead-{ahead}").write_text(str(ahead))
     return {"LD_PRELOAD": str(folder / "clock.so"), "CLOCK_FILE": str(folder / f"ahead-{ahead}")}
+
+
+def leading(at, to, page="moved"):
+    """The address of a page of tests/browsers/app.py that leads elsewhere."""
+    return f"{at}{page}?{quote(to, safe='')}"
 
 
 class Service:
