@@ -8,7 +8,7 @@ import pytest
 
 from support import TOP
 from support.browsers import BROWSERS
-from support.web_realm import ALICE, OTHER_HOST, leading
+from support.web_realm import ADDRESS, ALICE, OTHER_HOST, leading
 
 pytestmark = [pytest.mark.packages, pytest.mark.slow, pytest.mark.xdist_group("browsers")]
 HELLO = f"hello {ALICE}"
@@ -66,7 +66,7 @@ def test_refusal(browser, world, service):
 
 def test_a_host_that_is_not_trusted(browser, world):
     """The browser doesn't log in there, and the page says so."""
-    _, text = browser.page(world["web"].url.replace("localhost", "127.0.0.1"))
+    _, text = browser.page(world["web"].url.replace("localhost", ADDRESS))
     keep(browser, "not trusted")
     assert "it isn't set to log in to this site" in text
 

@@ -11,8 +11,8 @@ from urllib.parse import quote
 from support import TESTS, TOP, kdc, tickets
 
 REALM, SERVICE, OTHER = "WEB.TEST", "HTTP/localhost", "HTTP/other.test"
-# Another host of this machine, for redirects. (Browsers and libraries know names below localhost.)
-OTHER_HOST = "www.localhost"
+# Another host of this machine, for redirects. (Browsers know names below localhost, libraries only its address.)
+OTHER_HOST, ADDRESS = "www.localhost", "127.0.0.1"
 ALICE = f"alice@{REALM}"
 PYTHON = "/usr/bin/python3"
 SECONDS = 60
