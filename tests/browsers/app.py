@@ -9,7 +9,9 @@ writes each field Authorization to a file.
 """
 import argparse
 import contextlib
+import logging
 import socket
+from urllib.parse import unquote
 
 from fevstunik.web import Negotiate, Sessions, Users, serve
 
@@ -17,7 +19,10 @@ from fevstunik.web import Negotiate, Sessions, Users, serve
 def page(environ, start_response):
     path, query = environ["PATH_INFO"], environ.get("QUERY_STRING", "")
     if path in ("/moved", "/inside"):
-        start_response("302 Found", [("Location", query or "/"), ("Content-Length", "0")])
+        start_response("302 Found", [("Location", unquote(query) or "/"), ("Content-Length", "0")])
+        return []
+    if path != "/":
+        start_response("404 Not Found", [("Content-Length", "0")])
         return []
     start_response("200 OK", [("Content-Type", "text/plain; charset=utf-8"), ("Cache-Control", "no-store")])
     return [f"hello {environ['REMOTE_USER']}\n".encode()]
@@ -41,6 +46,7 @@ def main():
     words.add_argument("--sessions", action="store_true")
     words.add_argument("--tokens")
     given = words.parse_args()
+    logging.basicConfig(format="%(message)s", level=logging.INFO)
     users = Users(realms={given.realm: "{user}@{realm}"}) if given.realm else None
     sessions = Sessions(secure=False) if given.sessions else None
     name = None if given.service == "*" else given.service

@@ -5,6 +5,7 @@ import pytest
 from support import TESTS, tickets, web_realm
 
 APP = TESTS / "browsers/app.py"
+HOSTS = web_realm.OTHER_HOST, web_realm.ADDRESS
 
 
 class World:
@@ -32,7 +33,7 @@ class World:
 @pytest.fixture(scope="session")
 def world(library, tmp_path_factory):
     folder = web_realm.with_clock(tmp_path_factory.mktemp("browsers"))
-    made = World(folder, web_realm.realm_in(folder, [f"HTTP/{web_realm.OTHER_HOST}"]), library)
+    made = World(folder, web_realm.realm_in(folder, [f"HTTP/{it}" for it in HOSTS]), library)
     try:
         tickets.bend(made.realm.folder / "www.keytab", made.realm.folder / "wrong.keytab")
         made.start("web", served="*")

@@ -1,12 +1,14 @@
 """Chromium and Firefox at web services: they log in, see a page for each kind of refusal, follow redirects, and stay
 logged in by a session. What they show is kept as pictures in build/pictures."""
+import contextlib
+import functools
 import struct
 
 import pytest
 
 from support import TOP
 from support.browsers import BROWSERS
-from support.web_realm import ALICE, OTHER_HOST
+from support.web_realm import ADDRESS, ALICE, OTHER_HOST, leading
 
 pytestmark = [pytest.mark.packages, pytest.mark.slow, pytest.mark.xdist_group("browsers")]
 HELLO = f"hello {ALICE}"
@@ -19,16 +21,26 @@ REFUSALS = {
 }
 
 
-@pytest.fixture(scope="module", params=BROWSERS)
-def browser(world, request):
-    """A browser that logs in at two hosts. A new profile of Chromium asks for its first page before it knows these
-    hosts: it then shows the page for those who haven't logged in, and logs in from the next page on."""
+@pytest.fixture(scope="module")
+def started(world):
+    """Gives the browser of a name, which is started once and logs in at two hosts. A new profile of Chromium asks for
+    its first page before it knows these hosts: it then shows the page for those who haven't logged in, and logs in from
+    the next page on."""
     env = {name: world.env()[name] for name in ("KRB5_CONFIG", "KRB5CCNAME")}
-    with BROWSERS[request.param](world.folder / request.param, ["localhost", OTHER_HOST], env) as made:
-        made.name = request.param
-        first = made.page(world["web"].url)[1]
-        assert first == HELLO or made.name == "Chromium" and "This site needs a Kerberos login." in first
-        yield made
+    with contextlib.ExitStack() as stack:
+        @functools.cache
+        def start(name):
+            made = stack.enter_context(BROWSERS[name](world.folder / name, ["localhost", OTHER_HOST], env))
+            made.name = name
+            first = made.page(world["web"].url)[1]
+            assert first == HELLO or name == "Chromium" and "This site needs a Kerberos login." in first
+            return made
+        yield start
+
+
+@pytest.fixture(params=BROWSERS)
+def browser(started, request):
+    return started(request.param)
 
 
 def keep(browser, what):
@@ -54,7 +66,7 @@ def test_refusal(browser, world, service):
 
 def test_a_host_that_is_not_trusted(browser, world):
     """The browser doesn't log in there, and the page says so."""
-    _, text = browser.page(world["web"].url.replace("localhost", "127.0.0.1"))
+    _, text = browser.page(world["web"].url.replace("localhost", ADDRESS))
     keep(browser, "not trusted")
     assert "it isn't set to log in to this site" in text
 
@@ -63,7 +75,7 @@ def test_redirects(browser, world):
     """To another host, which gets a token of its own; and after a login."""
     here = world["web"].url
     there = here.replace("localhost", OTHER_HOST)
-    for first, last in ((f"{here}moved?{there}", there), (f"{there}inside?{here}", here), (f"{here}inside?/", here)):
+    for first, last in ((leading(here, there), there), (leading(there, here, "inside"), here), (f"{here}inside", here)):
         assert browser.page(first) == (last, HELLO)
 
 

@@ -36,7 +36,8 @@ def is_it(found, wanted):
 
 class Client:
     """A program that prints a token, and reads the answer: the kinds of token that it has; how it names a host's
-    service; whether it verifies the answer; and whether it can have a wrong clock, and an expired ticket."""
+    service; whether it asks for an answer and verifies it; and whether it can have a wrong clock, and an expired
+    ticket."""
 
     def __init__(self, name, words, kinds, host="HTTP@", verifies=True, has_clock=True):
         self.name, self.words, self.kinds, self.host = name, words, kinds, host
@@ -73,10 +74,10 @@ def bent(header):
     return header_of(token[:-1] + bytes([token[-1] ^ 1]))
 
 
-def refused(service, what, header, why):
-    """A header is refused, with an error in a token, and the log says why."""
+def refused(service, what, header, why, asks=True):
+    """A header is refused, with an error in a token if its client asks for a reply, and the log says why."""
     status, words, _ = service.asked(header)
-    yield f"{what} is refused", is_it((status, len(words)), (401, 2))
+    yield f"{what} is refused", is_it((status, len(words)), (401, 2 if asks else 1))
     yield f"{what} is refused by name", is_it(service.last(), why)
 
 
@@ -98,15 +99,16 @@ class World:
         said = client.ended(process, words)
         if client.verifies:
             yield f"{what} verifies the answer", is_it(said, "complete")
-        yield from refused(self.service, f"{what}, sent again,", header, REPEAT)
+        yield from refused(self.service, f"{what}, sent again,", header, REPEAT, client.verifies)
 
     def refuses(self, client):
-        kind, name = client.kinds[-1], client.name
-        yield from refused(self.service, f"{name}, bent,", bent(client.header(self.env(), "localhost", kind)), BENT)
-        yield from refused(self.service, f"{name} for another service", client.header(self.env(), "other.test", kind),
-                           NOT_US)
-        yield from refused(self.later, f"{name} at a service with a wrong clock",
-                           client.header(self.env(), "localhost", kind), SKEW)
+        kind, name, asks = client.kinds[-1], client.name, client.verifies
+        header = bent(client.header(self.env(), "localhost", kind))
+        yield from refused(self.service, f"{name}, bent,", header, BENT, asks)
+        header = client.header(self.env(), "other.test", kind)
+        yield from refused(self.service, f"{name} for another service", header, NOT_US, asks)
+        header = client.header(self.env(), "localhost", kind)
+        yield from refused(self.later, f"{name} at a service with a wrong clock", header, SKEW, asks)
         if client.has_clock:
             yield from refused(self.service, f"{name} with a wrong clock",
                                client.header(self.env(ahead=WRONG), "localhost", kind), SKEW)

@@ -6,12 +6,13 @@ import re
 import struct
 import subprocess
 import time
+from urllib.parse import quote
 
 from support import TESTS, TOP, kdc, tickets
 
 REALM, SERVICE, OTHER = "WEB.TEST", "HTTP/localhost", "HTTP/other.test"
-# Another host of this machine, for redirects. (Browsers and libraries know names below localhost.)
-OTHER_HOST = "www.localhost"
+# Another host of this machine, for redirects. (Browsers know names below localhost, libraries only its address.)
+OTHER_HOST, ADDRESS = "www.localhost", "127.0.0.1"
 ALICE = f"alice@{REALM}"
 PYTHON = "/usr/bin/python3"
 SECONDS = 60
@@ -66,6 +67,11 @@ def clock(folder, ahead):
         return {}
     (folder / f"ahead-{ahead}").write_text(str(ahead))
     return {"LD_PRELOAD": str(folder / "clock.so"), "CLOCK_FILE": str(folder / f"ahead-{ahead}")}
+
+
+def leading(at, to, page="moved"):
+    """The address of a page of tests/browsers/app.py that leads elsewhere."""
+    return f"{at}{page}?{quote(to, safe='')}"
 
 
 class Service:
