@@ -29,6 +29,7 @@ overwrites what it frees, but Python's bytes stay in memory: files that were rea
 """
 from ._accepted import Accepted, Stamp
 from ._bindings import tls_server_end_point
+from ._caches import CacheError, CacheTrouble
 from ._client import Agreed, Client, Pending, ServiceError, login, make_request
 from ._codes import Code
 from ._errors import Error, Fault, LibraryError
@@ -42,6 +43,7 @@ from ._tokens import (
 from ._values import Key, Moment, TicketFlags, TypedData, When, check_name
 
 __all__ = [
+    "CacheError", "CacheTrouble",
     "Accepted", "Acceptor", "Agreed", "Asked", "Client", "Code", "Connection", "Context", "ContextFlags", "Credential", "CredentialCache", "Error", "Fault", "GoOn",
     "Key", "Keytab", "KeytabEntry", "KrbError", "LibraryError", "Login", "Mechanism", "Moment", "Negotiation", "Owner", "Pending", "Refused",
     "Says", "Service", "ServiceError", "Stamp", "TicketFlags", "Token", "TokenAnswer", "TypedData", "Usage", "Verdict", "When", "check_name", "load",

@@ -162,14 +162,15 @@ _UNPROVED = {
 
 
 class Client(Secret):
-    """The client's side of a login: makes the first message, and reads the service's answer. The service is asked for a reply.
+    """The client's side of a login: makes the first message, and reads the service's answer.
 
-    cache       has a ticket of its owner for the service
-    service     the service's name, as ``host/web@EX``
-    negotiated  whether the token is in a negotiation (SPNEGO), as web services want it
-    context     what a GSS-API client asks for, as of make_request; or None for a request without a token around it
-    bindings    the bindings of the channel, as tls_server_end_point returns them, or None
-    subkey      a key that the client chooses, as Key.random(20), or None
+    cache        has a ticket of its owner for the service
+    service      the service's name, as ``host/web@EX``
+    negotiated   whether the token is in a negotiation (SPNEGO), as web services want it
+    context      what a GSS-API client asks for, as of make_request; or None for a request without a token around it
+    bindings     the bindings of the channel, as tls_server_end_point returns them, or None
+    subkey       a key that the client chooses, as Key.random(20), or None
+    wants_reply  whether to ask the service for a reply. Without one, nothing proves who the service is
 
     It is a context manager. At the end of the block, or by close(), the library frees what it holds.
 
@@ -182,15 +183,16 @@ class Client(Secret):
     """
 
     def __init__(self, cache: CredentialCache, service: str, *, negotiated: bool = True, context: ContextFlags | None = ContextFlags(0),
-                 bindings: Bytes | None = None, subkey: Key | None = None) -> None:
-        self._cache, self._service, self._negotiated = cache, service, negotiated
+                 bindings: Bytes | None = None, subkey: Key | None = None, wants_reply: bool = True) -> None:
+        self._cache, self._service, self._negotiated, self._wants_reply = cache, service, negotiated, wants_reply
         self._context, self._bindings, self._subkey = context, bindings, subkey
         self._sent: tuple[Pending, Moment] | None = None
 
-    def first(self, *, now: When | None = None) -> bytes:
+    def first(self, *, now: When | None = None, clock_offset: float = 0.0) -> bytes:
         """Return the bytes to send to the service. Another call makes another request, whose answer is then awaited.
 
-        now  the client's clock, as of make_request
+        now           the client's clock, as of make_request
+        clock_offset  by how many seconds the service's clock is ahead, as a ServiceError says
 
         Raises Fault if no request can be made.
 
@@ -198,10 +200,10 @@ class Client(Secret):
         >>> Client(CredentialCache.read("examples/client.ccache"), "host/web@EX").first(now=1_700_000_100)[0] == 0x60
         True
         """
-        at = clock_of_request(now)
-        moment = Moment(at.seconds, at.micros)
-        request, pending = make_request(
-            self._cache, self._service, now=moment, subkey=self._subkey, context=self._context, bindings=self._bindings)
+        here = clock_of_request(now)
+        moment = Moment(*divmod(1_000_000 * here.seconds + here.micros + round(1_000_000 * clock_offset), 1_000_000))
+        request, pending = make_request(self._cache, self._service, now=moment, subkey=self._subkey, wants_reply=self._wants_reply,
+                                        context=self._context, bindings=self._bindings)
         self.close()
         self._sent = pending, moment
         return request if self._context is None else wrap_request(request, negotiated=self._negotiated)
@@ -286,9 +288,7 @@ def login(cache: CredentialCache, service: str, exchange: Callable[[bytes], byte
             ahead = refused.clock_offset
             if not adjust_clock or ahead is None or refused.error is None or refused.error.code != _SKEW:
                 raise
-        here = clock_of_request(now)
-        there = Moment(*divmod(1_000_000 * here.seconds + here.micros + round(1_000_000 * ahead), 1_000_000))
-        return client.finish(exchange(client.first(now=there)))
+        return client.finish(exchange(client.first(now=now, clock_offset=ahead)))
 
 
 def _context(flags: ContextFlags, bindings: Bytes | None) -> _interface.ContextChoice:

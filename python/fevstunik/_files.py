@@ -8,8 +8,11 @@ from types import TracebackType
 from typing import Callable, TypeVar
 
 from . import _interface
+from ._caches import CacheError, CacheTrouble, default_path, get_ticket
+from ._errors import Fault
 from ._library import Bytes, Handle, Secret, done, filled, fitting, library, octets, read, text_of
-from ._values import Key, TicketFlags
+from ._shown import fit_for_a_line
+from ._values import Key, Moment, TicketFlags, When, check_name
 
 # How long a file may be. One byte more is read, so that the library sees that a longer file is too long.
 LIMIT = 16_777_216
@@ -196,6 +199,17 @@ class Credential(Secret):
     is_skey: bool
 
 
+def _has_realm(name: str) -> bool:
+    """Whether a service's name has a realm. Raises CacheError if it isn't a name."""
+    for text, has_realm in ((name, True), (f"{name}@X", False)):
+        try:
+            check_name(text)
+        except Fault:
+            continue
+        return has_realm
+    raise CacheError(CacheTrouble.BAD_SERVICE, f"{fit_for_a_line(name)!r} isn't the name of a service, such as HTTP/www.example.com")
+
+
 def _owner(handle: Handle) -> Owner:
     owner, data = read(_interface.Owner, lambda struct, *into: handle.call("cache_owner", struct, *into))
     return Owner(owner.name.text(data), owner.name_type, (owner.offset_seconds, owner.offset_micros) if owner.has_offset else None)
@@ -214,6 +228,7 @@ class CredentialCache(Secret):
 
     def __init__(self, data: Bytes) -> None:
         self._data = octets(data)
+        self._path: str | None = None
         self._credentials: tuple[Credential, ...] | None = None
         self._handle = Handle("cache")
         done(self._handle.call("cache_new", self._data, len(self._data)))
@@ -226,7 +241,77 @@ class CredentialCache(Secret):
         >>> len(CredentialCache.read("examples/mit-tickets.ccache").credentials)
         9
         """
-        return cls(content(path))
+        made = cls(content(path))
+        made._path = os.fspath(path)
+        return made
+
+    @classmethod
+    def default(cls) -> CredentialCache:
+        """Return the cache of the user who runs the program, as it is in its file now.
+
+        The variable KRB5CCNAME says where it is: ``FILE:PATH``, a path, or ``DIR:PATH``, the folder's current cache. Without it,
+        default_ccache_name of krb5.conf does, and without that the file is /tmp/krb5cc_UID.
+
+        Raises CacheError if there is none (NO_FILE), or if it isn't a file (OTHER_KIND: KEYRING, KCM, MEMORY, API). Its text says what to
+        do. Invalid bytes raise Fault.
+
+        >>> import os
+        >>> os.environ["KRB5CCNAME"] = "FILE:examples/client.ccache"
+        >>> CredentialCache.default()
+        <CredentialCache of alice@EX>
+        >>> del os.environ["KRB5CCNAME"]
+        """
+        path = default_path()
+        try:
+            return cls.read(path)
+        except FileNotFoundError:
+            raise CacheError(CacheTrouble.NO_FILE, f"there is no credential cache at {fit_for_a_line(path)}: run `kinit`") from None
+        except OSError as fault:
+            raise CacheError(
+                CacheTrouble.UNREADABLE, f"the credential cache at {fit_for_a_line(path)} can't be read: {fault.strerror}") from fault
+
+    def ticket_for(self, service: str, *, now: When | None = None) -> Credential | None:
+        """Return the owner's ticket for a service that ends last and hasn't ended, or None.
+
+        service  the service's name, as ``host/web@EX``; or as ``host/web``, for that of any realm
+        now      the client's clock: the machine's clock by default
+
+        >>> cache = CredentialCache.read("examples/client.ccache")
+        >>> cache.ticket_for("host/web", now=1_700_000_100).server
+        'host/web@EX'
+        >>> cache.ticket_for("host/web") is None
+        True
+        """
+        at = (Moment.now() if now is None else Moment.of(now)).seconds
+        prefix = service if _has_realm(service) else f"{service}@"
+        found = [it for it in self.credentials if it.client == self.owner.name and not it.is_skey and it.endtime > at
+                 and (it.server == service or prefix != service and it.server.startswith(prefix) and it.server != prefix)]
+        return max(found, key=lambda it: it.endtime) if found else None
+
+    def fetch(self, service: str, *, seconds: float = 30.0) -> CredentialCache:
+        """Return a cache that has a ticket for a service: this one, or what its file holds after ``kvno`` or ``kgetcred`` got one.
+
+        service  the service's name, as ``HTTP/www.example.com``; the program finds the realm, if the name has none
+        seconds  how long the program may take. It is found by PATH, and run without a shell
+
+        Raises CacheError, and its `trouble` says why there is no ticket.
+
+        >>> CredentialCache(open("examples/client.ccache", "rb").read()).fetch("host/mail@EX")
+        Traceback (most recent call last):
+            ...
+        fevstunik.CacheError: NO_PATH: the cache has no ticket for host/mail@EX, and was made from bytes: read it from its file
+        """
+        if self.ticket_for(service) is not None:
+            return self
+        shown = fit_for_a_line(service)
+        if self._path is None:
+            raise CacheError(CacheTrouble.NO_PATH, f"the cache has no ticket for {shown}, and was made from bytes: read it from its file")
+        get_ticket(self._path, service, seconds)
+        again = CredentialCache.read(self._path)
+        if again.ticket_for(service) is None:
+            raise CacheError(CacheTrouble.NO_TICKET, f"the cache at {fit_for_a_line(self._path)} has no ticket for {shown} that is still "
+                             "valid, though one was got")
+        return again
 
     @property
     def owner(self) -> Owner:

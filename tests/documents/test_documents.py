@@ -15,7 +15,7 @@ EXAMPLE = TOP / "crates/krb_example"
 LINES = 200
 # Those whose lines are laid out, and whose commands are run.
 LAID_OUT = ("README.md", "CONTRIBUTING.md", "CHANGELOG.md", "SECURITY.md", "docs/KRBTOOL.md", "docs/LIBRARY.md",
-            "docs/OPERATING.md", "docs/PROOFS.md")
+            "docs/OPERATING.md", "docs/PROOFS.md", "docs/WEB.md")
 OF_THE_EXAMPLE = ("README.md", "docs/LIBRARY.md")
 OF_THE_PROGRAM = ("README.md", "docs/KRBTOOL.md")
 # All that link to files.

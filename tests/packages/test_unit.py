@@ -1,15 +1,16 @@
-"""The sample unit for systemd: it is valid, gives the web service few rights, and the service runs by its command, with what it takes away."""
+"""The sample units for systemd: they are valid, give the web service few rights, and the service runs by its command, with what they take
+away."""
 import re
 import shlex
+import socket
 import subprocess
-import urllib.error
-import urllib.request
 
 import pytest
 from support.packing import KEYTAB, ROOT, run, well, wrong
 
 pytestmark = pytest.mark.packages
 UNIT = ROOT / "examples/negotiate/fevstunik-web.service"
+SOCKET, CONFIG, SITE = UNIT.with_suffix(".socket"), UNIT.with_name("web.toml"), UNIT.with_name("nginx.conf")
 # The exposure that `systemd-analyze security` may find, of 100 for a unit that says nothing.
 EXPOSURE = 15
 # Memory that is written is never run: what MemoryDenyWriteExecute=yes asks of the kernel (PR_SET_MDWE, Linux 6.3).
@@ -21,13 +22,13 @@ os.execv(sys.argv[1], sys.argv[1:])
 """
 
 
-def value(name):
-    (found,) = re.findall(rf"^{name}=(.*)$", UNIT.read_text(), re.M)
+def value(name, unit=UNIT):
+    (found,) = re.findall(rf"^{name}=(.*)$", unit.read_text(), re.M)
     return found
 
 
 def test_systemd_accepts_it():
-    ran = run("systemd-analyze", "verify", UNIT)
+    ran = run("systemd-analyze", "verify", UNIT, SOCKET)
     assert (ran.returncode, ran.stdout + ran.stderr) == (0, "")
 
 
@@ -39,28 +40,38 @@ def test_rights_are_few(tmp_path):
     assert without.returncode != 0, "the threshold says nothing"
 
 
-def test_the_port_is_the_one_that_may_be_bound():
-    assert re.search(r" --port (\d+)$", value("ExecStart"))[1] == value("SocketBindAllow").removeprefix("tcp:")
+def test_the_proxy_asks_at_the_socket():
+    asked = set(re.findall(r"http://unix:([^:]+):", SITE.read_text()))
+    assert asked == {value("ListenStream", SOCKET)}
 
 
-def test_the_program_is_where_it_is_installed(unpacked):
-    program = shlex.split(value("ExecStart"))[1]
-    assert program.startswith("/usr/") and (unpacked.root / program.lstrip("/")).is_file()
+def test_the_configuration_names_what_systemd_hands_over():
+    handed = set(re.findall(r"^LoadCredential=([^:]+):", UNIT.read_text(), re.M))
+    assert handed == {CONFIG.name, re.search(r'^keytab = "(.*)"$', CONFIG.read_text(), re.M)[1]}
+    assert value("ExecStart").endswith(f" --config ${{CREDENTIALS_DIRECTORY}}/{CONFIG.name}")
+    assert f'\nstore = "/run/{value("RuntimeDirectory")}/' in CONFIG.read_text()
 
 
 def test_the_command_serves(unpacked, tmp_path):
-    """With the keytab where systemd puts it, as a user who isn't root, and in memory that is never both written and run."""
-    (tmp_path / "keytab").write_bytes(KEYTAB.read_bytes())
-    python, program, *words = shlex.split(value("ExecStart").replace("${CREDENTIALS_DIRECTORY}", str(tmp_path)))
-    words[words.index("--port") + 1] = "0"
-    command = ["/usr/bin/python3", "-c", DENY_WRITE_EXECUTE, python, str(unpacked.root / program.lstrip("/")), *words]
-    server = subprocess.Popen(command, env=unpacked.environment(), stdout=subprocess.PIPE, stderr=subprocess.PIPE, text=True)
+    """With the keytab where systemd puts it, on the socket that systemd passes, and in memory that is never both written and run."""
+    config = CONFIG.read_text().replace("HTTP/www.example.com@EXAMPLE.COM", "host/web@EX")
+    (tmp_path / "store").mkdir(mode=0o700)
+    (tmp_path / CONFIG.name).write_text(config.replace(f"/run/{value('RuntimeDirectory')}", str(tmp_path / "store")))
+    (tmp_path / "www.keytab").write_bytes(KEYTAB.read_bytes())
+    words = shlex.split(value("ExecStart").replace("${CREDENTIALS_DIRECTORY}", str(tmp_path)))
+    command = shlex.join(["/usr/bin/python3", "-c", DENY_WRITE_EXECUTE, *words])
+    with socket.socket(socket.AF_UNIX) as listener:
+        listener.bind(str(tmp_path / "socket"))
+        listener.listen()
+        script = f"exec 3<&{listener.fileno()}; LISTEN_FDS=1 LISTEN_PID=$$ exec {command}"
+        server = subprocess.Popen(["bash", "-c", script], env=unpacked.environment(), pass_fds=[listener.fileno()], stderr=subprocess.PIPE)
     try:
-        address = server.stdout.readline().strip()
-        assert address.startswith("http://127.0.0.1:"), server.stderr.read()
-        with pytest.raises(urllib.error.HTTPError) as refused:
-            urllib.request.urlopen(address, timeout=20)
-        assert refused.value.code == 401 and refused.value.headers["WWW-Authenticate"] == "Negotiate"
+        with socket.socket(socket.AF_UNIX) as stream:
+            stream.settimeout(20)
+            stream.connect(str(tmp_path / "socket"))
+            stream.sendall(b"GET / HTTP/1.1\r\nHost: web\r\nConnection: close\r\n\r\n")
+            said = stream.makefile("rb").read()
+        assert said.startswith(b"HTTP/1.1 401 ") and b"\r\nWWW-Authenticate: Negotiate\r\n" in said
     finally:
         server.terminate()
         server.wait()

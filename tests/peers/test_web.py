@@ -1,6 +1,5 @@
 """The web service of examples/negotiate beside real clients, with a KDC of MIT krb5: curl, MIT's GSS-API by
-python3-gssapi, Heimdal's GSS-API, Java's GSS-API and HttpURLConnection, gokrb5, our own client, and curl through nginx
-with auth_request.
+python3-gssapi, Heimdal's GSS-API, Java's GSS-API and HttpURLConnection, gokrb5, and our own client.
 
 Our client, and the tokens of krbtool, log in at a service over MIT's GSS-API, too.
 
@@ -11,110 +10,24 @@ asks the kernel for the time. So these two have a right clock, and the service's
 ticket. gokrb5 looks at no answer token; nor does curl.
 """
 import base64
-import contextlib
 import functools
-import http.client
 import os
 import re
-import socket
-import struct
 import subprocess
 import time
 
 import pytest
 
-from support import TESTS, TOP, gss_rules, kdc, tickets
+from support import TESTS, TOP, gss_rules, kdc
+from support.web_realm import (
+    ALICE, LATER, PYTHON, REALM, SECONDS, SERVICE, WRONG, Service, clock, realm_in, with_clock)
 
 pytestmark = [pytest.mark.packages, pytest.mark.slow, pytest.mark.xdist_group("web")]
 WEB = TESTS / "peers/web"
-REALM, SERVICE, OTHER = "WEB.TEST", "HTTP/localhost", "HTTP/other.test"
-ALICE = f"alice@{REALM}"
-PYTHON = "/usr/bin/python3"
-SECONDS = 60
-# How far a clock is wrong that is refused, and how far both are ahead when a ticket of ten hours has expired.
-WRONG, LATER = 3_600, 39_600
 REPEAT = "REPEAT: a request of this service, client and time was seen before"
 EXPIRED, SKEW = "EXPIRED: the ticket has expired", "SKEW: the clocks differ by more than the skew"
 NOT_US = "NOT_US: the ticket is for a service that isn't served here"
 BENT = "AUTHENTICATOR_INTEGRITY: the session key doesn't open the authenticator"
-
-
-def realm_in(folder):
-    """A realm with a KDC, the service's keytab, and a user with a ticket for the KDC and for two services."""
-    permitted, _, ktadd = tickets.advice()
-    realm = kdc.MitRealm(folder / "web", REALM, None, f"{tickets.AES256}:normal {tickets.AES128}:normal")
-    realm.kadmin("addprinc", "-pw", kdc.PASSWORD, "alice")
-    for name in (SERVICE, OTHER):
-        realm.kadmin("addprinc", "-randkey", name)
-    realm.kadmin(*tickets.filled_in(ktadd, realm.folder / "www.keytab", SERVICE))
-    try:
-        realm.start("default", [permitted])
-        cache = realm.cache("alice", "default", [SERVICE, OTHER])
-        (realm.folder / "later.ccache").write_bytes(valid_for_longer(cache.read_bytes()))
-        # Heimdal reads no cache that others may read.
-        (realm.folder / "later.ccache").chmod(0o600)
-    except kdc.Trouble:
-        realm.stop()
-        raise
-    return realm
-
-
-def valid_for_longer(cache):
-    """The cache, which says of each ticket that it ends a day later than it does: so a client uses one that has
-    expired."""
-    now, cache = int(time.time()), bytearray(cache)
-    for at in range(len(cache) - 12):
-        begins, starts, ends = struct.unpack_from(">3I", cache, at)
-        if begins <= starts <= now and now - begins < SECONDS and 0 < ends - now <= 36_000:
-            struct.pack_into(">I", cache, at + 8, ends + 86_400)
-    return bytes(cache)
-
-
-class Service:
-    """The running service: where it listens, and what it logged. Its clock may be ahead."""
-
-    def __init__(self, folder, realm, library, *words, ahead=0):
-        self.log = folder / f"serve-{ahead}.log"
-        where = {**os.environ, "FEVSTUNIK_LIBRARY": str(library), "PYTHONPATH": str(TOP / "python"),
-                 **clock(folder, ahead)}
-        command = [PYTHON, "-B", TOP / "examples/negotiate/serve.py", realm.folder / "www.keytab", f"{SERVICE}@{REALM}",
-                   "--port", "0", *words]
-        with open(self.log, "wb") as log:
-            self.process = subprocess.Popen([str(it) for it in command], stdout=subprocess.PIPE, stderr=log, text=True,
-                                            env=where)
-        self.url = self.process.stdout.readline().strip().replace("127.0.0.1", "localhost")
-        self.port = self.url.rstrip("/").rpartition(":")[2]
-
-    def __enter__(self):
-        return self
-
-    def __exit__(self, *_):
-        self.process.kill()
-        self.process.wait()
-
-    def connected(self):
-        return http.client.HTTPConnection("127.0.0.1", int(self.port), timeout=SECONDS)
-
-    def asked(self, header=None, connection=None):
-        """The status, the words of WWW-Authenticate, and the text that a request with this header Authorization is
-        answered."""
-        connection = connection or self.connected()
-        connection.request("GET", "/", headers={} if header is None else {"Authorization": header})
-        response = connection.getresponse()
-        return response.status, (response.headers["WWW-Authenticate"] or "").split(), response.read().decode()
-
-    def last(self):
-        """The last reason in the log, without what the request asked for."""
-        found = re.findall(r"denied: (.*?)(?: \(ticket for .*\))?$", self.log.read_text(), re.M)
-        return found[-1] if found else ""
-
-
-def clock(folder, ahead):
-    """The environment of a program whose clock is ahead by so many seconds."""
-    if not ahead:
-        return {}
-    (folder / f"ahead-{ahead}").write_text(str(ahead))
-    return {"LD_PRELOAD": str(folder / "clock.so"), "CLOCK_FILE": str(folder / f"ahead-{ahead}")}
 
 
 def is_it(found, wanted):
@@ -123,7 +36,8 @@ def is_it(found, wanted):
 
 class Client:
     """A program that prints a token, and reads the answer: the kinds of token that it has; how it names a host's
-    service; whether it verifies the answer; and whether it can have a wrong clock, and an expired ticket."""
+    service; whether it asks for an answer and verifies it; and whether it can have a wrong clock, and an expired
+    ticket."""
 
     def __init__(self, name, words, kinds, host="HTTP@", verifies=True, has_clock=True):
         self.name, self.words, self.kinds, self.host = name, words, kinds, host
@@ -160,10 +74,10 @@ def bent(header):
     return header_of(token[:-1] + bytes([token[-1] ^ 1]))
 
 
-def refused(service, what, header, why):
-    """A header is refused, with an error in a token, and the log says why."""
+def refused(service, what, header, why, asks=True):
+    """A header is refused, with an error in a token if its client asks for a reply, and the log says why."""
     status, words, _ = service.asked(header)
-    yield f"{what} is refused", is_it((status, len(words)), (401, 2))
+    yield f"{what} is refused", is_it((status, len(words)), (401, 2 if asks else 1))
     yield f"{what} is refused by name", is_it(service.last(), why)
 
 
@@ -185,15 +99,16 @@ class World:
         said = client.ended(process, words)
         if client.verifies:
             yield f"{what} verifies the answer", is_it(said, "complete")
-        yield from refused(self.service, f"{what}, sent again,", header, REPEAT)
+        yield from refused(self.service, f"{what}, sent again,", header, REPEAT, client.verifies)
 
     def refuses(self, client):
-        kind, name = client.kinds[-1], client.name
-        yield from refused(self.service, f"{name}, bent,", bent(client.header(self.env(), "localhost", kind)), BENT)
-        yield from refused(self.service, f"{name} for another service", client.header(self.env(), "other.test", kind),
-                           NOT_US)
-        yield from refused(self.later, f"{name} at a service with a wrong clock",
-                           client.header(self.env(), "localhost", kind), SKEW)
+        kind, name, asks = client.kinds[-1], client.name, client.verifies
+        header = bent(client.header(self.env(), "localhost", kind))
+        yield from refused(self.service, f"{name}, bent,", header, BENT, asks)
+        header = client.header(self.env(), "other.test", kind)
+        yield from refused(self.service, f"{name} for another service", header, NOT_US, asks)
+        header = client.header(self.env(), "localhost", kind)
+        yield from refused(self.later, f"{name} at a service with a wrong clock", header, SKEW, asks)
         if client.has_clock:
             yield from refused(self.service, f"{name} with a wrong clock",
                                client.header(self.env(ahead=WRONG), "localhost", kind), SKEW)
@@ -244,18 +159,18 @@ def with_curl(world):
         ran = curl(world, world.service.port)
         heads, _, body = ran.stdout.replace("\r", "").rpartition("\n\n")
         yield f"curl logs in, {time_of_day} time", is_it(body, f"hello {ALICE}\n")
-        for held in ("HTTP/1.1 200 ", f"\nRemote-User: {ALICE}\n", "\nWWW-Authenticate: Negotiate o"):
+        for held in ("HTTP/1.1 200 ", "\nWWW-Authenticate: Negotiate o"):
             yield f"its answer has {held.strip()}", None if held in heads else heads
     sent = re.findall(r"^> Authorization: (Negotiate \S+)", ran.stderr, re.M)[-1]
     yield from refused(world.service, "what curl sent, sent again,", sent, REPEAT)
     yield from refused(world.service, "what curl sent, bent,", bent(sent), BENT)
-    for what, service, why, words in (
-        ("for another service", world.service, NOT_US, {"host": "other.test"}),
-        ("with a wrong clock", world.service, SKEW, {"ahead": WRONG}),
-        ("with an expired ticket", world.later, EXPIRED, {"cache": "later", "ahead": LATER}),
+    for what, service, why, page, words in (
+        ("for another service", world.service, NOT_US, "is for a service of another name", {"host": "other.test"}),
+        ("with a wrong clock", world.service, SKEW, "differ too much", {"ahead": WRONG}),
+        ("with an expired ticket", world.later, EXPIRED, "has expired", {"cache": "later", "ahead": LATER}),
     ):
         said = curl(world, service.port, **words).stdout
-        yield f"curl {what} is refused", None if said.endswith("who are you?\n") else said
+        yield f"curl {what} is refused", None if page in said.splitlines()[-1] else said
         yield f"curl {what} is refused by name", is_it(service.last(), why)
 
 
@@ -356,7 +271,8 @@ def without_reply(realm, library):
         ran = subprocess.run([PYTHON, "-B", "-c", OURS_WITHOUT_REPLY, *words], env=ours, capture_output=True, text=True)
         answer = (ran.stdout or ran.stderr).split()
         yield "MIT's client is let in", is_it(answer[:2], [ALICE, "False"])
-        yield f"MIT's client is {said}", is_it(client.communicate(answer[which] + "\n", timeout=SECONDS)[0].strip(), said)
+        found = client.communicate(answer[which] + "\n", timeout=SECONDS)[0].strip()
+        yield f"MIT's client is {said}", is_it(found, said)
 
 
 # A service of MIT's GSS-API: for each token its answer, and the client once it is known.
@@ -382,12 +298,13 @@ for line in sys.stdin:
 def rounds(request):
     """Negotiations of a client: each is its tokens."""
     inner, more = gss_rules.kerberos(gss_rules.KERBEROS, request), gss_rules.element(0xA4, b"\x30\x00")
+    later = gss_rules.going_on(inner, b"\1", more=more)
     first = [gss_rules.KERBEROS]
     yield "in one round", [gss_rules.negotiation(first, inner)]
     yield "with an unknown field", [gss_rules.negotiation(first, inner, more=more)]
     yield "in two rounds", [gss_rules.negotiation(first, None), gss_rules.going_on(inner)]
     yield "by Microsoft's name", [gss_rules.negotiation([gss_rules.MICROSOFT, *first], None), gss_rules.going_on(inner)]
-    yield "with a later unknown field", [gss_rules.negotiation(first, None), gss_rules.going_on(inner, b"\1", more=more)]
+    yield "with a later unknown field", [gss_rules.negotiation(first, None), later]
 
 
 def request_without_reply(realm):
@@ -436,73 +353,16 @@ def of_the_program(program, realm, kind):
 def refusals(service):
     for header in (None, "Basic YTpi"):
         yield f"{header} is no token", is_it(service.asked(header)[:2], (401, ["Negotiate"]))
-    no_token = "NOT_A_TOKEN: the first byte isn't that of a token"
-    for header, why in (("Negotiate", no_token), ("Negotiate *", no_token), ("Negotiate  \xff", no_token),
-                        ("Negotiate " + base64.b64encode(b"NTLMSSP\0\1").decode(), no_token),
-                        ("Negotiate " + base64.b64encode(bytes.fromhex("600a06062b0601050205 0000")).decode(), "IAKERB: the mechanism is IAKERB, not Kerberos, at 4")):
-        yield f"{header} is refused", is_it(service.asked(header)[:2], (401, ["Negotiate"]))
+    no_token, plain = "NOT_A_TOKEN: the first byte isn't that of a token", (401, ["Negotiate"])
+    for header, wanted, why in (
+        ("Negotiate", plain, no_token), (header_of(b"NTLMSSP\0\1"), plain, no_token),
+        ("Negotiate *", (400, []), "BAD_HEADER: the token isn't in base64"),
+        ("Negotiate  \xff", (400, []), "BAD_HEADER: the header Authorization is malformed"),
+        (header_of(bytes.fromhex("600a06062b06010502050000")), plain,
+         "IAKERB: the mechanism is IAKERB, not Kerberos, at 4"),
+    ):
+        yield f"{header} is refused", is_it(service.asked(header)[:2], wanted)
         yield f"the log says why of {header}", is_it(service.last(), why)
-
-
-NGINX = """
-user root;
-daemon off;
-worker_processes 1;
-pid {folder}/nginx.pid;
-error_log {folder}/nginx.log;
-events {{ }}
-http {{
-    access_log off;
-    client_body_temp_path {folder}/nginx-body;
-    proxy_temp_path {folder}/nginx-proxy;
-    fastcgi_temp_path {folder}/nginx-fastcgi;
-    uwsgi_temp_path {folder}/nginx-uwsgi;
-    scgi_temp_path {folder}/nginx-scgi;
-    server {{
-        listen 127.0.0.1:{front};
-{locations}
-    }}
-    server {{
-        listen 127.0.0.1:{application};
-        location / {{ return 200 "the application sees $http_x_remote_user, and the token: '$http_authorization'\\n"; }}
-    }}
-}}
-"""
-
-
-@contextlib.contextmanager
-def nginx(folder, service):
-    """nginx in front of the service and of an application, with the lines of docs/OPERATING.md; gives its port."""
-    front, application = kdc.free_port(), kdc.free_port()
-    locations = re.search(r"^ *```nginx\n(.*?)^ *```$", (TOP / "docs/OPERATING.md").read_text(), re.S | re.M)[1]
-    for port, to in ((9000, application), (8080, service.port)):
-        locations = locations.replace(f"127.0.0.1:{port}", f"127.0.0.1:{to}")
-    (folder / "nginx.conf").write_text(NGINX.format(folder=folder, front=front, application=application,
-                                                    locations=locations))
-    process = kdc.Process(["/usr/sbin/nginx", "-p", folder, "-e", folder / "nginx.log", "-c", folder / "nginx.conf"],
-                          folder / "nginx.out", os.environ)
-    try:
-        process.wait_for(front)
-        yield front
-    finally:
-        process.stop()
-
-
-def through_nginx(world):
-    with nginx(world.folder, world.service) as port:
-        ran = curl(world, port)
-        heads, _, body = ran.stdout.replace("\r", "").rpartition("\n\n")
-        yield "nginx lets curl in", is_it(body, f"the application sees {ALICE}, and the token: ''\n")
-        is_through = re.search("HTTP/1.1 200 .*\nWWW-Authenticate: Negotiate o", heads, re.S)
-        yield "the answer token comes through", None if is_through else heads
-        ran = curl(world, port, ahead=WRONG)
-        is_out = ran.stdout and "HTTP/1.1 200" not in ran.stdout and "the application" not in ran.stdout
-        yield "nginx lets nobody in with a wrong clock", None if is_out else ran.stdout
-        yield "and the service says why", is_it(world.service.last(), SKEW)
-        with socket.create_connection(("127.0.0.1", port), timeout=SECONDS) as stream:
-            stream.sendall(b"GET / HTTP/1.0\r\nX-Remote-User: mallory\r\n\r\n")
-            status = stream.makefile("rb").readline()
-        yield "nor anybody without a token", is_it(status, b"HTTP/1.1 401 Unauthorized\r\n")
 
 
 # ---------------------------------------------------------------- tests
@@ -510,11 +370,7 @@ def through_nginx(world):
 
 @pytest.fixture(scope="module")
 def folder(tmp_path_factory):
-    """A folder with clock.so, which sets a program's clock when it is preloaded."""
-    made = tmp_path_factory.mktemp("web")
-    kdc.ran(["gcc", "-shared", "-fPIC", "-Wall", "-Wextra", "-Werror", TESTS / "support/clock.c", "-o",
-             made / "clock.so"])
-    return made
+    return with_clock(tmp_path_factory.mktemp("web"))
 
 
 @pytest.fixture(scope="module")
@@ -611,14 +467,10 @@ def test_page_at_a_service_with_a_wrong_clock(web, clients):
     assert web.later.last() == SKEW
 
 
-def test_nginx(web, checks):
-    checks.all(through_nginx(web))
-
-
 def test_a_service_that_has_just_started(folder, realm, library):
     began = time.time()
     with Service(folder, realm, library) as service:
         said = curl(World(folder, realm, service, None), service.port).stdout
-        assert "HTTP/1.1 503 " in said and "\nRetry-After: 60" in said and said.endswith("try again later\n")
+        assert "HTTP/1.1 503 " in said and "\nRetry-After: 60" in said and "The site has just started." in said
         assert service.last() == "JUST_STARTED: the service has just started"
     assert time.time() - began < SECONDS

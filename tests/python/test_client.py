@@ -108,6 +108,15 @@ def test_nothing_was_sent(cache):
         client.first(now=NOW)
 
 
+@pytest.mark.parametrize("words", [{}, {"negotiated": False}], ids=["negotiation", "token"])
+def test_a_client_that_asks_for_no_reply(cache, service, words):
+    client = Client(cache, NAME, wants_reply=False, **words)
+    accepted = service.accept(opened(client.first(now=NOW, clock_offset=400.5))[0], NOW + 400)
+    assert not accepted.wants_reply and accepted.time == Moment(NOW + 400, 500_000)
+    with pytest.raises(ServiceError, match="sent no reply"):
+        client.finish(Verdict(Says.COMPLETED).token())
+
+
 def test_bindings_of_a_client(cache, service):
     bindings = tls_server_end_point(bytes.fromhex("3014 3000 300d 06092a864886f70d01010c 0500 030100"))
     accepted = service.accept(opened(Client(cache, NAME, bindings=bindings).first(now=NOW))[0], NOW)

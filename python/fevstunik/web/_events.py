@@ -1,0 +1,106 @@
+"""What is logged and counted: one record for each decision."""
+from __future__ import annotations
+
+import importlib
+import ipaddress
+import logging
+import threading
+from collections import Counter
+from collections.abc import Iterable
+from dataclasses import dataclass
+from functools import lru_cache
+from typing import Any
+
+from .._login import Asked
+from .._shown import fit_for_a_line
+from ._users import User
+
+_log = logging.getLogger("fevstunik.web")
+# Decisions of every request, which nobody reads but to find a fault.
+_QUIET = frozenset({"NO_TOKEN", "GO_ON", "SESSION", "EXEMPT"})
+# What an operator has to look at.
+_LOUD = frozenset({"FULL", "OUT_OF_MEMORY", "STORE_FAILED"})
+Networks = list["ipaddress.IPv4Network | ipaddress.IPv6Network"]
+
+
+@dataclass(frozen=True)
+class Event:
+    """A decision: its cause, the text that says why, the user once one is known, and what the request asked for."""
+
+    cause: str
+    text: str = ""
+    user: User | None = None
+    asked: Asked | None = None
+
+
+class Events:
+    """Logs and counts decisions."""
+
+    def __init__(self) -> None:
+        self._counter = _prometheus()
+        self.begin()
+
+    def begin(self) -> None:
+        """A process begins."""
+        self._lock, self._counts = threading.Lock(), Counter[str]()
+
+    def so_far(self) -> dict[str, int]:
+        with self._lock:
+            return dict(self._counts)
+
+    def add(self, event: Event, peer: str) -> None:
+        with self._lock:
+            self._counts[event.cause] += 1
+        if self._counter is not None:
+            self._counter.labels(cause=event.cause).inc()
+        level = logging.DEBUG if event.cause in _QUIET else logging.ERROR if event.cause in _LOUD else logging.INFO
+        if _log.isEnabledFor(level):
+            _log.log(level, "%s", _line(event), extra=_fields(event, peer))
+
+
+def _line(event: Event) -> str:
+    if event.user is not None:
+        return f"let in: {fit_for_a_line(event.user.name)} ({event.user.client}, {event.cause})"
+    return event.text if event.cause in _QUIET else f"denied: {event.text}"
+
+
+def _fields(event: Event, peer: str) -> dict[str, Any]:
+    asked = event.asked
+    return {
+        "cause": event.cause, "peer": fit_for_a_line(peer), "user": None if event.user is None else event.user.client,
+        "asked": None if asked is None else fit_for_a_line(asked.name), "etype": None if asked is None else asked.etype,
+        "kvno": None if asked is None else asked.kvno}
+
+
+@lru_cache(maxsize=None)
+def _prometheus() -> Any:
+    """The counter of all services of this process, if the module prometheus_client is installed."""
+    try:
+        module = importlib.import_module("prometheus_client")
+    except ImportError:
+        return None
+    return module.Counter("fevstunik_web_decisions", "Decisions about requests, by their cause", ["cause"])
+
+
+def networks_of(proxies: Iterable[str]) -> Networks:
+    """The addresses of trusted proxies."""
+    return [ipaddress.ip_network(it) for it in proxies]
+
+
+def peer_of(address: str, forwarded: Iterable[bytes], trusted: Networks) -> str:
+    """The client's address: the last one of X-Forwarded-For that isn't a trusted proxy's. A peer without an address, at a Unix socket, is
+    trusted if any is."""
+    if not trusted:
+        return address
+    named = [it.strip() for header in forwarded for it in header.decode("latin-1").split(",")]
+    while named and _is_of(address, trusted):
+        address = named.pop()
+    return address
+
+
+def _is_of(address: str, trusted: Networks) -> bool:
+    try:
+        it = ipaddress.ip_address(address)
+    except ValueError:
+        return not address
+    return any(it in network for network in trusted)

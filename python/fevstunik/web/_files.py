@@ -1,0 +1,127 @@
+"""Files that may change while the service runs: the keytab, certificates, and the key of sessions."""
+from __future__ import annotations
+
+import os
+import ssl
+import stat
+import tempfile
+import time
+from collections.abc import Iterable
+from typing import Union
+
+from .._bindings import tls_server_end_point
+from .._files import LIMIT, Keytab, kvnos_of
+from .._tokens import bindings_of
+from .._values import Key, check_name
+from ._users import realm_of
+
+Path = Union[str, "os.PathLike[str]"]
+# Files are looked at no more often than this, in seconds.
+_PAUSE = 1.0
+_KEY_SIZE, _KEY_TYPE = 32, 20
+_TYPES = (19, 20)
+
+
+class Watched:
+    """A file, which is looked at once a second at most."""
+
+    def __init__(self, path: Path) -> None:
+        self.path = os.fspath(path)
+        self._seen: tuple[int, ...] | None = None
+        self._looked = -_PAUSE
+
+    def changed(self, at_once: bool = False) -> bytes | None:
+        """The file's bytes, if it isn't the one that was read last. A file that can't be read raises OSError, once."""
+        now = time.monotonic()
+        if not at_once and now < self._looked + _PAUSE:
+            return None
+        self._looked = now
+        try:
+            it = os.stat(self.path)
+        except OSError:
+            if self._seen == ():
+                return None
+            self._seen = ()
+            raise
+        seen = (it.st_dev, it.st_ino, it.st_size, it.st_mtime_ns, it.st_ctime_ns)
+        if seen == self._seen:
+            return None
+        self._seen = seen
+        return content(self.path)
+
+
+def content(path: str) -> bytes:
+    with open(path, "rb") as file:
+        return file.read(LIMIT + 1)
+
+
+def keytab_for(data: bytes, service: str | None) -> Keytab:
+    """The keytab, if it has a key that is used for the service. Otherwise a ValueError or a Fault says why not."""
+    keytab = Keytab(data)
+    held = {name for (name, etype) in kvnos_of(keytab) if etype in _TYPES}
+    if service is None:
+        if not held:
+            raise ValueError("the keytab has no key of type 19 or 20")
+    elif service not in held:
+        check_name(service)
+        raise ValueError(f"the keytab has no key of type 19 or 20 for {service}")
+    return keytab
+
+
+def realms_of(data: bytes, service: str | None) -> list[str]:
+    """The realms of the names that are served."""
+    names = [service] if service is not None else sorted({name for name, _ in kvnos_of(Keytab(data))})
+    return [realm_of(it) for it in names]
+
+
+class Certificates:
+    """The certificates of a TLS server, of which each may be the one that a client's channel has; `known` has their hashes so far."""
+
+    def __init__(self, paths: Iterable[Path]) -> None:
+        self._files = [Watched(it) for it in paths]
+        self.known = [hash_of(content(it.path), it.path) for it in self._files]
+        for it in self._files:
+            it.changed()
+
+    def hashes(self) -> list[bytes]:
+        """The hashes of the bindings, as clients send them (RFC 4121, section 4.1.1.2). A file that can't be read raises OSError or
+        ValueError, and what was read of it before is kept."""
+        for index, file in enumerate(self._files):
+            data = file.changed()
+            if data is not None:
+                self.known[index] = hash_of(data, file.path)
+        return self.known
+
+
+def hash_of(data: bytes, path: str) -> bytes:
+    """The hash of the bindings `tls-server-end-point` of the first certificate in a PEM file."""
+    begin, end = b"-----BEGIN CERTIFICATE-----", b"-----END CERTIFICATE-----"
+    first, _, after = data.partition(begin)[2].partition(end)
+    if not _ or not first:
+        raise ValueError(f"{path} has no certificate in PEM")
+    return bindings_of(tls_server_end_point(ssl.PEM_cert_to_DER_cert((begin + first + end).decode("ascii", "replace"))))
+
+
+def session_key(path: str) -> Key:
+    """The key in a file, which is made if it isn't there. A file that others may read raises ValueError."""
+    if not os.path.lexists(path):
+        _make_key(path)
+    with open(path, "rb") as file:
+        found = os.fstat(file.fileno())
+        data = file.read(_KEY_SIZE + 1)
+    if not stat.S_ISREG(found.st_mode) or found.st_mode & 0o077 or found.st_uid not in (0, os.geteuid()):
+        raise ValueError(f"{path} has to be a file that only its owner may read: chmod 600 {path}")
+    if len(data) != _KEY_SIZE:
+        raise ValueError(f"{path} has to have {_KEY_SIZE} random bytes")
+    return Key(_KEY_TYPE, data)
+
+
+def _make_key(path: str) -> None:
+    """Make the file whole or not at all. Of several processes that do so at once, one makes it."""
+    with tempfile.NamedTemporaryFile(dir=os.path.dirname(os.path.abspath(path))) as file:
+        file.write(os.urandom(_KEY_SIZE))
+        file.flush()
+        try:
+            os.link(file.name, path)
+        except FileExistsError:
+            pass

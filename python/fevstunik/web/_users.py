@@ -1,0 +1,204 @@
+"""Who is let in, and by which name the application knows them."""
+from __future__ import annotations
+
+import re
+import string
+from collections.abc import Iterable, Mapping
+from dataclasses import dataclass, field
+
+from .._login import Login
+from .._values import TicketFlags
+
+_ESCAPED = re.compile(r"\\x([0-9a-f]{2})|\\(.)", re.S)
+_NOBODY = "refuse"
+_ANONYMOUS, _ANONYMOUS_REALM = ("WELLKNOWN", "ANONYMOUS"), "WELLKNOWN:ANONYMOUS"
+# A name with one of these could be read as another name.
+_AMBIGUOUS = frozenset("/@\\")
+
+
+class NotAllowed(Exception):
+    """A client that is who it says, and isn't let in: the text says why, fit for a log."""
+
+
+@dataclass(frozen=True)
+class User:
+    """A user who is let in.
+
+    name        the name for the application, by the rules of Users
+    client      the Kerberos name, as ``alice@EXAMPLE.COM``
+    realm       its realm
+    components  its components
+    end         until when the ticket, or the session, is valid, in seconds since 1970
+    login       the Login that this request made, or None in a session
+
+    Frameworks over ASGI read `is_authenticated`, `display_name` and `identity`.
+
+    >>> User("alice", "alice@EXAMPLE.COM", "EXAMPLE.COM", ("alice",), 1_700_036_000).display_name
+    'alice'
+    """
+
+    name: str
+    client: str
+    realm: str
+    components: tuple[str, ...]
+    end: int
+    login: Login | None = field(default=None, repr=False, compare=False)
+
+    @property
+    def is_authenticated(self) -> bool:
+        """Return True: there is a User only for who is let in.
+
+        >>> User("alice", "alice@EX", "EX", ("alice",), 0).is_authenticated
+        True
+        """
+        return True
+
+    @property
+    def display_name(self) -> str:
+        """The name for the application.
+
+        >>> User("alice", "alice@EX", "EX", ("alice",), 0).display_name
+        'alice'
+        """
+        return self.name
+
+    @property
+    def identity(self) -> str:
+        """The Kerberos name.
+
+        >>> User("alice", "alice@EX", "EX", ("alice",), 0).identity
+        'alice@EX'
+        """
+        return self.client
+
+
+class Users:
+    r"""Which clients are let in, and how the application names them.
+
+    realms     for each realm a text, in which ``{user}`` stands for the components of the name, joined by ``/``, and ``{realm}`` for
+               the realm
+    others     such a text for clients of any other realm, which must have ``{realm}``; or ``"refuse"``
+    anonymous  whether anonymous clients (RFC 8062) are let in
+    only       the names of those who are let in, as the application knows them, or None for all
+
+    A name is taken by its components, as Unicode. If one of them has ``/``, ``@`` or ``\``, has a character that isn't printable, begins
+    or ends with a space, or is empty, the client isn't let in: it could be taken for another.
+
+    >>> users = Users(realms={"EXAMPLE.COM": "{user}", "PARTNER.ORG": "{user}@{realm}"})
+    >>> users.name_of(r"j\xc3\xbcrgen@EXAMPLE.COM")
+    'jürgen'
+    >>> users.name_of("carol@PARTNER.ORG"), users.name_of("carol/admin@EXAMPLE.COM")
+    ('carol@PARTNER.ORG', 'carol/admin')
+    >>> users.name_of("mallory@ELSEWHERE.NET")
+    Traceback (most recent call last):
+        ...
+    fevstunik.web.NotAllowed: the client is of a realm that isn't let in
+    """
+
+    def __init__(self, realms: Mapping[str, str], others: str = _NOBODY, anonymous: bool = False,
+                 only: Iterable[str] | None = None) -> None:
+        if isinstance(only, str):
+            raise TypeError("`only` is a list of names")
+        if not isinstance(anonymous, bool):
+            raise TypeError(f"anonymous is a bool, not {anonymous!r}")
+        self._realms = {realm: _checked(text) for realm, text in realms.items()}
+        self._others = None if others == _NOBODY else _checked(others)
+        if self._others is not None and "realm" not in _fields(self._others):
+            raise ValueError(f"the text for other realms needs {{realm}}, or their users get the names of yours: {others!r}")
+        self.anonymous = anonymous
+        self._only = None if only is None else frozenset(only)
+
+    @property
+    def realms(self) -> list[str] | None:
+        """The realms of which clients are let in, or None for any.
+
+        >>> Users(realms={"EXAMPLE.COM": "{user}"}).realms
+        ['EXAMPLE.COM']
+        """
+        if self._others is not None:
+            return None
+        return [*self._realms, *([_ANONYMOUS_REALM] if self.anonymous else ())]
+
+    def name_of(self, client: str) -> str:
+        """Return the application's name of a client, as ``alice@EXAMPLE.COM``. Raise NotAllowed if it isn't let in.
+
+        >>> Users(realms={}, others="{user} of {realm}").name_of("alice@EX")
+        'alice of EX'
+        """
+        components, realm = parts_of(client)
+        return self._named(components, realm)
+
+    def user_of(self, login: Login) -> User:
+        """Return the user who has logged in. Raise NotAllowed if the client isn't let in.
+
+        >>> from fevstunik import Client, CredentialCache, Keytab, Service
+        >>> service = Service(Keytab.read("examples/service.keytab"), "host/web@EX", first_life=True)
+        >>> token = Client(CredentialCache.read("examples/client.ccache"), "host/web@EX").first(now=1_700_000_100)
+        >>> Users(realms={"EX": "{user}"}).user_of(service.answer(token, now=1_700_000_100)).name
+        'alice'
+        """
+        components, realm = parts_of(login.client)
+        if not self.anonymous and TicketFlags.ANONYMOUS in login.flags:
+            raise NotAllowed("the client is anonymous")
+        return User(self._named(components, realm), login.client, realm, components, login.endtime, login)
+
+    def _named(self, components: tuple[str, ...], realm: str) -> str:
+        text = self._realms.get(realm, self._others)
+        if components == _ANONYMOUS:
+            if not self.anonymous:
+                raise NotAllowed("the client is anonymous")
+            # (of a realm of its own, or of one that is known)
+            text = "{user}@{realm}" if text is None else text
+        if text is None:
+            raise NotAllowed("the client is of a realm that isn't let in")
+        name = text.format(user="/".join(components), realm=realm)
+        if self._only is not None and name not in self._only:
+            raise NotAllowed("the client isn't one of those who are let in")
+        return name
+
+
+def parts_of(name: str) -> tuple[tuple[str, ...], str]:
+    """The components and the realm of a name as the library writes it (docs/FORMATS.md, "A principal as text")."""
+    before, _, realm = _split(name, "@")
+    components, more = [], "/"
+    while more:
+        first, more, before = _split(before, "/")
+        components.append(_plain(first))
+    if not all(map(_is_plain, components)):
+        raise NotAllowed("the client's name has characters that make it like another's")
+    return tuple(components), _plain(realm)
+
+
+def realm_of(name: str) -> str:
+    """The realm of such a name."""
+    return _plain(_split(name, "@")[2])
+
+
+def _split(text: str, separator: str) -> tuple[str, str, str]:
+    """What is before and after the first separator that isn't escaped."""
+    at = 0
+    while at < len(text) and text[at] != separator:
+        at += 2 if text[at] == "\\" else 1
+    return text[:at], text[at:at + 1], text[at + 1:]
+
+
+def _plain(escaped: str) -> str:
+    data = _ESCAPED.sub(lambda it: chr(int(it[1], 16)) if it[1] else it[2], escaped).encode("latin-1", "replace")
+    try:
+        return data.decode()
+    except UnicodeDecodeError:
+        raise NotAllowed("the client's name isn't UTF-8") from None
+
+
+def _is_plain(component: str) -> bool:
+    return component.isprintable() and component.strip() == component != "" and not _AMBIGUOUS & set(component)
+
+
+def _fields(text: str) -> set[str]:
+    return {name for _, name, _, _ in string.Formatter().parse(text) if name is not None}
+
+
+def _checked(text: str) -> str:
+    if "user" not in _fields(text) or _fields(text) - {"user", "realm"}:
+        raise ValueError(f"the text for a name has {{user}}, and may have {{realm}}: {text!r}")
+    return text

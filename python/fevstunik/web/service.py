@@ -1,0 +1,72 @@
+"""A service for a reverse proxy, which asks it about each request: auth_request of nginx, forward authentication of Caddy and Traefik.
+
+It answers 200 with the user in the header Remote-User, percent-encoded, or what the client has to get: 401, 403 or 503. Over gunicorn:
+
+    gunicorn --bind unix:/run/fevstunik-web/socket 'fevstunik.web.service:app("/etc/fevstunik/web.toml")'
+
+The file is in TOML. Its names are those of the arguments of Negotiate, with tables for `users`, `sessions` and `store`. A keytab, and the
+key of sessions, without a leading ``/`` is sought beside it.
+"""
+from __future__ import annotations
+
+import os
+import tomllib
+from collections.abc import Callable, Iterable
+from typing import Any
+from urllib.parse import quote
+
+from ..stores import PostgreSQL, Redis, Store
+from ._files import Path
+from ._negotiate import Negotiate
+from ._sessions import Sessions
+from ._users import Users
+from ._wsgi import App
+
+_STORES: dict[str, Callable[[str], Store]] = {"redis": Redis, "postgresql": PostgreSQL}
+# The proxy is on this machine, and says who asks it.
+_PROXIES = ("127.0.0.0/8", "::1/128")
+
+
+def app(config: Path) -> App:
+    """Return the service of a configuration as an application over WSGI. A name in it that isn't known raises ValueError."""
+    with open(config, "rb") as file:
+        given = tomllib.load(file)
+    for table, name in ((given, "keytab"), (given.get("sessions", {}), "key")):
+        if name in table:
+            table[name] = os.path.join(os.path.dirname(os.path.abspath(config)), table[name])
+    return negotiate_of(given).wsgi(_answer)
+
+
+def negotiate_of(config: dict[str, Any]) -> Negotiate:
+    """Return the Negotiate of a configuration.
+
+    >>> from fevstunik.web.service import negotiate_of
+    >>> negotiate_of({"keytab": "examples/service.keytab", "service": "host/web@EX", "users": {"realm": {}}})
+    Traceback (most recent call last):
+        ...
+    ValueError: the configuration is wrong: Users.__init__() got an unexpected keyword argument 'realm'...
+    """
+    given: dict[str, Any] = {"proxies": _PROXIES, **config}
+    if "exempt" in given:
+        raise ValueError("the proxy decides which paths need a login, so `exempt` isn't taken here")
+    try:
+        if "users" in given:
+            given["users"] = Users(**given["users"])
+        if "sessions" in given:
+            given["sessions"] = Sessions(**given["sessions"])
+        if isinstance(given.get("store"), dict):
+            (kind, where), = given["store"].items()
+            given["store"] = _STORES[kind](where)
+        return Negotiate(**given)
+    except (TypeError, KeyError, AttributeError) as error:
+        raise ValueError(f"the configuration is wrong: {error}") from None
+
+
+def _answer(environ: dict[str, Any], start_response: Callable[..., Any]) -> Iterable[bytes]:
+    user = environ.get("REMOTE_USER")
+    if user is None:
+        # (OPTIONS, which no proxy asks about)
+        start_response("405 Method Not Allowed", [("Allow", "GET, HEAD, POST"), ("Content-Length", "0")])
+        return []
+    start_response("200 OK", [("Remote-User", quote(user, safe="/@")), ("Content-Length", "0"), ("Cache-Control", "no-store")])
+    return []

@@ -1,0 +1,81 @@
+"""The application of each framework that the tests serve: WEB_TERMS has the terms of Negotiate, in JSON.
+
+/ says who the user is and what was posted, /fails fails, and other paths are 404.
+"""
+import json
+import os
+
+from fevstunik.web import Negotiate, Sessions
+
+
+def made():
+    terms = json.loads(os.environ["WEB_TERMS"])
+    if "sessions" in terms:
+        terms["sessions"] = Sessions(**terms["sessions"])
+    return Negotiate(**terms)
+
+
+def plain():
+    def app(environ, start_response):
+        if environ["PATH_INFO"] == "/fails":
+            raise KeyError
+        body = environ["wsgi.input"].read(int(environ.get("CONTENT_LENGTH") or 0))
+        start_response("200 OK" if environ["PATH_INFO"] == "/" else "404 Not Found", [("Content-Type", "text/plain")])
+        return [environ.get("REMOTE_USER", "nobody").encode() + b" " + body]
+    return made().wsgi(app)
+
+
+def flask():
+    from flask import Flask, request
+    app = Flask(__name__)
+
+    @app.route("/", methods=["GET", "POST"])
+    def index():
+        return f"{request.remote_user} {request.get_data(as_text=True)}"
+
+    @app.route("/fails")
+    def fails():
+        raise KeyError
+    app.wsgi_app = made().wsgi(app.wsgi_app)
+    return app
+
+
+def _django():
+    from django.conf import settings
+    from django.http import HttpResponse
+    from django.urls import path
+
+    def index(request):
+        user = request.scope["user"].name if hasattr(request, "scope") else request.META["REMOTE_USER"]
+        return HttpResponse(f"{user} {request.body.decode()}")
+
+    def fails(request):
+        raise KeyError
+    settings.configure(ROOT_URLCONF=__name__, ALLOWED_HOSTS=["*"], SECRET_KEY="of the tests")
+    globals()["urlpatterns"] = [path("", index), path("fails", fails)]
+
+
+def django_wsgi():
+    from django.core.wsgi import get_wsgi_application
+    _django()
+    return made().wsgi(get_wsgi_application())
+
+
+def django_asgi():
+    from django.core.asgi import get_asgi_application
+    _django()
+    return made().asgi(get_asgi_application())
+
+
+def starlette():
+    from starlette.applications import Starlette
+    from starlette.responses import PlainTextResponse
+    from starlette.routing import Route
+
+    async def index(request):
+        return PlainTextResponse(f"{request.user.display_name} {(await request.body()).decode()}")
+
+    async def fails(request):
+        raise KeyError
+    routes = [Route("/", index, methods=["GET", "POST"]), Route("/fails", fails)]
+    return made().asgi(Starlette(routes=routes))

@@ -1,0 +1,303 @@
+"""What each request is answered, over WSGI and ASGI, in this process."""
+import base64
+import threading
+
+import pytest
+
+from fevstunik import Client, CredentialCache
+from fevstunik.stores import StoreFailed
+from fevstunik.web import _gate, _negotiate
+from support import gss_rules, web
+from support.web import negotiate, token
+
+BROWSER = ("Accept", "text/html,application/xhtml+xml,*/*;q=0.8")
+
+
+def authorized(value):
+    return [("Authorization", value)]
+
+
+@pytest.mark.parametrize("path", ["/", "/404", "/raises"])
+def test_a_client_verifies_the_answer(ask, path):
+    with CredentialCache(web.cache()) as cache:
+        client = Client(cache, web.NAME)
+        answer = ask(path=path, headers=authorized(negotiate(client.first())))
+        assert client.finish(answer.token).client == "alice@EX"
+
+
+def test_a_login(ask):
+    answer = ask(headers=authorized(negotiate(token(b"alice"))))
+    assert (answer.status, answer.body) == (200, b"alice@EX") and answer.token
+
+
+def test_a_login_without_a_reply(ask):
+    answer = ask(headers=authorized(negotiate(token(b"alice", mutual=False))))
+    assert (answer.status, answer.token) == (200, bytes.fromhex("a1143012a0030a0100a10b06092a864886f712010202"))
+
+
+@pytest.mark.parametrize("form", [bytes, lambda it: gss_rules.kerberos(gss_rules.KERBEROS, it)], ids=["bare", "token"])
+def test_other_forms(ask, form):
+    """requests-kerberos sends a token without a negotiation."""
+    answer = ask(headers=authorized(negotiate(form(web.request()))))
+    assert (answer.status, answer.body) == (200, b"alice@EX") and answer.token
+
+
+@pytest.mark.parametrize("path, status", [("/", 200), ("/204", 204), ("/302", 302), ("/404", 404), ("/500", 500),
+                                          ("/raises", 500), ("/raises-late", 500)])
+def test_the_token_comes_with_each_status(ask, path, status):
+    """A client that awaits it shows nothing without it."""
+    answer = ask(path=path, headers=authorized(negotiate(token())))
+    assert answer.status == status and answer.token
+
+
+def test_a_failure_after_the_start(made):
+    answer = web.by_wsgi(made())(path="/raises-after-start", headers=authorized(negotiate(token())))
+    assert answer.status == 500 and answer.token
+
+
+def test_without_a_token_a_failure_is_the_servers(made):
+    with pytest.raises(KeyError):
+        web.by_wsgi(made(exempt=["/raises"]))(path="/raises")
+
+
+# The header, and what is answered: the status, and the cause that is counted.
+HEADERS = {
+    "none": (None, 401, "NO_TOKEN"),
+    "empty": ("", 401, "NO_TOKEN"),
+    "another scheme": ("Basic YTpi", 401, "NO_TOKEN"),
+    "a scheme that begins alike": ("NegotiateX YTpi", 401, "NO_TOKEN"),
+    "commas of another scheme": ('Digest username="a", realm="b"', 401, "NO_TOKEN"),
+    "no token": ("Negotiate", 401, "NOT_A_TOKEN"),
+    "no token after spaces": ("Negotiate   ", 401, "NOT_A_TOKEN"),
+    "text": (negotiate(b"hello"), 401, "NOT_A_TOKEN"),
+    "NTLM": (negotiate(b"NTLMSSP\0\1\0\0\0"), 401, None),
+    "no base64": ("Negotiate *", 400, "BAD_HEADER"),
+    "a letter that is lost": ("Negotiate aGVsbG8", 400, "BAD_HEADER"),
+    "text after the end": ("Negotiate aGVsbG8=aGVsbG8=", 400, "BAD_HEADER"),
+    "base64url": ("Negotiate _-_-", 400, "BAD_HEADER"),
+    "a byte above 127": ("Negotiate \xff", 400, "BAD_HEADER"),
+    "a byte above 127 in another scheme": ("Basic \xff", 400, "BAD_HEADER"),
+    "a tab after the scheme": ("Negotiate\taGVsbG8=", 400, "BAD_HEADER"),
+    "a space within": ("Negotiate aGVs bG8=", 400, "BAD_HEADER"),
+    "no scheme": ("=", 400, "BAD_HEADER"),
+    "two tokens in one": ("Negotiate aGVsbG8=, Negotiate aGVsbG8=", 400, "BAD_HEADER"),
+    "too long": (negotiate(bytes(65_537)), 431, "TOKEN_TOO_LONG"),
+}
+
+
+@pytest.mark.parametrize("value, status, cause", HEADERS.values(), ids=HEADERS)
+def test_headers(made, over, value, status, cause):
+    gate = made()
+    answer = over(gate)(headers=[] if value is None else authorized(value))
+    assert answer.status == status
+    assert answer.token == (b"" if status == 401 else None)
+    (found,) = gate.counts
+    assert cause in (None, found)
+
+
+@pytest.mark.parametrize("spelled", ["NEGOTIATE {}", "negotiate   {}", "  Negotiate {}\t"])
+def test_spellings(ask, spelled):
+    text = base64.b64encode(token()).decode()
+    assert ask(headers=authorized(spelled.format(text))).status == 200
+
+
+def test_several_headers(ask):
+    value = negotiate(token())
+    assert ask(headers=authorized(value) * 2).status == 400
+    assert ask(headers=authorized(value)).status == 200
+
+
+@pytest.mark.parametrize("size", [12_000, 45_000])
+def test_large_tokens(ask, size):
+    answer = ask(headers=authorized(negotiate(token(size=size))))
+    assert (answer.status, answer.body) == (200, b"alice@EX")
+
+
+def test_a_limit(made, over):
+    ask = over(made(token_limit=len(token())))
+    assert ask(headers=authorized(negotiate(token()))).status == 200
+    assert ask(headers=authorized(negotiate(token(size=100)))).status == 431
+
+
+REFUSED = {
+    "SKEW": {"ahead": 3600}, "EXPIRED": {"hours": -0.5}, "NOT_US": {"service": (b"HTTP", b"web")},
+    "BAD_KEY_VERSION": {"kvno": 4}, "FOREIGN_REALM": {"realm": b"OTHER"},
+    "ANONYMOUS_CLIENT": {"flags": web.ANONYMOUS},
+}
+
+
+@pytest.mark.parametrize("cause", REFUSED)
+@pytest.mark.parametrize("mutual", [True, False])
+def test_refusals(made, over, cause, mutual):
+    """An error goes back only to a client that asks for a reply: a browser shows no page with one."""
+    gate = made()
+    answer = over(gate)(headers=[*authorized(negotiate(token(mutual=mutual, **REFUSED[cause]))), BROWSER])
+    assert list(gate.counts) == [cause]
+    if cause in ("FOREIGN_REALM", "ANONYMOUS_CLIENT"):
+        assert (answer.status, answer.token) == (403, None)
+    else:
+        assert (answer.status, bool(answer.token)) == (401, mutual)
+    assert b"<h1>4" in answer.body and cause.encode() in answer.body
+
+
+def test_a_repeat(ask):
+    value = authorized(negotiate(token()))
+    assert [ask(headers=value).status for _ in range(3)] == [200, 401, 401]
+
+
+def test_a_start(made, over):
+    gate = made(first_life=False, retry_after=17)
+    answer = over(gate)(headers=[*authorized(negotiate(token())), BROWSER])
+    assert (answer.status, answer.one("Retry-After"), answer.token) == (503, "17", None)
+    assert list(gate.counts) == ["JUST_STARTED"] and b"just started" in answer.body
+
+
+def test_a_full_memory(made, over):
+    ask = over(made(limit=2, limit_for_client=1))
+    assert [ask(headers=authorized(negotiate(token()))).status for _ in range(2)] == [200, 503]
+
+
+def test_two_rounds(made, over):
+    """The second comes over the same connection."""
+    ask = over(made())
+    inner = gss_rules.kerberos(gss_rules.KERBEROS, web.request(mutual=False))
+    first = authorized(negotiate(gss_rules.negotiation([gss_rules.KERBEROS], None)))
+    later = authorized(negotiate(gss_rules.going_on(inner)))
+    answer = ask(headers=first)
+    assert (answer.status, answer.token) == (401, gss_rules.response(gss_rules.KERBEROS, None, 1))
+    assert ask(headers=later, port="4712").status == 401
+    # Another client of the same proxy doesn't get into it.
+    assert ask(headers=authorized(negotiate(token()))).status == 200
+    assert ask(headers=later).status == 200
+
+
+@pytest.mark.parametrize("method", ["GET", "HEAD", "POST", "PUT", "DELETE"])
+def test_methods(ask, method):
+    answer = ask(method, headers=authorized(negotiate(token())))
+    assert (answer.status, answer.one("X-Method")) == (200, method)
+    refused = ask(method)
+    assert refused.status == 401 and (method != "HEAD") == bool(refused.body)
+    assert int(refused.one("Content-Length")) > 0
+
+
+EXEMPT = {
+    "/health": True, "/health/": False, "/healthy": False, "/static/": True, "/static/a/b.css": True, "/static": False,
+    "/static/../admin": False, "/static/./a": False, "/static//a": False, "/static/%2e%2e/a": False,
+    "/static\\..\\a": False, "/static/a;b": False, "/Health": False}
+
+
+@pytest.mark.parametrize("path, passes", EXEMPT.items())
+def test_exempt_paths(made, over, path, passes):
+    answer = over(made(exempt=["/health", "/static/"]))(path=path)
+    assert (answer.status, answer.body) == (200, b"nobody") if passes else answer.status == 401
+
+
+def test_a_mount_that_the_client_chooses(made):
+    """gunicorn before 22 takes it from the header SCRIPT_NAME. The application answers by the rest."""
+    ask = web.by_wsgi(made(exempt=["/static/"]))
+    assert ask(mount="/static", path="/admin").status == 401
+    assert ask(mount="/application", path="/static/a.css").status == 200
+
+
+def test_options_pass(ask):
+    """A browser asks before it sends a request of another site, and sends no token then."""
+    assert (ask("OPTIONS").status, ask("OPTIONS").body) == (200, b"nobody")
+    # A method of the client's own isn't OPTIONS.
+    for name in ("X-HTTP-Method-Override", "X-HTTP-Method", "X-Method-Override"):
+        assert ask("OPTIONS", headers=[(name, "POST")]).status == 401
+
+
+def test_pages(ask):
+    plain, page = ask(), ask(headers=[BROWSER])
+    assert plain.one("Content-Type") == "text/plain; charset=utf-8" and plain.body.count(b"\n") == 1
+    assert page.one("Content-Type") == "text/html; charset=utf-8" and b"Kerberos login" in page.body
+    assert {it.one("Cache-Control") for it in (plain, page)} == {"no-store"}
+
+
+def test_what_the_server_says_of_the_user_is_dropped(made):
+    seen = []
+    app = made(exempt=["/"]).wsgi(lambda environ, start: seen.append(environ) or [])
+    app({"REQUEST_METHOD": "GET", "PATH_INFO": "/", "REMOTE_USER": "mallory", "AUTH_TYPE": "Basic"}, None)
+    assert not {"REMOTE_USER", "AUTH_TYPE"} & set(seen[0])
+
+
+def test_what_the_application_sees(made):
+    seen = []
+    app = made().wsgi(lambda environ, start: seen.append(environ) or [])
+    app({"REQUEST_METHOD": "GET", "PATH_INFO": "/", "HTTP_AUTHORIZATION": negotiate(token(b"alice", b"admin"))},
+        lambda *_: None)
+    login, user = seen[0]["fevstunik.login"], seen[0]["fevstunik.user"]
+    assert (seen[0]["REMOTE_USER"], seen[0]["AUTH_TYPE"]) == ("alice/admin@EX", "Negotiate")
+    assert (login.client, user.login) == ("alice/admin@EX", login)
+    assert (user.components, user.realm) == (("alice", "admin"), "EX")
+
+
+def websocket(gate, headers, extensions):
+    sent = []
+
+    async def app(scope, receive, send):
+        await send({"type": "websocket.accept"})
+
+    async def receive():
+        return {"type": "websocket.connect"}
+
+    async def send(message):
+        sent.append(message)
+    scope = {"type": "websocket", "path": "/", "client": None, "headers": headers, "extensions": extensions}
+    web.asyncio.run(gate.asgi(app)(scope, receive, send))
+    return sent
+
+
+def test_web_sockets(made):
+    gate = made()
+    (accepted,) = websocket(gate, [(b"authorization", negotiate(token()).encode())], {})
+    assert accepted["type"] == "websocket.accept" and accepted["headers"][0][0] == b"www-authenticate"
+    assert websocket(gate, [], {}) == [{"type": "websocket.close", "code": 1008}]
+    start, _ = websocket(gate, [], {"websocket.http.response": {}})
+    assert (start["type"], start["status"]) == ("websocket.http.response.start", 401)
+
+
+def test_other_scopes_pass(made):
+    seen = []
+
+    async def app(scope, receive, send):
+        seen.append(scope)
+    web.asyncio.run(made().asgi(app)({"type": "lifespan"}, None, None))
+    assert seen == [{"type": "lifespan"}]
+
+
+# ---------------------------------------------------------------- stores
+
+
+def test_a_store_that_is_down(made, over, monkeypatch):
+    """Nobody is let in until it is up again. Then the service is made."""
+    ask, down = over(made()), [True]
+    real = _negotiate.Serving
+
+    def serving(*words):
+        if down:
+            raise StoreFailed("no answer in 2 seconds")
+        return real(*words)
+    monkeypatch.setattr(_negotiate, "Serving", serving)
+    for _ in range(2):
+        answer = ask(headers=authorized(negotiate(token())))
+        assert (answer.status, answer.one("Retry-After"), answer.token) == (503, "60", None)
+    down.clear()
+    assert ask(headers=authorized(negotiate(token()))).status == 200
+
+
+def test_the_loop_goes_on_while_a_store_is_asked(made, monkeypatch):
+    """Two requests that wait for each other are both answered."""
+    both = threading.Barrier(2, timeout=20)
+    monkeypatch.setattr(_gate.Gate, "decide", lambda self, request: (both.wait(), _gate.Passed(None))[1])
+    seen = []
+
+    async def app(scope, receive, send):
+        seen.append(scope["path"])
+    inner = made(store=object()).asgi(app)
+
+    async def run():
+        scopes = ({"type": "http", "method": "GET", "path": path, "headers": []} for path in "ab")
+        await web.asyncio.gather(*(inner(it, None, None) for it in scopes))
+    web.asyncio.run(run())
+    assert sorted(seen) == ["a", "b"]

@@ -1,0 +1,115 @@
+"""Applications of Flask, Django and Starlette under gunicorn and uvicorn, with tokens over the wire."""
+import contextlib
+import functools
+import random
+import re
+from concurrent.futures import ThreadPoolExecutor
+
+import pytest
+
+from support import web, web_servers
+
+pytestmark = [pytest.mark.packages, pytest.mark.slow, pytest.mark.xdist_group("web-servers")]
+WHO = b"alice@EX "
+
+
+@pytest.fixture(scope="module")
+def servers(tmp_path_factory, library):
+    """Gives the server of a name, which is started once."""
+    with contextlib.ExitStack() as stack:
+        patch = stack.enter_context(pytest.MonkeyPatch.context())
+        patch.setenv("FEVSTUNIK_LIBRARY", str(library))
+        patch.setenv("PYTHONPATH", "")
+
+        @functools.cache
+        def started(name):
+            folder = tmp_path_factory.mktemp("server")
+            keytab = folder / "web.keytab"
+            keytab.write_bytes(web.fixture.keytab())
+            terms = {"service": web.NAME, "first_life": True, "sessions": {"key": str(folder / "key")}}
+            return stack.enter_context(web_servers.KINDS[name](folder, keytab=keytab, **terms))
+        yield started
+
+
+@pytest.fixture(params=web_servers.KINDS)
+def server(request, servers):
+    return servers(request.param)
+
+
+def test_logins(server):
+    refused = server.ask(headers={"Accept": "text/html"})
+    assert (refused.status, refused.token) == (401, b"") and b"<h1>401 Unauthorized</h1>" in refused.body
+    answer = server.ask(token=web.token())
+    assert (answer.status, answer.body) == (200, WHO) and answer.token
+
+
+def test_methods(server):
+    assert server.ask("POST", token=web.token(), body=b"posted").body == WHO + b"posted"
+    assert server.ask("POST", body=b"posted").status == 401
+    head = server.ask("HEAD", token=web.token())
+    assert (head.status, head.body) == (200, b"") and head.token
+    assert (server.ask("HEAD").status, server.ask("HEAD").body) == (401, b"")
+    assert server.ask("OPTIONS").status != 401
+
+
+@pytest.mark.parametrize("path, status", [("/fails", 500), ("/none", 404)])
+def test_the_token_comes_with_faults(server, path, status):
+    answer = server.ask(path=path, token=web.token())
+    assert answer.status == status and answer.token
+
+
+@pytest.mark.parametrize("size", [9_000, 44_000])
+def test_large_tokens(server, size):
+    """In base64 these are 12 kB and 60 kB."""
+    answer = server.ask(token=web.token(size=size))
+    assert (answer.status, answer.body) == (200, WHO)
+
+
+def test_malformed_headers(server):
+    for value in ("Negotiate \xff", "Negotiate *", "Negotiate a b"):
+        assert server.ask(headers={"Authorization": value}).status == 400
+    assert server.ask(token=bytes(65_537)).status == 431
+
+
+def test_sessions_over_all_workers(server):
+    cookie = server.ask(token=web.token()).one("Set-Cookie").partition(";")[0]
+    assert {server.ask(headers={"Cookie": cookie}).body for _ in range(20)} == {WHO}
+
+
+def test_logins_in_parallel(server):
+    """200 at once."""
+    tokens = [web.token() for _ in range(200)]
+    with ThreadPoolExecutor(200) as pool:
+        answers = list(pool.map(lambda it: server.ask(token=it), tokens))
+    assert {(it.status, it.body) for it in answers} == {(200, WHO)}
+
+
+HIDDEN = b"GET /hidden HTTP/1.1\r\nHost: web\r\n\r\n"
+
+
+@pytest.mark.parametrize("method", [b"GET", b"POST"])
+def test_a_body_is_no_request(server, method):
+    """What a refused request brings along isn't answered as another one."""
+    head = b"%s / HTTP/1.1\r\nHost: web\r\nContent-Length: %d\r\n\r\n" % (method, len(HIDDEN))
+    answers = server.raw(head + HIDDEN)
+    assert re.findall(rb"^HTTP/1\.1 (\d+)", answers, re.M) == [b"401"]
+
+
+@pytest.mark.parametrize("kind", ["Flask, gunicorn", "Flask, gunicorn, preloaded", "Starlette, uvicorn"])
+def test_a_token_is_good_once(tmp_path, keytab, kind):
+    """Over all workers, and over a restart. If the store is lost, nobody is let in."""
+    (tmp_path / "run").mkdir(mode=0o700)
+    terms = {"keytab": keytab, "service": web.NAME, "first_life": True, "store": tmp_path / "run/stamps"}
+    tokens = [web.token() for _ in range(30)]
+    order = random.sample(tokens * 6, 180)
+    start = web_servers.KINDS[kind]
+    with start(tmp_path, **terms) as server, ThreadPoolExecutor(30) as pool:
+        statuses = list(pool.map(lambda it: server.ask(token=it).status, order))
+    assert (statuses.count(200), statuses.count(401)) == (30, 150)
+    with start(tmp_path, **terms) as server:
+        assert {server.ask(token=it).status for it in tokens} == {401}
+        assert server.ask(token=web.token()).status == 200
+        for it in (tmp_path / "run").iterdir():
+            it.unlink()
+        answer = server.ask(token=web.token(), headers={"Accept": "text/html"})
+        assert (answer.status, answer.one("Retry-After")) == (503, "60") and b"STORE_FAILED" in answer.body

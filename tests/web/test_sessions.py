@@ -1,0 +1,148 @@
+"""Sessions: a cookie stands for a login until it ends."""
+import os
+import re
+import time
+
+import pytest
+
+from fevstunik.web import Sessions, Users
+
+from support.web import negotiate, token
+
+
+def cookie_of(answer):
+    return answer.one("Set-Cookie").partition(";")[0]
+
+
+def logged_in(ask, **more):
+    answer = ask(headers=[("Authorization", negotiate(token(**more)))])
+    assert answer.status == 200
+    return answer
+
+
+def with_cookie(ask, *cookies, path="/"):
+    answer = ask(path=path, headers=[("Cookie", "; ".join(cookies))])
+    return answer.body.decode() if answer.status == 200 else answer.status
+
+
+@pytest.fixture
+def clock(monkeypatch):
+    """Sets how far the clock of sessions is ahead."""
+    real, ahead = time.time, [0]
+    monkeypatch.setattr("fevstunik.web._sessions.time.time", lambda: real() + ahead[0])
+    return lambda seconds: ahead.__setitem__(0, seconds)
+
+
+def test_a_session(made, over):
+    gate = made(sessions=Sessions())
+    ask = over(gate)
+    answer = logged_in(ask)
+    assert re.fullmatch(r"__Host-fevstunik=[\w-]+; Path=/; HttpOnly; SameSite=Lax; Secure", answer.one("Set-Cookie"))
+    assert answer.token
+    for path in ("/", "/other"):
+        assert with_cookie(ask, "a=b", cookie_of(answer), path=path) == "alice@EX"
+    assert gate.counts == {"LOGIN": 1, "SESSION": 2}
+
+
+def test_sessions_are_off_at_first(ask):
+    assert logged_in(ask).one("Set-Cookie") is None
+
+
+def test_a_cookie_is_looked_at_before_a_token(made, over):
+    """So a token isn't used up, and isn't taken for a repeat."""
+    ask, value = over(made(sessions=Sessions())), negotiate(token())
+    cookie = cookie_of(logged_in(ask))
+    headers = [("Cookie", cookie), ("Authorization", value)]
+    assert [ask(headers=headers).status for _ in range(2)] == [200, 200]
+    assert ask(headers=headers[1:]).status == 200
+
+
+def test_no_other_cookie_is_taken(made, over):
+    ask = over(made(sessions=Sessions()))
+    name, _, value = cookie_of(logged_in(ask)).partition("=")
+    bent = [value[:at] + ("A" if value[at] != "A" else "B") + value[at + 1:] for at in range(0, len(value) - 2)]
+    for other in (*bent, value[:-4], value + "AAAA", value + "=", "", "*", "A" * 5000, value.replace("-", "+")):
+        assert other == value or with_cookie(ask, f"{name}={other}") == 401, other
+    assert with_cookie(ask, f"fevstunik={value}") == 401
+    assert with_cookie(ask, f"{name}=", f"{name}={value}") == "alice@EX"
+
+
+@pytest.mark.parametrize("hours, ticket, ends", [(1, 8, 3600), (8, 1, 3600)])
+def test_the_end(made, over, clock, hours, ticket, ends):
+    """That of the session, or of the ticket."""
+    ask = over(made(sessions=Sessions(hours=hours)))
+    cookie = cookie_of(logged_in(ask, hours=ticket))
+    for ahead, wanted in ((ends - 30, "alice@EX"), (ends + 30, 401)):
+        clock(ahead)
+        assert with_cookie(ask, cookie) == wanted
+
+
+def test_logout(made, over):
+    ask = over(made(sessions=Sessions(logout="/logout")))
+    answer = ask(path="/logout")
+    assert (answer.status, answer.body) == (200, b"You have logged out.\n")
+    assert answer.one("Set-Cookie") == "__Host-fevstunik=; Path=/; HttpOnly; SameSite=Lax; Secure; Max-Age=0"
+
+
+def test_processes_share_a_key(made, over, tmp_path):
+    key = tmp_path / "session.key"
+    one, other = (over(made(sessions=Sessions(key=key))) for _ in range(2))
+    assert (key.stat().st_mode & 0o777, key.stat().st_size) == (0o600, 32)
+    cookie = cookie_of(logged_in(one))
+    assert with_cookie(other, cookie) == "alice@EX"
+    assert with_cookie(over(made(sessions=Sessions())), cookie) == 401
+
+
+def test_a_new_key_ends_all(made, over, tmp_path, monkeypatch):
+    key = tmp_path / "session.key"
+    ask = over(made(sessions=Sessions(key=key)))
+    cookie = cookie_of(logged_in(ask))
+    monkeypatch.setattr("fevstunik.web._files._PAUSE", 0)
+    new = tmp_path / "new"
+    new.write_bytes(os.urandom(32))
+    new.replace(key)
+    # Others may read this one, so the one before is kept.
+    assert with_cookie(ask, cookie) == "alice@EX"
+    key.chmod(0o600)
+    assert with_cookie(ask, cookie) == 401
+    assert with_cookie(ask, cookie_of(logged_in(ask))) == "alice@EX"
+
+
+def test_a_cookie_of_another_service(made, over, tmp_path):
+    key = tmp_path / "session.key"
+    cookie = cookie_of(logged_in(over(made(sessions=Sessions(key=key), service=None))))
+    assert with_cookie(over(made(sessions=Sessions(key=key))), cookie) == 401
+
+
+def test_rules_that_have_changed(made, over, tmp_path):
+    def asking(**rules):
+        users = Users(realms={"EX": "{user}"}, **rules)
+        return over(made(sessions=Sessions(key=tmp_path / "session.key"), users=users))
+    cookie = cookie_of(logged_in(asking()))
+    assert [with_cookie(asking(only=[it]), cookie) for it in ("alice", "bob")] == ["alice", 401]
+
+
+@pytest.mark.parametrize("mode, size", [(0o640, 32), (0o604, 32), (0o600, 31), (0o600, 33), (0o600, 0)])
+def test_keys_that_are_refused(made, tmp_path, mode, size):
+    key = tmp_path / "session.key"
+    key.write_bytes(os.urandom(size))
+    key.chmod(mode)
+    with pytest.raises(ValueError):
+        made(sessions=Sessions(key=key))
+
+
+def test_a_long_name_has_no_session(made, over):
+    ask = over(made(sessions=Sessions()))
+    answer = ask(headers=[("Authorization", negotiate(token(b"a" * 4000)))])
+    assert (answer.status, answer.one("Set-Cookie")) == (200, None)
+
+
+@pytest.mark.parametrize("terms", [{"hours": 0}, {"hours": -1}, {"hours": float("nan")}, {"logout": "logout"}])
+def test_terms(terms):
+    with pytest.raises(ValueError):
+        Sessions(**terms)
+
+
+def test_without_tls(made, over):
+    ask = over(made(sessions=Sessions(secure=False)))
+    assert logged_in(ask).one("Set-Cookie").endswith("; Path=/; HttpOnly; SameSite=Lax")
