@@ -50,9 +50,10 @@ def keep(browser, what):
     assert picture.startswith(b"\x89PNG\r\n\x1a\n") and min(struct.unpack(">2I", picture[16:24])) > 300
 
 
-def test_login(browser, world):
+@pytest.mark.parametrize("service", ["web", "of examples/negotiate"])
+def test_login(browser, world, service):
     for _ in range(2):
-        assert browser.page(world["web"].url) == (world["web"].url, HELLO)
+        assert browser.page(world[service].url) == (world[service].url, HELLO)
     keep(browser, "login")
 
 
@@ -75,7 +76,8 @@ def test_redirects(browser, world):
     """To another host, which gets a token of its own; and after a login."""
     here = world["web"].url
     there = here.replace("localhost", OTHER_HOST)
-    for first, last in ((leading(here, there), there), (leading(there, here, "inside"), here), (f"{here}inside", here)):
+    pages = {f"{here}moved?{there}": there, leading(there, here, "inside"): here, f"{here}inside": here}
+    for first, last in pages.items():
         assert browser.page(first) == (last, HELLO)
 
 
