@@ -288,7 +288,7 @@ def from_mit():
     """The stored tokens, as the other side takes them in order: under the session key, under a subkey of the initiator,
     or under the acceptor's."""
     other = (19, bytes(16))
-    for _, name, lines, answers in calls.stored("context"):
+    for _, name, lines, answers in (it for it in calls.stored("context") if it[1].startswith("mit")):
         _, etype, key, side, subkey = lines[0].split()
         held, peer = (int(etype), bytes.fromhex(key)), next(it for it in SIGN if it != side)
         numbers = {it: int(answers[1].split()[0]) for it in SIGN}
