@@ -25,10 +25,11 @@ OPERANDS = {
     it["name"]: [TABLE["operand"][key]["name"] for key in it["arguments"] if key in TABLE["operand"]] for it in TABLE["command"]
 }
 READ = {it["name"] for it in TABLE["operand"].values() if it.get("file")} - {"OUT"}
-# The options that are followed by a value, and those whose value is a file that the command writes.
+# The options that are followed by a value, those whose value is a file, and those whose file the command reads.
 OPTIONS = {f"--{it.get('name', key)}": it for key, it in TABLE["option"].items()}
 VALUED = {*OPTIONS}
-WRITTEN = {name for name, it in OPTIONS.items() if it.get("file")}
+NAMING = {name for name, it in OPTIONS.items() if it.get("file")}
+OPENED = {name for name in NAMING if OPTIONS[name]["value"] != "OUT"}
 # A file or standard input that is longer can't be handed to the program.
 LIMIT = 1 << 26
 # What `rt try` says at its end if the program ended, and what it says if not.
@@ -57,13 +58,13 @@ def operands_of(words):
     return list(zip(places, names))
 
 
-def written_by(words):
-    """The place of each option's file that the command writes, and what stands before it in that word."""
+def named_by_options(words):
+    """The place of each option's file, what stands before it in that word, and whether the command reads it."""
     options = words[: words.index("--")] if "--" in words else words
     for at, word in enumerate(options):
         name, equals, _ = word.partition("=")
-        if name in WRITTEN and (equals or at + 1 < len(words)):
-            yield (at, word[: len(name) + 1]) if equals else (at + 1, "")
+        if name in NAMING and (equals or at + 1 < len(words)):
+            yield (at, word[: len(name) + 1], name in OPENED) if equals else (at + 1, "", name in OPENED)
 
 
 def is_passing(path):
@@ -87,28 +88,31 @@ def kept(source, path):
 def located(words, room):
     """The words with files named so that they are found from any folder, and each name as it was given by the one that it has there."""
     found, given = list(words), {}
-    for at, name in operands_of(words):
-        path = os.path.join(os.getcwd(), words[at])
-        if name not in (*READ, "OUT") or not words[at]:
-            continue
-        if name in READ and is_passing(path):
-            with open(path, "rb") as source:
-                path = kept(source, f"{room}/{at}")
-        found[at], given[path] = path, words[at]
-    for at, before in written_by(words):
+    files = [(at, "", name in READ) for at, name in operands_of(words) if name in (*READ, "OUT") and words[at]]
+    for at, before, is_read in [*files, *named_by_options(words)]:
         name = words[at][len(before) :]
         path = os.path.join(os.getcwd(), name) if name else name
+        if is_read and is_passing(path):
+            with open(path, "rb") as source:
+                path = kept(source, f"{room}/{at}")
         found[at], given[path] = before + path, name
     return found, given
 
 
+def reads_input(words):
+    """Whether the command reads standard input."""
+    if words[:1] == ["explain"]:
+        return not operands_of(words) and not [*named_by_options(words)]
+    return words[:1] == ["accept"]
+
+
 def standard_input(words, room):
     """The file that the program reads as its standard input."""
-    if words[:1] != ["accept"]:
+    if not reads_input(words):
         return os.devnull
     if sys.stdin is None:
         raise NotSo("standard input is closed")
-    if sys.stdin.isatty():
+    if words[0] == "accept" and sys.stdin.isatty():
         raise NotSo("it can't answer line by line")
     return kept(sys.stdin.buffer, f"{room}/stdin")
 

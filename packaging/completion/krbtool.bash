@@ -3,11 +3,11 @@ _krbtool() {
     local word=${COMP_WORDS[COMP_CWORD]} before=${COMP_WORDS[COMP_CWORD-1]} options
     COMPREPLY=()
     if [ "$COMP_CWORD" -eq 1 ]; then
-        COMPREPLY=($(compgen -W 'list-keytab list-ccache check-keytab check-ccache convert-keytab convert-ccache request accept finish pick-key remove-key add-keys help --help --version' -- "$word"))
+        COMPREPLY=($(compgen -W 'list-keytab list-ccache check-keytab check-ccache convert-keytab convert-ccache pick-key remove-key add-keys request accept finish explain help --help --version' -- "$word"))
         return
     fi
     case $before in
-        --confounder | --kvno | --now | --only | --out | --reply | --service | --skew | --started | --time | --token | --usec) return ;;
+        --confounder | --file | --kvno | --now | --only | --out | --reply | --service | --skew | --started | --time | --token | --usec) return ;;
     esac
     case ${COMP_WORDS[1]} in
         list-keytab) options='--readable --help' ;;
@@ -16,13 +16,14 @@ _krbtool() {
         check-ccache) options='--help' ;;
         convert-keytab) options='--replace --help' ;;
         convert-ccache) options='--replace --help' ;;
-        request) options='--time --usec --confounder --mutual --token --help' ;;
-        accept) options='--skew --started --service --only --tokens --help' ;;
-        finish) options='--time --usec --reply --help' ;;
         pick-key) options='--kvno --help' ;;
         remove-key) options='--out --help' ;;
         add-keys) options='--out --help' ;;
-        help) options='list-keytab list-ccache check-keytab check-ccache convert-keytab convert-ccache request accept finish pick-key remove-key add-keys' ;;
+        request) options='--time --usec --confounder --mutual --token --help' ;;
+        accept) options='--skew --started --service --only --tokens --help' ;;
+        finish) options='--time --usec --reply --help' ;;
+        explain) options='--file --help' ;;
+        help) options='list-keytab list-ccache check-keytab check-ccache convert-keytab convert-ccache pick-key remove-key add-keys request accept finish explain' ;;
         *) return ;;
     esac
     case $word in

@@ -111,10 +111,15 @@ def test_names_of_files(room):
 
 
 def test_pipes(room):
-    """What is read from a pipe is copied for the program; standard input is that of `accept`."""
+    """What is read from a pipe is copied for the program; standard input is that of `accept`, and of `explain` if the
+    message isn't elsewhere."""
     ran = Ran(room, ["accept", "k", "--skew", "5"], input="a\nb\n")
     assert ran.calls == [f"krbtool try -- accept {room}/k --skew 5"] and ran.out == "run with a\nb\n"
     assert Ran(room, ["list-keytab", "k"], input="a\n").out == "run with \n"
+    assert Ran(room, ["explain"], input="a\n").out == "run with a\n"
+    assert Ran(room, ["explain", "6e"], input="a\n").out == "run with \n"
+    ran = Ran(room, ["explain", "--file", "m"], input="a\n")
+    assert ran.calls == [f"krbtool try -- explain --file {room}/m"] and ran.out == "run with \n"
     os.mkfifo(room / "pipe")
     with subprocess.Popen(["sh", "-c", f"echo text > {room}/pipe"]):
         ran = Ran(room, ["list-keytab", "pipe"])
@@ -142,7 +147,7 @@ def test_words(program):
     for it in commands:
         said = subprocess.run([program, it, "--help"], stdout=subprocess.PIPE, text=True, check=True).stdout
         usage = re.search(r"(?m)^Usage: .*$", said)[0]
-        operands[it] = re.findall(r"<([A-Z]+)>", usage)
+        operands[it] = re.findall(r"[<[](?!OPTIONS)([A-Z]+)[]>]", usage)
         valued |= {*re.findall(r"(?m)^ .*(--[a-z]+) <", said)}
     assert operands == unproved.OPERANDS
     assert valued == unproved.VALUED

@@ -18,6 +18,8 @@ TEMPLATES = {
     "packaging/completion/krbtool.bash": "krbtool.bash",
     "packaging/completion/_krbtool": "_krbtool",
 }
+# The groups of commands, in their order.
+GROUPS = ("file", "message")
 # Words of antt that are no names there.
 RESERVED = {"data", "in", "let", "mutual", "open", "package", "record", "use", "where"}
 # A document of which parts are made, and how a part stands in it.
@@ -37,10 +39,12 @@ class Argument:
     name: str = ""
     value: str = ""
     file: bool = False
+    optional: bool = False
     required: bool = False
     greatest: int | None = None
     default: str | None = None
     needs: str = ""
+    excludes: str = ""
     more: str = ""
 
     @property
@@ -59,7 +63,11 @@ class Argument:
     @property
     def is_word(self):
         """Whether it always has a value."""
-        return self.kind == "operand" or self.required or self.default is not None
+        return (self.kind == "operand" and not self.optional) or self.required or self.default is not None
+
+    @property
+    def has_to_be_there(self):
+        return self.required or (self.kind == "operand" and not self.optional)
 
     @property
     def range(self):
@@ -96,6 +104,10 @@ class Argument:
     def rattle_kind(self):
         if self.needs:
             return f'With("{self.needs}")'
+        if self.excludes:
+            return f'Without("{self.excludes}")'
+        if self.optional:
+            return "Optional"
         if self.default is not None:
             return f'Defaulted("{self.default}")'
         return {"operand": "Operand", "flag": "Flag"}.get(self.kind, "Needed" if self.required else "Free")
@@ -117,13 +129,15 @@ class Argument:
     @property
     def rule(self):
         """What clap knows of it, in the definition's words."""
-        rule = f'{self.kind} (codes "{self.id}")'
+        rule = f'{"optional_" if self.optional else ""}{self.kind} (codes "{self.id}")'
         if self.greatest is not None:
             rule = f"number {self.greatest:_} ({rule})"
         if self.required:
             rule = f"needed ({rule})"
         if self.default is not None:
             rule = f'with_default (codes "{self.default}") ({rule})'
+        if self.excludes:
+            rule = f"excluding_another ({rule})"
         return f"needing_another ({rule})" if self.needs else rule
 
     def part(self, value):
@@ -141,6 +155,7 @@ class Command:
     refused: str
     details: str
     words: str = ""
+    group: str = "file"
     form: dict = field(default_factory=dict)
 
     @property
@@ -188,7 +203,7 @@ class Command:
         """Its operands and options, as they are written."""
         def shown(it):
             inner = "".join(f" {shown(one)}" for one in self.needing(it.id)) if it.kind == "flag" else ""
-            return it.shown if it.kind == "operand" or it.required else f"[{it.shown}{inner}]"
+            return it.shown if it.has_to_be_there else f"[{it.shown}{inner}]"
         return " ".join([self.name, *(shown(it) for it in self.arguments if not it.needs)])
 
     # ---- in Rattle
@@ -233,6 +248,7 @@ class Table:
         self.arguments = {key: Argument(key, kind, **it) for kind in kinds for key, it in table[kind].items()}
         of = lambda it: {"arguments": [self.arguments[key] for key in it["arguments"]]}
         self.commands = [Command(**it | of(it)) for it in table["command"]]
+        self.groups = {name: [it for it in self.commands if it.group == name] for name in GROUPS}
         self.examples = table["example"]
         self.version = ".".join(map(str, tomllib.loads((ROOT / interface.TABLE).read_text())["version"]))
         self.hyphened = [it.name for it in self.commands if "-" in it.name]
@@ -293,11 +309,15 @@ def faults(table):
     for it in table.used():
         if table.rules()[it.known_as] != it.rule:
             yield f"the name of {it.key} is that of another operand, option or flag, which has other rules"
+    if [it for group in table.groups.values() for it in group] != table.commands:
+        yield f"the groups of commands aren't {' and '.join(GROUPS)}, in this order"
     for command in table.commands:
         ids = [it.id for it in command.arguments]
         if len(ids) != len(set(ids)):
             yield f"{command.name} has two arguments of one name"
         for it in command.arguments:
+            if it.excludes and it.excludes not in ids:
+                yield f"{it.id} of {command.name} excludes an operand that the command doesn't have"
             if it.needs and it.needs != command.form.get("flag"):
                 yield f"{it.id} of {command.name} needs a flag that isn't its form's"
 
@@ -348,11 +368,12 @@ class Page(manual.Page):
         """The lines of a command's synopsis."""
         def one(it):
             inner = "".join(f" {one(inner)}" for inner in command.needing(it.id)) if it.kind == "flag" else ""
-            return ("" if it.kind == "operand" or it.required else "Op ") + tagged(it) + inner
+            return ("" if it.has_to_be_there else "Op ") + tagged(it) + inner
         return "\n".join([".Nm", f".Cm {command.name}", *(f".{one(it)}" for it in command.arguments if not it.needs)])
 
     def heading(self, command):
-        return " ".join([f".It Cm {command.name}", *(f"Ar {it.id.lower()}" for it in command.operands)])
+        operands = (f"{'Op ' if it.optional else ''}Ar {it.id.lower()}" for it in command.operands)
+        return " ".join([f".It Cm {command.name}", *operands])
 
     def described(self, command):
         """What is said of a command, and of its operands and options."""
@@ -424,7 +445,8 @@ def zsh_words(command):
         yield f"'--{it.id}[{zsh_text(plain(it.text) + default, OPTION_READ)}]{value}'"
     yield "'--help[Print help]'"
     for it in command.operands:
-        yield f"':{zsh_text(plain(it.text), TEXT_READ)}:{'_files' if it.file else ' '}'"
+        colon = "::" if it.optional else ":"
+        yield f"'{colon}{zsh_text(plain(it.text), TEXT_READ)}:{'_files' if it.file else ' '}'"
 
 
 # What ends a text of an option, and other texts.

@@ -1,24 +1,32 @@
--- What clap's definition of a simple command asks of krbtool, what an argument is that needs another, and how the rows of a
+-- What clap's definition of a simple command asks of krbtool, what an argument is that needs or excludes another, and how the rows of a
 -- table are taken one by one.
 use Rattle.std.proofs.Common.{◌≡◌, ◌&&◌, ◌<◌, ◌+◌, ℕ, Bool, true, false, not, List, [], ◌∷◌, ◌++◌, Result, Ok, Err, drop, fold, get_or, length, map, refl, ap, sym, ◌∙◌, arith}
 use Rattle.std.specs.Prelude.{IfOk}
 use Rattle.std.specs.Borrow.{Bor}
 use Rattle.std.proofs.lemmas.Bool.{ne_eqb}
 use Rattle.std.proofs.lemmas.List.{at_drop_more, length-append}
-use Rattle.clap.specs.Adds.{AddsRequirements}
+use Rattle.std.proofs.lemmas.List.Folds.{list_any-append}
+use Rattle.clap.specs.Adds.{AddsConflicts, AddsRequirements}
 use Rattle.clap.specs.Walk.{is_empty}
 use Rattle.clap.specs.Words.{is_simple, rule_of}
 use Rattle.clap.specs.declared.builder.arg.Arg.{Arg}
 use Rattle.clap.specs.declared.builder.arg.ArgPredicate.{ArgPredicate}
-use Rattle.krb_command_line.specs.Arguments.{needing_another}
-use Rattle.krb_command_line.specs.CommandLine.{krbtool}
+use Rattle.krb_command_line.specs.Arguments.{excluding_another, needing_another}
+use Rattle.krb_command_line.specs.CommandLine.{krbtool, with_file_commands, with_message_commands}
+
+-- a name among the commands of files or among those of messages
+pub ruleset of_both = (list_any-append)
 
 pub krbtool_is_simple : is_simple krbtool ≡ true
-unfolding krbtool
+unfolding krbtool with_file_commands with_message_commands
 krbtool_is_simple = refl
 
 not_empty : {X : Type 0} (xs : List X) (x : X) → is_empty (xs ++ x ∷ []) ≡ false
 not_empty xs x = ne_eqb (length (xs ++ x ∷ [])) 0 (λ is. absurd (omega (arith, is, length-append xs (x ∷ []))))
+
+second_false : (a b c : Bool) → b ≡ false → (a && (b && c)) ≡ false
+second_false false b c is = refl
+second_false true b c is = ap (λ (v : Bool). v && c) is
 
 third_false : (a b c d : Bool) → c ≡ false → (a && (b && (c && d))) ≡ false
 third_false false b c d is = refl
@@ -34,6 +42,16 @@ is_needing (Ok r) arg other adds =
     ∙ ap (λ (f : Bool). record (rule_of arg) { is_free = f })
     (third_false (not arg.exclusive) (is_empty arg.conflicts.items) (is_empty r.needs.items) _ some)
 is_needing (Err e) arg other adds = tt
+
+-- it has a rule against another argument, and is else the same
+pub is_excluding : {E : Type 0} (result : Result Arg E) (arg : Arg) (other : Bor (List ℕ))
+    → IfOk result (λ r. AddsConflicts arg r (other ∷ [])) → IfOk result (λ r. rule_of r ≡ excluding_another (rule_of arg))
+is_excluding (Ok r) arg other adds =
+    let some : is_empty r.conflicts.items ≡ false = ap is_empty adds.1 ∙ not_empty arg.conflicts.items other in
+    ap rule_of adds.0
+    ∙ ap (λ (f : Bool). record (rule_of arg) { is_free = f })
+    (second_false (not arg.exclusive) (is_empty r.conflicts.items) _ some)
+is_excluding (Err e) arg other adds = tt
 
 -- what is left to do, after one more row
 pub one_more : {A B C : Type 0} (f : B → A → B) (g : C → A) (rows : List C) (i : ℕ) (d : C) (old new : B) → i < length rows

@@ -10,6 +10,10 @@ use Rattle.clap.specs.declared.builder.value_parser.ValueParser.TheVariants.{Uns
 abbrev pub operand : Text → Rule
 operand id = record (new_rule id) { required = true }
 
+-- an operand that may be left out
+abbrev pub optional_operand : Text → Rule
+optional_operand id = new_rule id
+
 -- an option with a value, which may be left out
 abbrev pub option : Text → Rule
 option id = record (new_rule id) { long = Some id }
@@ -33,6 +37,10 @@ with_default value rule = record rule { defaults = value ∷ [] }
 -- one that is refused unless another is given
 abbrev pub needing_another : Rule → Rule
 needing_another rule = record rule { is_free = false }
+
+-- one that is refused if another is given
+abbrev pub excluding_another : Rule → Rule
+excluding_another rule = record rule { is_free = false }
 
 -- a command: its name, and its operands and options in order
 pub record Entry : Type 0 where

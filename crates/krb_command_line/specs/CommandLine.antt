@@ -3,7 +3,7 @@
 use Rattle.std.specs.Prelude.{◌≡◌, Bool, List, [], ◌∷◌, Option, Some, None, true, false, codes, fold, map, option_map}
 use Rattle.clap.specs.Words.{App, Row, Rule, Text, first_of, one_of, new_app, with_subcommand}
 use Rattle.krb_command_line.specs.Arguments.{Value, word, optional, given, app_of_entry}
-use Rattle.krb_command_line.specs.Commands.{asked, commands}
+use Rattle.krb_command_line.specs.Commands.{asked, file_commands, message_commands}
 use Rattle.krb_command_line.specs.declared.command_line.Command.{Command}
 
 -- krbtool COMMAND ..: one of its commands has to be there; it has a version, which --version asks for
@@ -14,8 +14,16 @@ bare = let top = new_app (codes "krbtool") in record top { top = record top.top 
 abbrev pub with_command : App → App → App
 with_command app one = with_subcommand app one.top
 
+-- an app with the commands of files, or of messages
+unfoldable pub with_file_commands : App → App
+with_file_commands app = fold with_command app (map app_of_entry file_commands)
+
+unfoldable pub with_message_commands : App → App
+with_message_commands app = fold with_command app (map app_of_entry message_commands)
+
+-- krbtool with all its commands
 unfoldable pub krbtool : App
-krbtool = fold with_command bare (map app_of_entry commands)
+krbtool = with_message_commands (with_file_commands bare)
 
 -- a flag is given, or not, as what clap found of it says
 pub record IsFlag (found : Option Text) (value : Bool) : Type 0 where

@@ -1,10 +1,10 @@
 -- Made from commands.toml by `make generate`. Don't edit this file.
 -- The operands and options, the commands that have them, and what a command has of each.
-use Rattle.std.specs.Prelude.{List, [], ◌∷◌, None, true, false, codes}
+use Rattle.std.specs.Prelude.{List, [], ◌∷◌, ◌++◌, None, true, false, codes}
 use Rattle.clap.specs.Words.{Rule}
-use Rattle.krb_command_line.specs.Arguments.{Entry, Value, flag, given, needed, needing_another, number, operand, option, optional, with_default, word}
+use Rattle.krb_command_line.specs.Arguments.{Entry, Value, excluding_another, flag, given, needed, needing_another, number, operand, option, optional, optional_operand, with_default, word}
 use Rattle.krb_command_line.specs.declared.command_line.Command.{Command}
-use Rattle.krb_command_line.specs.declared.command_line.Command.TheVariants.{ListKeytab, ListCcache, CheckKeytab, CheckCcache, ConvertKeytab, ConvertCcache, Request, Accept, Finish, PickKey, RemoveKey, AddKeys}
+use Rattle.krb_command_line.specs.declared.command_line.Command.TheVariants.{ListKeytab, ListCcache, CheckKeytab, CheckCcache, ConvertKeytab, ConvertCcache, PickKey, RemoveKey, AddKeys, Request, Accept, Finish, Explain}
 use Rattle.krb_command_line.specs.declared.command_line.CacheForm.TheVariants.{Lines, Table}
 
 abbrev pub FILE : Rule
@@ -26,10 +26,13 @@ abbrev pub NAME : Rule
 NAME = operand (codes "NAME")
 
 abbrev pub ETYPE : Rule
-ETYPE = number 2_147_483_647 (operand (codes "ETYPE"))
+ETYPE = operand (codes "ETYPE")
 
 abbrev pub INDEX : Rule
 INDEX = number 4_294_967_295 (operand (codes "INDEX"))
+
+abbrev pub MESSAGE : Rule
+MESSAGE = optional_operand (codes "MESSAGE")
 
 abbrev pub now : Rule
 now = needing_another (number 253_402_300_799 (option (codes "now")))
@@ -51,6 +54,9 @@ skew = with_default (codes "300") (number 86_400 (option (codes "skew")))
 
 abbrev pub kvno : Rule
 kvno = number 4_294_967_295 (option (codes "kvno"))
+
+abbrev pub file : Rule
+file = excluding_another (option (codes "file"))
 
 abbrev pub out : Rule
 out = option (codes "out")
@@ -97,15 +103,6 @@ convert_keytab = record { name = codes "convert-keytab"; arguments = FILE ∷ OU
 abbrev pub convert_ccache : Entry
 convert_ccache = record { name = codes "convert-ccache"; arguments = FILE ∷ OUT ∷ replace ∷ [] }
 
-abbrev pub request : Entry
-request = record { name = codes "request"; arguments = FILE ∷ SERVICE ∷ time ∷ usec ∷ confounder ∷ «mutual» ∷ token ∷ [] }
-
-abbrev pub accept : Entry
-accept = record { name = codes "accept"; arguments = KEYTAB ∷ skew ∷ started ∷ service ∷ only ∷ tokens ∷ [] }
-
-abbrev pub finish : Entry
-finish = record { name = codes "finish"; arguments = FILE ∷ SERVICE ∷ time ∷ usec ∷ reply ∷ [] }
-
 abbrev pub pick_key : Entry
 pick_key = record { name = codes "pick-key"; arguments = KEYTAB ∷ NAME ∷ ETYPE ∷ kvno ∷ [] }
 
@@ -115,8 +112,26 @@ remove_key = record { name = codes "remove-key"; arguments = KEYTAB ∷ INDEX �
 abbrev pub add_keys : Entry
 add_keys = record { name = codes "add-keys"; arguments = KEYTAB ∷ FROM ∷ out ∷ [] }
 
+abbrev pub request : Entry
+request = record { name = codes "request"; arguments = FILE ∷ SERVICE ∷ time ∷ usec ∷ confounder ∷ «mutual» ∷ token ∷ [] }
+
+abbrev pub accept : Entry
+accept = record { name = codes "accept"; arguments = KEYTAB ∷ skew ∷ started ∷ service ∷ only ∷ tokens ∷ [] }
+
+abbrev pub finish : Entry
+finish = record { name = codes "finish"; arguments = FILE ∷ SERVICE ∷ time ∷ usec ∷ reply ∷ [] }
+
+abbrev pub explain : Entry
+explain = record { name = codes "explain"; arguments = MESSAGE ∷ file ∷ [] }
+
+abbrev pub file_commands : List Entry
+file_commands = list_keytab ∷ list_ccache ∷ check_keytab ∷ check_ccache ∷ convert_keytab ∷ convert_ccache ∷ pick_key ∷ remove_key ∷ add_keys ∷ []
+
+abbrev pub message_commands : List Entry
+message_commands = request ∷ accept ∷ finish ∷ explain ∷ []
+
 abbrev pub commands : List Entry
-commands = list_keytab ∷ list_ccache ∷ check_keytab ∷ check_ccache ∷ convert_keytab ∷ convert_ccache ∷ request ∷ accept ∷ finish ∷ pick_key ∷ remove_key ∷ add_keys ∷ []
+commands = file_commands ++ message_commands
 
 -- the entry of a command, and what the command has of each operand and option
 abbrev pub asked : Command → Entry × List Value
@@ -127,9 +142,10 @@ asked (CheckKeytab file) = (check_keytab, word file ∷ [])
 asked (CheckCcache file) = (check_ccache, word file ∷ [])
 asked (ConvertKeytab file out replace) = (convert_keytab, word file ∷ word out ∷ given replace ∷ [])
 asked (ConvertCcache file out replace) = (convert_ccache, word file ∷ word out ∷ given replace ∷ [])
-asked (Request words) = (request, word words.file ∷ word words.service ∷ word words.time ∷ word words.usec ∷ word words.confounder ∷ given words.mutual ∷ optional words.token ∷ [])
-asked (Accept words) = (accept, word words.keytab ∷ word words.skew ∷ optional words.started ∷ optional words.service ∷ optional words.only ∷ given words.tokens ∷ [])
-asked (Finish words) = (finish, word words.file ∷ word words.service ∷ word words.time ∷ word words.usec ∷ word words.reply ∷ [])
 asked (PickKey words) = (pick_key, word words.keytab ∷ word words.name ∷ word words.etype ∷ optional words.kvno ∷ [])
 asked (RemoveKey words) = (remove_key, word words.keytab ∷ word words.index ∷ optional words.out ∷ [])
 asked (AddKeys words) = (add_keys, word words.keytab ∷ word words.from ∷ optional words.out ∷ [])
+asked (Request words) = (request, word words.file ∷ word words.service ∷ word words.time ∷ word words.usec ∷ word words.confounder ∷ given words.mutual ∷ optional words.token ∷ [])
+asked (Accept words) = (accept, word words.keytab ∷ word words.skew ∷ optional words.started ∷ optional words.service ∷ optional words.only ∷ given words.tokens ∷ [])
+asked (Finish words) = (finish, word words.file ∷ word words.service ∷ word words.time ∷ word words.usec ∷ word words.reply ∷ [])
+asked (Explain words) = (explain, optional words.message ∷ optional words.file ∷ [])

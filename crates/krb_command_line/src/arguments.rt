@@ -2,7 +2,7 @@
 
 ghost use Rattle.std.specs.Prelude.{◌≡◌, false, IfOk};
 ghost use Rattle.clap.specs.Words.{rule_of};
-ghost use Rattle.krb_command_line.specs.Arguments.{needing_another};
+ghost use Rattle.krb_command_line.specs.Arguments.{excluding_another, needing_another};
 ghost use Rattle.krb_command_line.specs.Inner.Commands.{ranged, rule_for, rule_of_kind};
 
 use clap::builder::ValueParser;
@@ -27,6 +27,8 @@ pub(crate) struct Argument<'a> {
 pub(crate) enum Kind<'a> {
     /// An operand, which has to be there.
     Operand,
+    /// An operand that may be left out.
+    Optional,
     /// An option without a value.
     Flag,
     /// An option with a value, which has to be there.
@@ -35,6 +37,8 @@ pub(crate) enum Kind<'a> {
     Free,
     /// One that is refused unless this one is given.
     With(&'a str),
+    /// One that is refused if this operand is given.
+    Without(&'a str),
     /// One that has this value if it is left out.
     Defaulted(&'a str),
 }
@@ -57,10 +61,12 @@ fn arg_of_kind<'a>(alloc: Global, argument: &Argument<'a>) -> Result<Arg<'a>, Al
     let arg = Arg::new(alloc, name).help(argument.help);
     match argument.kind {
         Kind::Operand => Ok(arg.required(true)),
+        Kind::Optional => Ok(arg),
         Kind::Flag => Ok(arg.long(name).action(ArgAction::SetTrue)),
         Kind::Needed => Ok(arg.long(name).required(true)),
         Kind::Free => Ok(arg.long(name)),
         Kind::With(other) => with_another(arg.long(name), other),
+        Kind::Without(other) => without_another(arg.long(name), other),
         Kind::Defaulted(value) => Ok(arg.long(name).default_value(value)),
     }
 }
@@ -82,4 +88,12 @@ fn with_another<'a>(arg: Arg<'a>, other: &'a str) -> Result<Arg<'a>, AllocError>
     ensures local { IfOk result (λ r. r.global ≡ arg.entry.global) }
 {
     arg.requires_arg(other)
+}
+
+// The argument, which is refused if the other is given.
+fn without_another<'a>(arg: Arg<'a>, other: &'a str) -> Result<Arg<'a>, AllocError>
+    ensures rule { IfOk result (λ r. rule_of r ≡ excluding_another (rule_of arg.entry)) }
+    ensures local { IfOk result (λ r. r.global ≡ arg.entry.global) }
+{
+    arg.conflicts_with(other)
 }

@@ -58,6 +58,15 @@ pub enum Command<'a> {
         /// and stays as it was if the command fails.
         replace: bool,
     },
+    /// `pick-key KEYTAB NAME ETYPE [--kvno NUMBER]`: prints the entry of a keytab whose key would
+    /// open a ticket.
+    PickKey(PickWords<'a>),
+    /// `remove-key KEYTAB INDEX [--out OUT]`: removes an entry from a keytab, and leaves a hole in
+    /// its place.
+    RemoveKey(RemoveWords<'a>),
+    /// `add-keys KEYTAB FROM [--out OUT]`: adds to a keytab the keys of another that it doesn't
+    /// have yet.
+    AddKeys(AddWords<'a>),
     /// `request FILE SERVICE --time SECONDS --usec MICROSECONDS --confounder HEX [--mutual] [--token KIND]`:
     /// builds a request for a service with a ticket of a credential cache, and prints it in
     /// hexadecimal.
@@ -69,15 +78,8 @@ pub enum Command<'a> {
     /// `finish FILE SERVICE --time SECONDS --usec MICROSECONDS --reply HEX`: reads the reply to a
     /// request that was built with a credential cache, and says what client and service agree on.
     Finish(FinishWords<'a>),
-    /// `pick-key KEYTAB NAME ETYPE [--kvno NUMBER]`: prints the entry of a keytab whose key would
-    /// open a ticket.
-    PickKey(PickWords<'a>),
-    /// `remove-key KEYTAB INDEX [--out OUT]`: removes an entry from a keytab, and leaves a hole in
-    /// its place.
-    RemoveKey(RemoveWords<'a>),
-    /// `add-keys KEYTAB FROM [--out OUT]`: adds to a keytab the keys of another that it doesn't
-    /// have yet.
-    AddKeys(AddWords<'a>),
+    /// `explain [MESSAGE] [--file FILE]`: says what is in a message or a token, for people.
+    Explain(ExplainWords<'a>),
 }
 
 /// How `list-ccache` lists a cache.
@@ -126,6 +128,16 @@ pub struct AddWords<'a> {
     pub out: Option<&'a str>,
 }
 
+/// The words of `explain`.
+#[derive(Clone, Copy)]
+pub struct ExplainWords<'a> {
+    /// `MESSAGE`: The message in hexadecimal or base64, or the header line that has it, such as
+    /// 'Authorization: Negotiate ..'; read from standard input if it and --file are left out.
+    pub message: Option<&'a str>,
+    /// `--file FILE`: Reads the message from this file, as text. It can't be given beside MESSAGE.
+    pub file: Option<&'a str>,
+}
+
 /// The words of `finish`.
 #[derive(Clone, Copy)]
 pub struct FinishWords<'a> {
@@ -149,8 +161,8 @@ pub struct PickWords<'a> {
     pub keytab: &'a str,
     /// `NAME`: The service's name, such as host/web@EXAMPLE.COM.
     pub name: &'a str,
-    /// `ETYPE`: The number of the encryption type that the ticket is sealed with: 19 or 20. In
-    /// decimal: 0 to 2147483647.
+    /// `ETYPE`: The encryption type that the ticket is sealed with, by its number or its name, such
+    /// as 20 or aes256-cts-hmac-sha384-192.
     pub etype: &'a str,
     /// `--kvno NUMBER`: The version number of the key that the ticket is sealed with (0 to
     /// 4294967295); the highest one if left out.

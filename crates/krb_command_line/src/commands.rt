@@ -3,11 +3,11 @@
 ghost use Rattle.std.specs.Prelude.{◌≡◌, false, fold, IfOk, map};
 ghost use Rattle.clap.specs.Words.{app_of, with_rule};
 ghost use Rattle.clap.specs.declared.builder.command.Command.TheViews.{out-Command};
-ghost use Rattle.krb_command_line.specs.CommandLine.{bare, krbtool, with_command};
+ghost use Rattle.krb_command_line.specs.CommandLine.{bare, krbtool, with_command, with_file_commands, with_message_commands};
 ghost use Rattle.krb_command_line.specs.Inner.Commands.{app_for, rule_for};
 
 use crate::arguments::{Argument, arg_of};
-use crate::table::{ABOUT, COMMANDS, VERSION};
+use crate::table::{ABOUT, FILE_COMMANDS, MESSAGE_COMMANDS, VERSION};
 use clap::Command;
 use std::alloc::{AllocError, Global};
 
@@ -24,7 +24,22 @@ pub(crate) struct Row<'a> {
 pub(crate) fn krbtool_command<'a>(alloc: Global) -> Result<Command<'a>, AllocError>
     ensures { IfOk result (λ c. app_of c ≡ krbtool) }
 {
-    command_with(alloc, &COMMANDS)
+    let command = with_file_commands(alloc, bare_command(alloc))?;
+    with_message_commands(alloc, command)
+}
+
+#[tactic(auto, unfolding(crate::specs::CommandLine::with_file_commands))]
+fn with_file_commands<'a>(alloc: Global, command: Command<'a>) -> Result<Command<'a>, AllocError>
+    ensures { IfOk result (λ c. app_of c ≡ with_file_commands (app_of command.entry)) }
+{
+    with_rows(alloc, command, &FILE_COMMANDS)
+}
+
+#[tactic(auto, unfolding(crate::specs::CommandLine::with_message_commands))]
+fn with_message_commands<'a>(alloc: Global, command: Command<'a>) -> Result<Command<'a>, AllocError>
+    ensures { IfOk result (λ c. app_of c ≡ with_message_commands (app_of command.entry)) }
+{
+    with_rows(alloc, command, &MESSAGE_COMMANDS)
 }
 
 fn bare_command<'a>(alloc: Global) -> Command<'a>
@@ -36,11 +51,14 @@ fn bare_command<'a>(alloc: Global) -> Command<'a>
         .subcommand_required(true)
 }
 
-// The bare command with these commands below it.
-fn command_with<'a>(alloc: Global, rows: &'a [Row<'a>]) -> Result<Command<'a>, AllocError>
-    ensures { IfOk result (λ c. app_of c ≡ fold with_command bare (map app_for rows.now)) }
+// The command with these commands below it.
+fn with_rows<'a>(
+    alloc: Global,
+    mut command: Command<'a>,
+    rows: &'a [Row<'a>],
+) -> Result<Command<'a>, AllocError>
+    ensures { IfOk result (λ c. app_of c ≡ fold with_command (app_of command.entry) (map app_for rows.now)) }
 {
-    let mut command = bare_command(alloc);
     for row in rows {
         command = command.subcommand(command_of(alloc, row)?)?;
     }

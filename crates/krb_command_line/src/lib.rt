@@ -14,6 +14,7 @@ mod table;
 mod words;
 
 pub use command_line::{
-    AcceptWords, AddWords, CacheForm, Command, FinishWords, PickWords, RemoveWords, RequestWords,
+    AcceptWords, AddWords, CacheForm, Command, ExplainWords, FinishWords, PickWords, RemoveWords,
+    RequestWords,
 };
 pub use words::{is_command, read_words};

@@ -7,7 +7,8 @@ ghost use Rattle.clap.specs.Words.{found_of, rows_of};
 ghost use Rattle.krb_command_line.specs.CommandLine.{IsCommand};
 
 use crate::command_line::{
-    AcceptWords, AddWords, CacheForm, Command, FinishWords, PickWords, RemoveWords, RequestWords,
+    AcceptWords, AddWords, CacheForm, Command, ExplainWords, FinishWords, PickWords, RemoveWords,
+    RequestWords,
 };
 use crate::matches::{has_flag, option_of, word_of};
 use clap::ArgMatches;
@@ -73,6 +74,39 @@ fn convert_ccache_of<'a>(matches: &ArgMatches<'a>) -> Option<Command<'a>>
     Some(Command::ConvertCcache { file, out, replace })
 }
 
+fn pick_key_of<'a>(matches: &ArgMatches<'a>) -> Option<Command<'a>>
+    ensures { IfSome result (λ command. IsCommand command (Some (codes "pick-key", rows_of (found_of matches.now)))) }
+{
+    let keytab = word_of(matches, "KEYTAB")?;
+    let name = word_of(matches, "NAME")?;
+    let etype = word_of(matches, "ETYPE")?;
+    let kvno = option_of(matches, "kvno");
+    Some(Command::PickKey(PickWords {
+        keytab,
+        name,
+        etype,
+        kvno,
+    }))
+}
+
+fn remove_key_of<'a>(matches: &ArgMatches<'a>) -> Option<Command<'a>>
+    ensures { IfSome result (λ command. IsCommand command (Some (codes "remove-key", rows_of (found_of matches.now)))) }
+{
+    let keytab = word_of(matches, "KEYTAB")?;
+    let index = word_of(matches, "INDEX")?;
+    let out = option_of(matches, "out");
+    Some(Command::RemoveKey(RemoveWords { keytab, index, out }))
+}
+
+fn add_keys_of<'a>(matches: &ArgMatches<'a>) -> Option<Command<'a>>
+    ensures { IfSome result (λ command. IsCommand command (Some (codes "add-keys", rows_of (found_of matches.now)))) }
+{
+    let keytab = word_of(matches, "KEYTAB")?;
+    let from = word_of(matches, "FROM")?;
+    let out = option_of(matches, "out");
+    Some(Command::AddKeys(AddWords { keytab, from, out }))
+}
+
 fn request_of<'a>(matches: &ArgMatches<'a>) -> Option<Command<'a>>
     ensures { IfSome result (λ command. IsCommand command (Some (codes "request", rows_of (found_of matches.now)))) }
 {
@@ -130,37 +164,12 @@ fn finish_of<'a>(matches: &ArgMatches<'a>) -> Option<Command<'a>>
     }))
 }
 
-fn pick_key_of<'a>(matches: &ArgMatches<'a>) -> Option<Command<'a>>
-    ensures { IfSome result (λ command. IsCommand command (Some (codes "pick-key", rows_of (found_of matches.now)))) }
+fn explain_of<'a>(matches: &ArgMatches<'a>) -> Option<Command<'a>>
+    ensures { IfSome result (λ command. IsCommand command (Some (codes "explain", rows_of (found_of matches.now)))) }
 {
-    let keytab = word_of(matches, "KEYTAB")?;
-    let name = word_of(matches, "NAME")?;
-    let etype = word_of(matches, "ETYPE")?;
-    let kvno = option_of(matches, "kvno");
-    Some(Command::PickKey(PickWords {
-        keytab,
-        name,
-        etype,
-        kvno,
-    }))
-}
-
-fn remove_key_of<'a>(matches: &ArgMatches<'a>) -> Option<Command<'a>>
-    ensures { IfSome result (λ command. IsCommand command (Some (codes "remove-key", rows_of (found_of matches.now)))) }
-{
-    let keytab = word_of(matches, "KEYTAB")?;
-    let index = word_of(matches, "INDEX")?;
-    let out = option_of(matches, "out");
-    Some(Command::RemoveKey(RemoveWords { keytab, index, out }))
-}
-
-fn add_keys_of<'a>(matches: &ArgMatches<'a>) -> Option<Command<'a>>
-    ensures { IfSome result (λ command. IsCommand command (Some (codes "add-keys", rows_of (found_of matches.now)))) }
-{
-    let keytab = word_of(matches, "KEYTAB")?;
-    let from = word_of(matches, "FROM")?;
-    let out = option_of(matches, "out");
-    Some(Command::AddKeys(AddWords { keytab, from, out }))
+    let message = option_of(matches, "MESSAGE");
+    let file = option_of(matches, "file");
+    Some(Command::Explain(ExplainWords { message, file }))
 }
 
 /// What a command of this name has of the matches.
@@ -174,12 +183,13 @@ pub(crate) fn command_named<'a>(name: &str, matches: &ArgMatches<'a>) -> Option<
         "check-ccache" => check_ccache_of(matches),
         "convert-keytab" => convert_keytab_of(matches),
         "convert-ccache" => convert_ccache_of(matches),
-        "request" => request_of(matches),
-        "accept" => accept_of(matches),
-        "finish" => finish_of(matches),
         "pick-key" => pick_key_of(matches),
         "remove-key" => remove_key_of(matches),
         "add-keys" => add_keys_of(matches),
+        "request" => request_of(matches),
+        "accept" => accept_of(matches),
+        "finish" => finish_of(matches),
+        "explain" => explain_of(matches),
         _ => None,
     }
 }

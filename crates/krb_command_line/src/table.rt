@@ -3,7 +3,7 @@
 //! The commands, with their operands and options, and what help says of them.
 
 use crate::arguments::Argument;
-use crate::arguments::Kind::{Defaulted, Flag, Free, Needed, Operand, With};
+use crate::arguments::Kind::{Defaulted, Flag, Free, Needed, Operand, Optional, With, Without};
 use crate::commands::Row;
 
 pub(crate) const ABOUT: &str = "Kerberos 5 keytabs, credential caches and AP exchange";
@@ -69,8 +69,8 @@ const NAME: Argument<'static> = Argument {
 const ETYPE: Argument<'static> = Argument {
     name: "ETYPE",
     kind: Operand,
-    greatest: Some(2_147_483_647),
-    help: "The number of the encryption type that the ticket is sealed with: 19 or 20",
+    greatest: None,
+    help: "The encryption type that the ticket is sealed with, by its number or its name, such as 20 or aes256-cts-hmac-sha384-192",
 };
 
 const INDEX: Argument<'static> = Argument {
@@ -78,6 +78,13 @@ const INDEX: Argument<'static> = Argument {
     kind: Operand,
     greatest: Some(4_294_967_295),
     help: "Which entry to remove, in the order of list-keytab: 0 is the first",
+};
+
+const MESSAGE: Argument<'static> = Argument {
+    name: "MESSAGE",
+    kind: Optional,
+    greatest: None,
+    help: "The message in hexadecimal or base64, or the header line that has it, such as 'Authorization: Negotiate ..'; read from standard input if it and --file are left out",
 };
 
 const NOW: Argument<'static> = Argument {
@@ -127,6 +134,13 @@ const KVNO: Argument<'static> = Argument {
     kind: Free,
     greatest: Some(4_294_967_295),
     help: "The version number of the key that the ticket is sealed with (0 to 4294967295); the highest one if left out",
+};
+
+const MESSAGE_FILE: Argument<'static> = Argument {
+    name: "file",
+    kind: Without("MESSAGE"),
+    greatest: None,
+    help: "Reads the message from this file, as text. It can't be given beside MESSAGE",
 };
 
 const OUT: Argument<'static> = Argument {
@@ -192,7 +206,8 @@ const TOKENS: Argument<'static> = Argument {
     help: "Takes tokens of GSS-API or SPNEGO in place of requests, and answers with tokens",
 };
 
-pub(crate) static COMMANDS: [Row<'static>; 12] = [
+/// The commands of files.
+pub(crate) static FILE_COMMANDS: [Row<'static>; 9] = [
     Row {
         name: "list-keytab",
         about: "Lists a keytab: key version number, encryption type, timestamp and principal of each entry",
@@ -230,6 +245,28 @@ pub(crate) static COMMANDS: [Row<'static>; 12] = [
         end: "Prints 'wrote COUNT', the number of bytes.\n\nExit status: 0 success; 1 the file is faulty; 2 the command line is wrong; 3 a file or standard stream can't be opened, read or written, or memory ran out",
     },
     Row {
+        name: "pick-key",
+        about: "Prints the entry of a keytab whose key would open a ticket",
+        arguments: &[KEYTAB, NAME, ETYPE, KVNO],
+        end: "Prints the entry's line: 'KVNO ENCTYPE TIMESTAMP PRINCIPAL'. If no entry is picked, the fault says why: NoName, NoKey or NoVersion.\n\nExit status: 0 success; 1 the file is faulty, or no entry is picked; 2 the command line is wrong; 3 a file or standard stream can't be opened, read or written, or memory ran out",
+    },
+    Row {
+        name: "remove-key",
+        about: "Removes an entry from a keytab, and leaves a hole in its place",
+        arguments: &[KEYTAB, INDEX, OUT],
+        end: "Prints 'wrote COUNT', the number of bytes. The hole has only zero bytes, and all other bytes stay the same. If there is no such entry, the fault is NoSuchEntry.\n\nExit status: 0 success; 1 the file is faulty, or has no such entry; 2 the command line is wrong; 3 a file or standard stream can't be opened, read or written, or memory ran out",
+    },
+    Row {
+        name: "add-keys",
+        about: "Adds to a keytab the keys of another that it doesn't have yet",
+        arguments: &[KEYTAB, FROM, OUT],
+        end: "Prints 'wrote COUNT', the number of bytes. A key of FROM is left out if KEYTAB has its name, encryption type, version number and bytes already. Each other key goes into the first hole that is long enough; if there is none, it comes last.\n\nExit status: 0 success; 1 one of the files is faulty; 2 the command line is wrong; 3 a file or standard stream can't be opened, read or written, or memory ran out",
+    },
+];
+
+/// The commands of messages.
+pub(crate) static MESSAGE_COMMANDS: [Row<'static>; 4] = [
+    Row {
         name: "request",
         about: "Builds a request for a service with a ticket of a credential cache, and prints it in hexadecimal",
         arguments: &[CCACHE, SERVICE, TIME, USEC, CONFOUNDER, WANTS_REPLY, TOKEN],
@@ -248,21 +285,9 @@ pub(crate) static COMMANDS: [Row<'static>; 12] = [
         end: "The request must have been built with --mutual, and with the same cache, service and moment. Prints one line: 'agreed CLIENT ENCTYPE [seq N] [subkey ENCTYPE]', the encryption types of the session key and of the service's key.\n\nExit status: 0 success; 1 the file is faulty, no request can be built, or the reply is refused; 2 the command line is wrong; 3 a file or standard stream can't be opened, read or written, or memory ran out",
     },
     Row {
-        name: "pick-key",
-        about: "Prints the entry of a keytab whose key would open a ticket",
-        arguments: &[KEYTAB, NAME, ETYPE, KVNO],
-        end: "Prints the entry's line: 'KVNO ENCTYPE TIMESTAMP PRINCIPAL'. If no entry is picked, the fault says why: NoName, NoKey or NoVersion.\n\nExit status: 0 success; 1 the file is faulty, or no entry is picked; 2 the command line is wrong; 3 a file or standard stream can't be opened, read or written, or memory ran out",
-    },
-    Row {
-        name: "remove-key",
-        about: "Removes an entry from a keytab, and leaves a hole in its place",
-        arguments: &[KEYTAB, INDEX, OUT],
-        end: "Prints 'wrote COUNT', the number of bytes. The hole has only zero bytes, and all other bytes stay the same. If there is no such entry, the fault is NoSuchEntry.\n\nExit status: 0 success; 1 the file is faulty, or has no such entry; 2 the command line is wrong; 3 a file or standard stream can't be opened, read or written, or memory ran out",
-    },
-    Row {
-        name: "add-keys",
-        about: "Adds to a keytab the keys of another that it doesn't have yet",
-        arguments: &[KEYTAB, FROM, OUT],
-        end: "Prints 'wrote COUNT', the number of bytes. A key of FROM is left out if KEYTAB has its name, encryption type, version number and bytes already. Each other key goes into the first hole that is long enough; if there is none, it comes last.\n\nExit status: 0 success; 1 one of the files is faulty; 2 the command line is wrong; 3 a file or standard stream can't be opened, read or written, or memory ran out",
+        name: "explain",
+        about: "Says what is in a message or a token, for people",
+        arguments: &[MESSAGE, MESSAGE_FILE],
+        end: "Prints a page, also of bytes that are no message: its lines say which token, request, reply or error they are, and what it has that isn't encrypted: names, options, encryption types, version numbers, sizes, times, an error's code and text. The message isn't checked, and no key is used.\n\nExit status: 0 success; 1 the text doesn't spell bytes, or it is too long; 2 the command line is wrong; 3 a file or standard stream can't be opened, read or written, or memory ran out",
     },
 ];

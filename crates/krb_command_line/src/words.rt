@@ -5,12 +5,12 @@ ghost use Rattle.std.specs.List.{list_any};
 ghost use Rattle.std.specs.Str.{bytes_eq};
 ghost use Rattle.clap.specs.Words.{subcommand_of, subcommand_rows_of};
 ghost use Rattle.krb_command_line.specs.CommandLine.{krbtool, IsCommand};
-ghost use Rattle.krb_command_line.specs.Commands.{commands};
+ghost use Rattle.krb_command_line.specs.Commands.{commands, file_commands, message_commands};
 
 use crate::command_line::Command;
 use crate::commands::{Row, krbtool_command};
 use crate::reading::command_named;
-use crate::table::COMMANDS;
+use crate::table::{FILE_COMMANDS, MESSAGE_COMMANDS};
 use clap::error::ErrorKind;
 use clap::{ArgMatches, Error};
 use std::alloc::{AllocError, Global};
@@ -51,10 +51,23 @@ fn no_command(alloc: Global) -> Result<Error, AllocError> {
 }
 
 /// Returns whether a command of krbtool has this name.
+#[tactic(auto, using(crate::proofs::CommandLaws::of_both))]
 pub fn is_command(word: &str) -> bool
     ensures { result ≡ list_any (λ entry. bytes_eq entry.name word.now) commands }
 {
-    has_name(&COMMANDS, word)
+    is_file_command(word) | is_message_command(word)
+}
+
+fn is_file_command(word: &str) -> bool
+    ensures { result ≡ list_any (λ entry. bytes_eq entry.name word.now) file_commands }
+{
+    has_name(&FILE_COMMANDS, word)
+}
+
+fn is_message_command(word: &str) -> bool
+    ensures { result ≡ list_any (λ entry. bytes_eq entry.name word.now) message_commands }
+{
+    has_name(&MESSAGE_COMMANDS, word)
 }
 
 // Whether one of the rows has this name.

@@ -1,6 +1,6 @@
 -- How a message is given as a text: in hexadecimal, in base64 (RFC 4648, section 4), or as a header line with the name and the scheme
 -- before the base64 (RFC 4559, section 4). White space doesn't count.
-use Rattle.std.specs.Prelude.{ℕ, ◌+◌, ◌==◌, nat_lt, Bool, true, false, not, ◌&&◌, ◌||◌, List, [], ◌∷◌, length, drop, codes, Result, Ok, Err, if◌then◌else◌}
+use Rattle.std.specs.Prelude.{◌≡◌, ◌≢◌, ◌%◌, ℕ, ◌+◌, ◌==◌, nat_lt, Bool, true, false, not, ◌&&◌, ◌||◌, List, [], ◌∷◌, length, drop, codes, Result, Ok, Err, if◌then◌else◌}
 use Rattle.std.specs.List.{filter, prefix_len}
 use Rattle.std.specs.Char.{is_ascii_alphanumeric, is_ascii_hexdigit, is_ascii_whitespace, to_ascii_lowercase}
 use Rattle.hex.specs.Hex.{decode_of as hex_decode_of}
@@ -60,10 +60,25 @@ decoded end symbols =
     else if prefix_len is_ascii_hexdigit symbols == length symbols then of_hex end (hex_decode_of symbols)
     else of_base64 end (base64_decode_of standard symbols)
 
--- the digits from an offset on, of which the first so many bytes may stand there
+-- the bytes of digits from an offset on, if the first so many bytes may stand there and these are all
 abbrev pub read_from : ℕ → ℕ → List ℕ → Result (List ℕ) InputFault
 read_from start good rest =
     if good == length rest then decoded (start + length rest) (filter is_symbol rest) else Err (Symbol (start + good))
 
 abbrev pub read_of : List ℕ → Result (List ℕ) InputFault
 read_of text = read_from (start_of text) (prefix_len may_stand (drop (start_of text) text)) (drop (start_of text) text)
+
+-- ---- what is decided before memory is asked for: only base64 may still be invalid
+
+-- there are digits, and of hexadecimal an even number
+pub record AreWhole (symbols : List ℕ) : Type 0 where
+  pub some : length symbols ≢ 0
+  pub even : prefix_len is_ascii_hexdigit symbols ≡ length symbols → length symbols % 2 ≡ 0
+
+abbrev pub digits_in : List ℕ → List ℕ
+digits_in text = drop (start_of text) text
+
+-- and each byte from where they begin may stand there
+pub record HasWholeDigits (text : List ℕ) : Type 0 where
+  pub good : prefix_len may_stand (digits_in text) ≡ length (digits_in text)
+  pub whole : AreWhole (filter is_symbol (digits_in text))

@@ -1,12 +1,6 @@
--- Numbers that have names in a registry.
-use Rattle.std.specs.Prelude.{ℕ, ℤ, List, [], ◌∷◌, ◌++◌, Option, Some, None, codes, if◌then◌else◌}
-use Rattle.std.specs.Ordering.{int_eq}
+-- Names of numbers in registries.
+use Rattle.std.specs.Prelude.{ℕ, ℤ, List, ◌++◌, Option, Some, None, codes}
 use Rattle.std.specs.Fmt.{signed_decimal}
-
--- the name that the first row with this number has
-abbrev pub name_in : List (ℤ × List ℕ) → ℤ → Option (List ℕ)
-name_in [] number = None
-name_in (row ∷ others) number = if int_eq row.0 number then Some row.1 else name_in others number
 
 -- the first name that there is of two
 abbrev pub first_name : Option (List ℕ) → Option (List ℕ) → Option (List ℕ)

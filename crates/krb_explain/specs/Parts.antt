@@ -8,7 +8,7 @@ use Rattle.krb_msg.specs.Fields.{encrypted_fields}
 use Rattle.krb_name.specs.Text.{text_of}
 use Rattle.krb_name.specs.declared.principal.Principal.{Principal}
 use Rattle.krb_explain.specs.Named.{with_name}
-use Rattle.krb_explain.specs.Registry.{enctype_name}
+use Rattle.krb_readable.specs.Enctype.{enctype_name}
 
 -- `LABEL: NAME`
 abbrev pub name_line : List ℕ → Principal → List ℕ

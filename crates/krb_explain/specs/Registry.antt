@@ -1,16 +1,12 @@
--- The names of encryption types, error codes and flags.
+-- The names of error codes and flags.
 use Rattle.std.specs.Prelude.{ℕ, ℤ, pos, List, [], ◌∷◌, ◌++◌, Option, codes, if◌then◌else◌}
 use Rattle.std.specs.Int.{w32}
 use Rattle.std.specs.List.{flat_map}
 use Rattle.hex.specs.Hex.{encode_lower}
 use Rattle.krb_name.specs.Cursor.{number_bytes}
-use Rattle.krb_readable.specs.Enctype.{registered}
 use Rattle.krb_readable.specs.Flags.{has_bit}
-use Rattle.krb_explain.specs.Named.{first_name, name_in}
-
--- IANA's registry "Kerberos Encryption Type Numbers"
-unfoldable pub enctype_name : ℤ → Option (List ℕ)
-enctype_name etype = name_in registered etype
+use Rattle.krb_explain.specs.Named.{first_name}
+use Rattle.krb_readable.specs.Named.{name_in}
 
 -- ---- the error codes of a KRB-ERROR (RFC 4120, section 7.5.9), in the order of their numbers
 

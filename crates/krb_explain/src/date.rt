@@ -4,18 +4,18 @@ ghost use Rattle.std.specs.Prelude.{◌≡◌, ◌++◌, ◌<◌, IfOk, OnOk, st
 ghost use Rattle.krb_name.specs.Text.{hex_escape};
 ghost use Rattle.krb_explain.specs.Date.{IsDateLine, clock_of, date_of, day_of, is_plain, part, shown, shown_byte};
 
-use crate::line::Line;
 use krb_msg::Seconds;
+use krb_readable::Text;
 use std::alloc::{AllocError, Global};
 use std::fmt::Write;
 
 /// Makes a line of what comes before a date, and the date.
-pub(crate) fn date_line(alloc: Global, before: &str, seconds: Seconds) -> Result<Line, AllocError>
+pub(crate) fn date_line(alloc: Global, before: &str, seconds: Seconds) -> Result<Text, AllocError>
     ensures { IfOk result (λ line. IsDateLine before.now seconds line) }
 {
     let digits = seconds.to_text();
     let date = date_text(alloc, &digits)?;
-    Ok(Line::new(format!(in alloc; "{before}{date}")?))
+    Ok(Text::new(format!(in alloc; "{before}{date}")?))
 }
 
 // The date of these digits.

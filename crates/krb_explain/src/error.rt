@@ -7,9 +7,10 @@ ghost use Rattle.krb_explain.specs.Message.{AreErrorLines, AreTimes, MayHaveTime
 
 use crate::date::{date_line, write_shown};
 use crate::error_name::error_name;
-use crate::line::{Line, listed};
+use crate::line::listed;
 use crate::parts::{head_line, name_line, with_name};
 use krb_msg::{KrbErrorRef, NameRef, Seconds};
+use krb_readable::Text;
 use std::alloc::{AllocError, Global};
 
 /// Makes the lines of an error of so many bytes.
@@ -17,7 +18,7 @@ pub(crate) fn error_lines(
     alloc: Global,
     size: usize,
     error: &KrbErrorRef,
-) -> Result<Vec<Line>, AllocError>
+) -> Result<Vec<Text>, AllocError>
     ensures { IfOk result (λ lines. AreErrorLines size (error_values (krb_error_of error.now)) lines.items) }
 {
     let head = head_line(alloc, "KRB-ERROR", size)?;
@@ -29,7 +30,7 @@ pub(crate) fn error_lines(
 }
 
 // The lines between the code and the times.
-fn error_body(alloc: Global, error: &KrbErrorRef) -> Result<Vec<Line>, AllocError>
+fn error_body(alloc: Global, error: &KrbErrorRef) -> Result<Vec<Text>, AllocError>
     ensures { IfOk result (λ lines. lines.items ≡ error_body (error_values (krb_error_of error.now))) }
 {
     let mut lines = text_lines(alloc, error.e_text)?;
@@ -38,14 +39,14 @@ fn error_body(alloc: Global, error: &KrbErrorRef) -> Result<Vec<Line>, AllocErro
     Ok(lines)
 }
 
-fn code_line(alloc: Global, code: i32) -> Result<Line, AllocError>
+fn code_line(alloc: Global, code: i32) -> Result<Text, AllocError>
     ensures { IfOk result (λ line. line ≡ code_line code) }
 {
     let text = with_name(alloc, code, error_name(code))?;
-    Ok(Line::new(format!(in alloc; "code: {text}")?))
+    Ok(Text::new(format!(in alloc; "code: {text}")?))
 }
 
-fn text_lines(alloc: Global, text: Option<&[u8]>) -> Result<Vec<Line>, AllocError>
+fn text_lines(alloc: Global, text: Option<&[u8]>) -> Result<Vec<Text>, AllocError>
     ensures { IfOk result (λ lines. lines.items ≡ text_lines (option_map (λ x. x.now) text.entry)) }
 {
     let Some(bytes) = text else {
@@ -53,11 +54,11 @@ fn text_lines(alloc: Global, text: Option<&[u8]>) -> Result<Vec<Line>, AllocErro
     };
     let mut text = String::from_str(alloc, "text: ")?;
     write_shown(&mut text, bytes)?;
-    listed(alloc, [Line::new(text)])
+    listed(alloc, [Text::new(text)])
 }
 
 // The lines of the service and of the client.
-fn error_names(alloc: Global, error: &KrbErrorRef) -> Result<Vec<Line>, AllocError>
+fn error_names(alloc: Global, error: &KrbErrorRef) -> Result<Vec<Text>, AllocError>
     ensures { IfOk result (λ lines. lines.items ≡ error_names (error_values (krb_error_of error.now))) }
 {
     let service = name_line(alloc, "service", error.realm, &error.sname)?;
@@ -70,7 +71,7 @@ fn client_lines(
     alloc: Global,
     realm: Option<&[u8]>,
     name: &Option<NameRef>,
-) -> Result<Vec<Line>, AllocError>
+) -> Result<Vec<Text>, AllocError>
     ensures { IfOk result (λ lines. lines.items ≡ client_lines (option_map (λ x. x.now) realm.entry) (option_map name_of name.now)) }
 {
     match (realm, name) {
@@ -79,18 +80,18 @@ fn client_lines(
     }
 }
 
-fn data_lines(alloc: Global, bytes: Option<&[u8]>) -> Result<Vec<Line>, AllocError>
+fn data_lines(alloc: Global, bytes: Option<&[u8]>) -> Result<Vec<Text>, AllocError>
     ensures { IfOk result (λ lines. lines.items ≡ data_lines (option_map (λ x. x.now) bytes.entry)) }
 {
     let Some(bytes) = bytes else {
         return Ok(Vec::new(alloc));
     };
     let size = bytes.len();
-    listed(alloc, [Line::new(format!(in alloc; "data: {size} bytes")?)])
+    listed(alloc, [Text::new(format!(in alloc; "data: {size} bytes")?)])
 }
 
 // The lines of the service's time and of the client's, and how far they are apart.
-fn times(alloc: Global, ctime: Option<Seconds>, stime: Seconds) -> Result<Vec<Line>, AllocError>
+fn times(alloc: Global, ctime: Option<Seconds>, stime: Seconds) -> Result<Vec<Text>, AllocError>
     ensures { IfOk result (λ lines. AreTimes ctime stime lines.items) }
 {
     let line = date_line(alloc, "service's time: ", stime)?;
@@ -103,7 +104,7 @@ fn client_times(
     alloc: Global,
     ctime: Option<Seconds>,
     stime: Seconds,
-) -> Result<Vec<Line>, AllocError>
+) -> Result<Vec<Text>, AllocError>
     ensures { IfOk result (λ lines. MayHaveTimes ctime stime lines.items) }
 {
     match ctime {
@@ -112,7 +113,7 @@ fn client_times(
     }
 }
 
-fn client_time(alloc: Global, ctime: Seconds, stime: Seconds) -> Result<Vec<Line>, AllocError>
+fn client_time(alloc: Global, ctime: Seconds, stime: Seconds) -> Result<Vec<Text>, AllocError>
     ensures { IfOk result (λ lines. AreClientTimes ctime stime lines.items) }
 {
     let line = date_line(alloc, "client's time: ", ctime)?;
@@ -121,13 +122,13 @@ fn client_time(alloc: Global, ctime: Seconds, stime: Seconds) -> Result<Vec<Line
     Ok(lines)
 }
 
-fn difference_line(alloc: Global, ctime: Seconds, stime: Seconds) -> Result<Line, AllocError>
+fn difference_line(alloc: Global, ctime: Seconds, stime: Seconds) -> Result<Text, AllocError>
     ensures { IfOk result (λ line. line ≡ difference_line (stime -ℤ ctime)) }
 {
     let difference = stime.get() - ctime.get();
     let seconds = difference.unsigned_abs();
     let order = order_text(difference);
-    Ok(Line::new(format!(in alloc;
+    Ok(Text::new(format!(in alloc;
         "clock difference: the service's time is {seconds} seconds {order} the client's"
     )?))
 }

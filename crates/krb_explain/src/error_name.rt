@@ -5,7 +5,8 @@ ghost use Rattle.std.specs.Option.{option_map};
 ghost use Rattle.krb_explain.specs.Named.{first_name};
 ghost use Rattle.krb_explain.specs.Registry.{error_name, kdc_name, account_name, exchange_name, later_name};
 
-use crate::named::{Named, first_name, name_in};
+use crate::named::first_name;
+use krb_readable::{Named, name_in};
 
 static KDC_CODES: [Named; 15] = [
     Named(0, "KDC_ERR_NONE"),

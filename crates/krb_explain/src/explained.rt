@@ -8,8 +8,9 @@ ghost use Rattle.krb_explain.specs.Inner.Borrowed.{message_in};
 use crate::form::Form;
 use crate::layer::Layer;
 use crate::layer_lines::layer_lines;
-use crate::line::{Line, listed, page};
+use crate::line::{listed, page};
 use crate::message::message_lines;
+use krb_readable::Text;
 use std::alloc::{AllocError, Global};
 
 /// Explains bytes without any key: a message `AP-REQ`, `AP-REP` or `KRB-ERROR` (RFC 4120, sections 5.5 and 5.9), a token that
@@ -28,7 +29,7 @@ pub fn explain(alloc: Global, bytes: &[u8]) -> Result<String, AllocError>
     page(alloc, lines.as_slice())
 }
 
-fn explained(alloc: Global, bytes: &[u8]) -> Result<Vec<Line>, AllocError>
+fn explained(alloc: Global, bytes: &[u8]) -> Result<Vec<Text>, AllocError>
     ensures { IfOk result (λ lines. Explains bytes.now lines.items) }
 {
     let layer = Layer::of(bytes);
@@ -38,14 +39,14 @@ fn explained(alloc: Global, bytes: &[u8]) -> Result<Vec<Line>, AllocError>
     Ok(lines)
 }
 
-fn size_line(alloc: Global, size: usize) -> Result<Line, AllocError>
+fn size_line(alloc: Global, size: usize) -> Result<Text, AllocError>
     ensures { IfOk result (λ line. line ≡ size_line size) }
 {
-    Ok(Line::new(format!(in alloc; "size: {size} bytes")?))
+    Ok(Text::new(format!(in alloc; "size: {size} bytes")?))
 }
 
 // The lines of the message inside, if there is one.
-fn carried_lines(alloc: Global, carried: Option<(Form, &[u8])>) -> Result<Vec<Line>, AllocError>
+fn carried_lines(alloc: Global, carried: Option<(Form, &[u8])>) -> Result<Vec<Text>, AllocError>
     ensures { IfOk result (λ lines. ExplainsCarried (option_map message_in carried.entry) lines.items) }
 {
     match carried {

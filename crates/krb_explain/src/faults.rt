@@ -3,30 +3,30 @@
 ghost use Rattle.std.specs.Prelude.{◌≡◌, IfOk};
 ghost use Rattle.krb_explain.specs.Faults.{fault_line, foreign_text, rule_line, rule_text, token_text};
 
-use crate::line::Line;
 use krb_der::{Fault, FaultKind};
 use krb_gss::{Foreign, TokenFault};
+use krb_readable::Text;
 use std::alloc::{AllocError, Global};
 
 /// Makes the line of a fault of a message.
-pub(crate) fn rule_line(alloc: Global, fault: Fault) -> Result<Line, AllocError>
+pub(crate) fn rule_line(alloc: Global, fault: Fault) -> Result<Text, AllocError>
     ensures { IfOk result (λ line. line ≡ rule_line fault) }
 {
     fault_line(alloc, rule_text(fault.kind), fault.at)
 }
 
 /// Makes the line of a fault of a token.
-pub(crate) fn token_fault_line(alloc: Global, fault: TokenFault) -> Result<Line, AllocError>
+pub(crate) fn token_fault_line(alloc: Global, fault: TokenFault) -> Result<Text, AllocError>
     ensures { IfOk result (λ line. line ≡ fault_line (token_text fault)) }
 {
     let (text, at) = token_text(fault);
     fault_line(alloc, text, at)
 }
 
-fn fault_line(alloc: Global, text: &str, at: usize) -> Result<Line, AllocError>
+fn fault_line(alloc: Global, text: &str, at: usize) -> Result<Text, AllocError>
     ensures { IfOk result (λ line. line ≡ fault_line (text.now, at)) }
 {
-    Ok(Line::new(format!(in alloc; "fault at byte {at}: {text}")?))
+    Ok(Text::new(format!(in alloc; "fault at byte {at}: {text}")?))
 }
 
 fn rule_text(kind: FaultKind) -> &'static str

@@ -1,12 +1,12 @@
 //! Reading a message that is given as a text.
 
-ghost use Rattle.std.specs.Prelude.{◌≡◌, ◌≢◌, ◌≤◌, true, IfOk, IfErr, length};
+ghost use Rattle.std.specs.Prelude.{◌≡◌, ◌≢◌, ◌≤◌, true, Err, IfOk, IfErr, length};
 ghost use Rattle.std.specs.List.{filter, prefix_len};
 ghost use Rattle.std.specs.Char.{is_ascii_hexdigit};
 ghost use Rattle.hex.specs.Hex.{decode_of as hex_decode_of};
 ghost use Rattle.base64.specs.GeneralPurpose.{decode_of as base64_decode_of};
 ghost use Rattle.base64.specs.Engines.{standard};
-ghost use Rattle.krb_explain.specs.Input.{begins_with, decoded, is_no_colon, is_symbol, may_stand, name_len, read_of, scheme_len, space_len, start_of, of_hex, of_base64};
+ghost use Rattle.krb_explain.specs.Input.{AreWhole, HasWholeDigits, begins_with, decoded, is_no_colon, is_symbol, may_stand, name_len, read_of, scheme_len, space_len, start_of, of_hex, of_base64};
 
 use base64::DecodeAllocError;
 use base64::engine::general_purpose::STANDARD;
@@ -59,11 +59,13 @@ const SCHEME: &[u8] = b"negotiate";
 /// The first that holds:
 /// - `Symbol`: a byte is neither white space nor a character of hexadecimal or base64.
 /// - `NoBytes`: there are no digits.
-/// - `End`: an odd number of hexadecimal digits, or base64 that isn't whole or has another padding.
+/// - `End`: an odd number of hexadecimal digits.
 /// - `OutOfMemory`.
+/// - `End`: base64 that isn't whole or has another padding.
 pub fn message_bytes(alloc: Global, text: &[u8]) -> Result<Vec<u8>, InputFault>
     ensures bytes { IfOk result (λ bytes. read_of text.now ≡ Ok bytes.items) }
     ensures fault { IfErr result (λ fault. fault ≢ InputFault.OutOfMemory → read_of text.now ≡ Err fault) }
+    ensures memory { result ≡ Err InputFault.OutOfMemory → HasWholeDigits text.now }
 {
     let start = start_of(text);
     let (_, rest) = text.split_at(start);
@@ -71,8 +73,26 @@ pub fn message_bytes(alloc: Global, text: &[u8]) -> Result<Vec<u8>, InputFault>
     if good != rest.len() {
         return Err(InputFault::Symbol { at: start + good });
     }
-    let symbols = symbols_of(alloc, rest)?;
-    decoded(alloc, start + rest.len(), symbols.as_slice())
+    read_digits(alloc, start + rest.len(), rest)
+}
+
+// The bytes of digits that end at an offset, with white space among them.
+fn read_digits(alloc: Global, end: usize, text: &[u8]) -> Result<Vec<u8>, InputFault>
+    ensures bytes { IfOk result (λ bytes. decoded end (filter is_symbol text.now) ≡ Ok bytes.items) }
+    ensures fault { IfErr result (λ fault. fault ≢ InputFault.OutOfMemory → decoded end (filter is_symbol text.now) ≡ Err fault) }
+    ensures memory { result ≡ Err InputFault.OutOfMemory → AreWhole (filter is_symbol text.now) }
+{
+    let count = symbol_count(text);
+    if count == 0 {
+        return Err(InputFault::NoBytes);
+    }
+    if hex_len(text) != count {
+        return of_base64(alloc, end, text);
+    }
+    if count % 2 == 1 {
+        return Err(InputFault::End { at: end });
+    }
+    of_hex(alloc, end, text)
 }
 
 // Where the digits begin.
@@ -192,39 +212,41 @@ fn symbols_of(alloc: Global, text: &[u8]) -> Result<Vec<u8>, AllocError>
     Ok(symbols)
 }
 
-// The bytes of digits that end at an offset.
-fn decoded(alloc: Global, end: usize, symbols: &[u8]) -> Result<Vec<u8>, InputFault>
-    ensures bytes { IfOk result (λ bytes. decoded end symbols.now ≡ Ok bytes.items) }
-    ensures fault { IfErr result (λ fault. fault ≢ InputFault.OutOfMemory → decoded end symbols.now ≡ Err fault) }
+// How many bytes aren't white space.
+fn symbol_count(text: &[u8]) -> usize
+    ensures { result ≡ length (filter is_symbol text.now) }
 {
-    if symbols.is_empty() {
-        return Err(InputFault::NoBytes);
+    let mut count = 0;
+    for byte in text {
+        if !byte.is_ascii_whitespace() {
+            count += 1;
+        }
     }
-    if hex_len(symbols) == symbols.len() {
-        of_hex(alloc, end, symbols)
-    } else {
-        of_base64(alloc, end, symbols)
-    }
+    count
 }
 
-fn hex_len(symbols: &[u8]) -> usize
-    ensures { result ≡ prefix_len is_ascii_hexdigit symbols.now }
+// How many of these come before the first that isn't a hexadecimal digit.
+fn hex_len(text: &[u8]) -> usize
+    ensures { result ≡ prefix_len is_ascii_hexdigit (filter is_symbol text.now) }
 {
     let mut len = 0;
-    for byte in symbols {
-        if !byte.is_ascii_hexdigit() {
+    for byte in text {
+        if byte.is_ascii_hexdigit() {
+            len += 1;
+        } else if !byte.is_ascii_whitespace() {
             return len;
         }
-        len += 1;
     }
     len
 }
 
-fn of_hex(alloc: Global, end: usize, symbols: &[u8]) -> Result<Vec<u8>, InputFault>
-    ensures bytes { IfOk result (λ bytes. of_hex end (hex_decode_of symbols.now) ≡ Ok bytes.items) }
-    ensures fault { IfErr result (λ fault. fault ≢ InputFault.OutOfMemory → of_hex end (hex_decode_of symbols.now) ≡ Err fault) }
+fn of_hex(alloc: Global, end: usize, text: &[u8]) -> Result<Vec<u8>, InputFault>
+    ensures bytes { IfOk result (λ bytes. of_hex end (hex_decode_of (filter is_symbol text.now)) ≡ Ok bytes.items) }
+    ensures fault { IfErr result (λ fault. fault ≢ InputFault.OutOfMemory
+        → of_hex end (hex_decode_of (filter is_symbol text.now)) ≡ Err fault) }
 {
-    match hex::decode(alloc, symbols) {
+    let symbols = symbols_of(alloc, text)?;
+    match hex::decode(alloc, symbols.as_slice()) {
         Ok(bytes) => Ok(bytes),
         Err(fault) => match fault {
             FromHexError::OutOfMemory => Err(InputFault::OutOfMemory),
@@ -233,12 +255,13 @@ fn of_hex(alloc: Global, end: usize, symbols: &[u8]) -> Result<Vec<u8>, InputFau
     }
 }
 
-fn of_base64(alloc: Global, end: usize, symbols: &[u8]) -> Result<Vec<u8>, InputFault>
-    ensures bytes { IfOk result (λ bytes. of_base64 end (base64_decode_of standard symbols.now) ≡ Ok bytes.items) }
+fn of_base64(alloc: Global, end: usize, text: &[u8]) -> Result<Vec<u8>, InputFault>
+    ensures bytes { IfOk result (λ bytes. of_base64 end (base64_decode_of standard (filter is_symbol text.now)) ≡ Ok bytes.items) }
     ensures fault { IfErr result (λ fault. fault ≢ InputFault.OutOfMemory
-        → of_base64 end (base64_decode_of standard symbols.now) ≡ Err fault) }
+        → of_base64 end (base64_decode_of standard (filter is_symbol text.now)) ≡ Err fault) }
 {
-    match STANDARD.decode(alloc, symbols) {
+    let symbols = symbols_of(alloc, text)?;
+    match STANDARD.decode(alloc, symbols.as_slice()) {
         Ok(bytes) => Ok(bytes),
         Err(fault) => match fault {
             DecodeAllocError::OutOfMemory => Err(InputFault::OutOfMemory),

@@ -6,12 +6,13 @@ ghost use Rattle.krb_explain.specs.Inner.Borrowed.{layer_of};
 
 use crate::faults::token_fault_line;
 use crate::layer::Layer;
-use crate::line::{Line, listed};
+use crate::line::listed;
 use krb_gss::{Mechanism, Verdict, Wrapping};
+use krb_readable::Text;
 use std::alloc::{AllocError, Global};
 
 /// Makes the lines of what bytes are from the outside.
-pub(crate) fn layer_lines(alloc: Global, layer: &Layer) -> Result<Vec<Line>, AllocError>
+pub(crate) fn layer_lines(alloc: Global, layer: &Layer) -> Result<Vec<Text>, AllocError>
     ensures { IfOk result (λ lines. lines.items ≡ layer_lines (layer_of layer.now)) }
 {
     match layer {
@@ -31,7 +32,7 @@ fn token_lines(
     side: &str,
     wrapping: Wrapping,
     mechanism: Mechanism,
-) -> Result<Vec<Line>, AllocError>
+) -> Result<Vec<Text>, AllocError>
     ensures { IfOk result (λ lines. lines.items ≡ token_lines side.now wrapping mechanism) }
 {
     let token = token_line(alloc, side, mechanism)?;
@@ -44,25 +45,25 @@ fn token_lines(
     }
 }
 
-fn token_line(alloc: Global, side: &str, mechanism: Mechanism) -> Result<Line, AllocError>
+fn token_line(alloc: Global, side: &str, mechanism: Mechanism) -> Result<Text, AllocError>
     ensures { IfOk result (λ line. line ≡ token_line side.now mechanism) }
 {
     let name = mechanism_text(mechanism);
-    Ok(Line::new(format!(in alloc; "{side} token (GSS-API): mechanism {name}")?))
+    Ok(Text::new(format!(in alloc; "{side} token (GSS-API): mechanism {name}")?))
 }
 
-fn negotiation_line(alloc: Global, side: &str, first: Mechanism) -> Result<Line, AllocError>
+fn negotiation_line(alloc: Global, side: &str, first: Mechanism) -> Result<Text, AllocError>
     ensures { IfOk result (λ line. line ≡ negotiation_line side.now first) }
 {
     let name = mechanism_text(first);
-    Ok(Line::new(format!(in alloc; "{side} negotiation (SPNEGO): mechanism {name}")?))
+    Ok(Text::new(format!(in alloc; "{side} negotiation (SPNEGO): mechanism {name}")?))
 }
 
-fn verdict_line(alloc: Global, verdict: Verdict) -> Result<Line, AllocError>
+fn verdict_line(alloc: Global, verdict: Verdict) -> Result<Text, AllocError>
     ensures { IfOk result (λ line. line ≡ codes "service's negotiation (SPNEGO): " ++ verdict_text verdict) }
 {
     let text = verdict_text(alloc, verdict)?;
-    Ok(Line::new(format!(in alloc; "service's negotiation (SPNEGO): {text}")?))
+    Ok(Text::new(format!(in alloc; "service's negotiation (SPNEGO): {text}")?))
 }
 
 fn verdict_text(alloc: Global, verdict: Verdict) -> Result<String, AllocError>

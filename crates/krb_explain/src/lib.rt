@@ -15,7 +15,6 @@
 #![tactic(auto)]
 
 mod date;
-mod enctype_name;
 mod error;
 mod error_name;
 mod explained;

@@ -9,11 +9,12 @@ ghost use Rattle.krb_explain.specs.Inner.Borrowed.{message_of_read};
 use crate::error::error_lines;
 use crate::faults::rule_line;
 use crate::form::Form;
-use crate::line::{Line, listed};
+use crate::line::listed;
 use crate::parts::head_line;
 use crate::request::{reply_lines, request_lines};
 use krb_der::Fault;
 use krb_msg::{ApRepRef, ApReqRef, KrbErrorRef};
+use krb_readable::Text;
 use std::alloc::{AllocError, Global};
 
 /// What bytes are that are to be a message.
@@ -31,7 +32,7 @@ pub(crate) fn message_lines(
     alloc: Global,
     form: Form,
     bytes: &[u8],
-) -> Result<Vec<Line>, AllocError>
+) -> Result<Vec<Text>, AllocError>
     ensures { IfOk result (λ lines. ExplainsMessage form bytes.now lines.items) }
 {
     let message = read(form, bytes);
@@ -75,7 +76,7 @@ fn read_error<'a>(bytes: &'a [u8]) -> Message<'a>
     }
 }
 
-fn lines_of(alloc: Global, size: usize, message: &Message) -> Result<Vec<Line>, AllocError>
+fn lines_of(alloc: Global, size: usize, message: &Message) -> Result<Vec<Text>, AllocError>
     ensures { IfOk result (λ lines. AreLinesOf size (message_of_read message.now) lines.items) }
 {
     match message {
@@ -91,7 +92,7 @@ fn faulty_lines(
     size: usize,
     form: Form,
     fault: Fault,
-) -> Result<Vec<Line>, AllocError>
+) -> Result<Vec<Text>, AllocError>
     ensures { IfOk result (λ lines. lines.items ≡ head_line (form_name form) size ∷ rule_line fault ∷ []) }
 {
     let head = head_line(alloc, form.name(), size)?;

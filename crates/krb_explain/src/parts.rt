@@ -7,16 +7,15 @@ ghost use Rattle.krb_msg.specs.Fields.{principal_in};
 ghost use Rattle.krb_explain.specs.Parts.{head_line, is_usable_type, name_line, sealed_line, sealed_text, type_notes, type_text, version_text};
 ghost use Rattle.krb_explain.specs.Named.{with_name};
 
-use crate::enctype_name::enctype_name;
-use crate::line::Line;
 use krb_msg::{EncryptedRef, NameRef};
+use krb_readable::{Text, enctype_name};
 use std::alloc::{AllocError, Global};
 
 /// Makes the line that says what a message is, and how many bytes it has.
-pub(crate) fn head_line(alloc: Global, name: &str, size: usize) -> Result<Line, AllocError>
+pub(crate) fn head_line(alloc: Global, name: &str, size: usize) -> Result<Text, AllocError>
     ensures { IfOk result (λ line. line ≡ head_line name.now size) }
 {
-    Ok(Line::new(format!(in alloc; "message: {name}, {size} bytes")?))
+    Ok(Text::new(format!(in alloc; "message: {name}, {size} bytes")?))
 }
 
 /// Makes the line of a principal: a label, and the name in a realm.
@@ -25,12 +24,12 @@ pub(crate) fn name_line(
     label: &str,
     realm: &[u8],
     name: &NameRef,
-) -> Result<Line, AllocError>
+) -> Result<Text, AllocError>
     ensures { IfOk result (λ line. line ≡ name_line label.now (principal_in realm.now (name_of name.now))) }
 {
     let principal = name.to_principal(alloc, realm)?;
     let text = principal.to_text(alloc)?;
-    Ok(Line::new(format!(in alloc; "{label}: {text}")?))
+    Ok(Text::new(format!(in alloc; "{label}: {text}")?))
 }
 
 /// Makes the line of a sealed part: a label, the encryption type, the version number of the key and the size.
@@ -38,7 +37,7 @@ pub(crate) fn sealed_line(
     alloc: Global,
     label: &str,
     sealed: &EncryptedRef,
-) -> Result<Line, AllocError>
+) -> Result<Text, AllocError>
     ensures { IfOk result (λ line. line ≡ sealed_line label.now (encrypted_of sealed.now)) }
 {
     let etype = type_text(alloc, sealed.etype)?;
@@ -52,10 +51,10 @@ fn sealed_text(
     etype: &str,
     version: &str,
     size: usize,
-) -> Result<Line, AllocError>
+) -> Result<Text, AllocError>
     ensures { IfOk result (λ line. line ≡ sealed_text label.now etype.now version.now size) }
 {
-    Ok(Line::new(format!(in alloc;
+    Ok(Text::new(format!(in alloc;
         "{label}: sealed under a key of type {etype}{version}{size} bytes"
     )?))
 }
@@ -93,7 +92,7 @@ fn version_text(alloc: Global, kvno: Option<u32>) -> Result<String, AllocError>
 /// Adds a note if a ticket is sealed under a key of a type that isn't usable.
 pub(crate) fn add_type_notes(
     alloc: Global,
-    lines: &mut Vec<Line>,
+    lines: &mut Vec<Text>,
     etype: i32,
 ) -> Result<(), AllocError>
     ensures { OnOk result (lines.new.items ≡ lines.old.items ++ type_notes etype) }
@@ -101,7 +100,7 @@ pub(crate) fn add_type_notes(
     if is_usable_type(etype) {
         return Ok(());
     }
-    let note = Line::of(
+    let note = Text::of(
         alloc,
         "note: the service needs keys of types 19 and 20 alone",
     )?;

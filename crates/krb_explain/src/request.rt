@@ -6,10 +6,11 @@ ghost use Rattle.krb_explain.specs.Message.{reply_lines, request_lines};
 ghost use Rattle.krb_explain.specs.Registry.{flags_text, option_names};
 
 use crate::flags::options_text;
-use crate::line::{Line, listed};
+use crate::line::listed;
 use crate::parts::{add_type_notes, head_line, name_line, sealed_line};
 use krb_der::Flags;
 use krb_msg::{ApRepRef, ApReqRef};
+use krb_readable::Text;
 use std::alloc::{AllocError, Global};
 
 /// Makes the lines of a request of so many bytes.
@@ -17,7 +18,7 @@ pub(crate) fn request_lines(
     alloc: Global,
     size: usize,
     request: &ApReqRef,
-) -> Result<Vec<Line>, AllocError>
+) -> Result<Vec<Text>, AllocError>
     ensures { IfOk result (λ lines. lines.items ≡ request_lines size (ap_req_of request.now)) }
 {
     let ticket = &request.ticket;
@@ -31,11 +32,11 @@ pub(crate) fn request_lines(
     Ok(lines)
 }
 
-fn options_line(alloc: Global, options: Flags) -> Result<Line, AllocError>
+fn options_line(alloc: Global, options: Flags) -> Result<Text, AllocError>
     ensures { IfOk result (λ line. line ≡ codes "options: " ++ flags_text option_names options.0) }
 {
     let text = options_text(alloc, options)?;
-    Ok(Line::new(format!(in alloc; "options: {text}")?))
+    Ok(Text::new(format!(in alloc; "options: {text}")?))
 }
 
 /// Makes the lines of a reply of so many bytes.
@@ -43,7 +44,7 @@ pub(crate) fn reply_lines(
     alloc: Global,
     size: usize,
     reply: &ApRepRef,
-) -> Result<Vec<Line>, AllocError>
+) -> Result<Vec<Text>, AllocError>
     ensures { IfOk result (λ lines. lines.items ≡ reply_lines size (ap_rep_of reply.now)) }
 {
     let head = head_line(alloc, "AP-REP", size)?;

@@ -1,7 +1,7 @@
 //! The commands on files, by the words of the command line.
 
 ghost use Rattle.std.specs.Prelude.{◌≡◌, ◌≤◌, IfErr, IfSome};
-ghost use Rattle.krb_file_commands.specs.Words.{Asks, AsksListing, IsNumber};
+ghost use Rattle.krb_file_commands.specs.Words.{Asks, AsksListing, IsEtype, IsNumber};
 
 use crate::add::add_keys;
 use crate::checking::{CheckCcache, CheckKeytab};
@@ -9,13 +9,15 @@ use crate::converting::{ConvertCcache, ConvertKeytab};
 use crate::engine::Product;
 use crate::failure::WRONG_WORDS;
 use crate::fault::AddFault;
+use crate::fault_lines::word_line;
 use crate::listing::{CacheListing, ListKeytab};
 use crate::pick::PickKey;
 use crate::remove::RemoveKey;
-use crate::run::{complain_of, open_file, run_product, source_of};
+use crate::run::{complain, complain_of, open_file, run_product, source_of};
 use crate::service::service_of;
 use crate::store::{Out, run_storing, store};
 use krb_command_line::{AddWords, CacheForm, PickWords, RemoveWords};
+use krb_readable::enctype_number;
 use std::random::RandomSource;
 use std::rt::Files;
 
@@ -116,8 +118,8 @@ fn run_converting<R: AllocGlobal + Files + RandomSource + Print + Eprint, P: Pro
 pub fn run_pick<R: AllocGlobal + Files + Print + Eprint>(rt: &R, words: PickWords<'_>) -> u8
     ensures { result ≤ 3 }
 {
-    let Ok(etype) = words.etype.parse::<i32>() else {
-        return WRONG_WORDS;
+    let Some(etype) = etype_of(words.etype) else {
+        return complain(rt, word_line("etype"), WRONG_WORDS);
     };
     let Some(kvno) = version_of(words.kvno) else {
         return WRONG_WORDS;
@@ -128,6 +130,16 @@ pub fn run_pick<R: AllocGlobal + Files + Print + Eprint>(rt: &R, words: PickWord
     };
     let wanted = PickKey { name, etype, kvno };
     run_product(rt, &wanted, "pick-key", words.keytab, None)
+}
+
+// The encryption type that has this name, or else this number in decimal.
+fn etype_of(text: &str) -> Option<i32>
+    ensures { IfSome result (IsEtype text.now) }
+{
+    match enctype_number(text) {
+        Some(etype) => Some(etype),
+        None => i32::try_from(text.parse::<u32>().ok()?).ok(),
+    }
 }
 
 // The words of the command line were read as a number in this range.

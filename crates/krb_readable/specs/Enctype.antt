@@ -1,8 +1,8 @@
 -- The names of encryption types: IANA's registry "Kerberos Encryption Type Numbers" (RFC 3961,
 -- sections 8 and 11).
-use Rattle.std.specs.Prelude.{ℕ, ℤ, pos, List, [], ◌∷◌, codes, if◌then◌else◌}
-use Rattle.std.specs.Ordering.{int_eq}
+use Rattle.std.specs.Prelude.{ℕ, ℤ, pos, List, [], ◌∷◌, Option, Some, None, codes}
 use Rattle.std.specs.Fmt.{signed_decimal}
+use Rattle.krb_readable.specs.Named.{name_in, number_in}
 
 -- the numbers that have a name
 abbrev pub registered : List (ℤ × List ℕ)
@@ -31,11 +31,18 @@ registered =
     ∷ (pos 65, codes "subkey-keymaterial")
     ∷ []
 
--- the name that a list gives the number, or the number in decimal if it gives none
-abbrev pub named_in : List (ℤ × List ℕ) → ℤ → List ℕ
-named_in [] number = signed_decimal number
-named_in (entry ∷ others) number = if int_eq entry.0 number then entry.1 else named_in others number
+-- the name of an encryption type, if it has one
+unfoldable pub enctype_name : ℤ → Option (List ℕ)
+enctype_name etype = name_in registered etype
+
+-- the encryption type that has the name, if there is one
+unfoldable pub enctype_number : List ℕ → Option ℤ
+enctype_number name = number_in registered name
+
+abbrev pub name_or_number : ℤ → Option (List ℕ) → List ℕ
+name_or_number etype None = signed_decimal etype
+name_or_number etype (Some name) = name
 
 -- the name of an encryption type, or its number in decimal if it has none
-unfoldable pub enctype_text : ℤ → List ℕ
-enctype_text etype = named_in registered etype
+abbrev pub enctype_text : ℤ → List ℕ
+enctype_text etype = name_or_number etype (enctype_name etype)

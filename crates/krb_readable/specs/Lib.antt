@@ -1,4 +1,5 @@
 pub mod Table
+pub mod Named
 pub mod Enctype
 pub mod Date
 pub mod Flags

@@ -3,11 +3,11 @@
 ghost use Rattle.std.specs.Prelude.{◌≡◌, ◌∷◌, IfOk, string_bytes, map};
 ghost use Rattle.krb_readable.specs.Readable.{head_lines, cache_head, cache_row, config_row, ticket_row, ticket_kind, time_text, cache_table};
 
-use crate::cell::Cell;
 use crate::enctype::enctype_text;
 use crate::flags::flags_text;
 use crate::row::Row;
 use crate::table::write_table;
+use crate::text::Text;
 use crate::time::date_text;
 use krb_ccache::{CCache, Credential};
 use krb_name::Principal;
@@ -114,15 +114,15 @@ fn config_row(alloc: Global, credential: &Credential) -> Result<Row, AllocError>
 fn ticket_row(alloc: Global, credential: &Credential, now: Option<u64>) -> Result<Row, AllocError>
     ensures { IfOk result (λ row. row ≡ ticket_row now credential.now) }
 {
-    let kind = Cell::of(alloc, kind(credential.endtime, now))?;
-    let etype = Cell::new(enctype_text(alloc, credential.etype)?);
+    let kind = Text::of(alloc, kind(credential.endtime, now))?;
+    let etype = Text::new(enctype_text(alloc, credential.etype)?);
     let authtime = time_cell(alloc, credential.authtime)?;
     let starttime = time_cell(alloc, credential.starttime)?;
     let endtime = time_cell(alloc, credential.endtime)?;
     let renew_till = time_cell(alloc, credential.renew_till)?;
-    let flags = Cell::new(flags_text(alloc, credential.ticket_flags)?);
-    let client = Cell::new(credential.client.to_text(alloc)?);
-    let server = Cell::new(credential.server.to_text(alloc)?);
+    let flags = Text::new(flags_text(alloc, credential.ticket_flags)?);
+    let client = Text::new(credential.client.to_text(alloc)?);
+    let server = Text::new(credential.server.to_text(alloc)?);
     let cells = [
         kind, etype, authtime, starttime, endtime, renew_till, flags, client,
     ];
@@ -140,11 +140,11 @@ fn kind(endtime: u32, now: Option<u64>) -> &'static str
 }
 
 // The cell of a time; 0 says that there is none.
-fn time_cell(alloc: Global, time: u32) -> Result<Cell, AllocError>
+fn time_cell(alloc: Global, time: u32) -> Result<Text, AllocError>
     ensures { IfOk result (λ cell. cell ≡ time_text time) }
 {
     if time == 0 {
-        return Cell::of(alloc, "-");
+        return Text::of(alloc, "-");
     }
-    Ok(Cell::new(date_text(alloc, time)?))
+    Ok(Text::new(date_text(alloc, time)?))
 }

@@ -3,10 +3,10 @@
 ghost use Rattle.std.specs.Prelude.{◌≡◌, ◌∷◌, IfOk, string_bytes, map};
 ghost use Rattle.krb_readable.specs.Readable.{keytab_head, keytab_row, keytab_table};
 
-use crate::cell::Cell;
 use crate::enctype::enctype_text;
 use crate::row::Row;
 use crate::table::write_table;
+use crate::text::Text;
 use crate::time::date_text;
 use krb_keytab::{Entry, Keytab};
 use std::alloc::{AllocError, Global};
@@ -53,9 +53,9 @@ fn keytab_row(alloc: Global, entry: &Entry) -> Result<Row, AllocError>
     ensures { IfOk result (λ row. row ≡ keytab_row entry.now) }
 {
     let kvno = entry.kvno();
-    let kvno = Cell::new(format!(in alloc; "{kvno}")?);
-    let etype = Cell::new(enctype_text(alloc, entry.etype())?);
-    let timestamp = Cell::new(date_text(alloc, entry.timestamp())?);
-    let principal = Cell::new(entry.principal().to_text(alloc)?);
+    let kvno = Text::new(format!(in alloc; "{kvno}")?);
+    let etype = Text::new(enctype_text(alloc, entry.etype())?);
+    let timestamp = Text::new(date_text(alloc, entry.timestamp())?);
+    let principal = Text::new(entry.principal().to_text(alloc)?);
     Row::new(alloc, [kvno, etype, timestamp], principal)
 }

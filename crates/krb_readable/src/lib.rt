@@ -8,6 +8,9 @@
 //! column, up to 256, and two spaces follow. The width of a cell is its number of Unicode scalar
 //! values. Each row ends in a line feed.
 //!
+//! [`enctype_name`] and [`enctype_number`] are the registry of encryption types, [`Named`] is a row of such a
+//! registry, and [`Text`] a text of a page: other crates that print for people use them too.
+//!
 //! ```rust
 //! let keytab = Keytab::read(alloc, &mut ReadSource::new(file))?;
 //! let text = readable_keytab(alloc, &keytab)?;
@@ -24,9 +27,14 @@ mod enctype;
 mod flags;
 mod keytab;
 pub mod laws;
+mod named;
 mod row;
 mod table;
+mod text;
 mod time;
 
 pub use cache::readable_ccache;
+pub use enctype::{enctype_name, enctype_number};
 pub use keytab::readable_keytab;
+pub use named::{Named, name_in, number_in};
+pub use text::Text;

@@ -3,15 +3,16 @@
 ghost use Rattle.std.specs.Prelude.{◌≡◌, IfOk, map};
 ghost use Rattle.krb_readable.specs.Table.{TableRow, cell_at, width};
 
-use crate::cell::Cell;
+use crate::cell::width;
+use crate::text::Text;
 use std::alloc::{AllocError, Global};
 use std::marker::Model;
 
 /// A row: the cells of the columns that are filled with spaces, and that of the last column.
 #[derive(Drop)]
 pub(crate) struct Row {
-    cells: Vec<Cell>,
-    last: Cell,
+    cells: Vec<Text>,
+    last: Text,
 }
 
 impl Model for Row {
@@ -24,8 +25,8 @@ impl Row {
     /// Makes a row of its cells.
     pub(crate) fn new<const N: usize>(
         alloc: Global,
-        cells: [Cell; N],
-        last: Cell,
+        cells: [Text; N],
+        last: Text,
     ) -> Result<Self, AllocError>
         ensures { IfOk result (λ row. row ≡ record { cells = cells.entry; last = last }) }
     {
@@ -42,23 +43,23 @@ impl Row {
     {
         let mut copies = Vec::with_capacity(alloc, cells.len())?;
         for text in cells {
-            copies.push(Cell::of(alloc, text)?)?;
+            copies.push(Text::of(alloc, text)?)?;
         }
         Ok(Row {
             cells: copies,
-            last: Cell::of(alloc, last)?,
+            last: Text::of(alloc, last)?,
         })
     }
 
     /// Returns the cells of the columns that are filled with spaces.
-    pub(crate) fn cells(&self) -> &[Cell]
+    pub(crate) fn cells(&self) -> &[Text]
         ensures { result.now ≡ self.now.cells }
     {
         self.cells.as_slice()
     }
 
     /// Returns the cell of the last column.
-    pub(crate) fn last(&self) -> &Cell
+    pub(crate) fn last(&self) -> &Text
         ensures { result.now ≡ self.now.last }
     {
         &self.last
@@ -69,7 +70,7 @@ impl Row {
         ensures { result ≡ width (cell_at column self.now) }
     {
         match self.cells().get(column) {
-            Some(cell) => cell.width(),
+            Some(cell) => width(cell),
             None => 0,
         }
     }

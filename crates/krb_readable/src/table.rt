@@ -4,8 +4,9 @@ ghost use Rattle.std.specs.Prelude.{◌≡◌, ◌≤◌, ◌++◌, ℕ, IfOk, O
 ghost use Rattle.std.specs.List.{flat_map, enumerate_from};
 ghost use Rattle.krb_readable.specs.Table.{column_width, filled, spaced, line_of, table_text};
 
-use crate::cell::Cell;
+use crate::cell::width;
 use crate::row::Row;
+use crate::text::Text;
 use std::alloc::{AllocError, Global};
 
 /// The most characters that a column is filled to.
@@ -72,7 +73,7 @@ fn write_line(text: &mut String, widths: &[usize], row: &Row) -> Result<(), Allo
     text.push('\n')
 }
 
-fn write_cells(text: &mut String, widths: &[usize], cells: &[Cell]) -> Result<(), AllocError>
+fn write_cells(text: &mut String, widths: &[usize], cells: &[Text]) -> Result<(), AllocError>
     ensures { OnOk result (string_bytes text.new ≡ string_bytes text.old
         ++ flat_map (spaced (slice_index widths.now)) (enumerate_from 0 cells.now)) }
 {
@@ -89,12 +90,12 @@ fn width_at(widths: &[usize], column: usize) -> usize
 }
 
 // Writes a cell, filled with spaces up to a width, and two spaces.
-fn write_spaced(text: &mut String, to: usize, cell: &Cell) -> Result<(), AllocError>
+fn write_spaced(text: &mut String, to: usize, cell: &Text) -> Result<(), AllocError>
     ensures { OnOk result (string_bytes text.new
         ≡ string_bytes text.old ++ (filled to cell.now ++ codes "  ")) }
 {
     text.push_str(cell.as_str())?;
-    write_spaces(text, to.saturating_sub(cell.width()))?;
+    write_spaces(text, to.saturating_sub(width(cell)))?;
     text.push_str("  ")
 }
 

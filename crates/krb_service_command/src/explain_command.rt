@@ -3,6 +3,7 @@
 ghost use Rattle.std.specs.Prelude.{◌≤◌, ◌<◌, ◌-◌, ◌^◌};
 
 use crate::explain::Explain;
+use krb_command_line::ExplainWords;
 use krb_file_commands::{complain_of, produce, run_product};
 use krb_name::{ReadSource, SliceSource, Source, WriteSink};
 use std::io;
@@ -14,17 +15,17 @@ const INPUT: &str = "input";
 
 const MESSAGE: &str = "message";
 
-/// Explains the message that the word spells, or that is in the file after its `@`, or on standard input for `-`, and returns the
-/// exit status.
-pub fn run_explain<R: AllocGlobal + Files + Input + Print + Eprint>(rt: &R, message: &str) -> u8
+/// Explains the message of the command line, of a file or of standard input, and returns the exit status.
+pub fn run_explain<R: AllocGlobal + Files + Input + Print + Eprint>(
+    rt: &R,
+    words: ExplainWords<'_>,
+) -> u8
     ensures { result ≤ 3 }
 {
-    if message == "-" {
-        return explain_source(rt, ReadSource::new(rt.reader()), INPUT);
-    }
-    match message.strip_prefix('@') {
-        Some(path) => run_product(rt, &Explain, "explain", path, None),
-        None => explain_source(rt, SliceSource::new(message.as_bytes()), MESSAGE),
+    match (words.message, words.file) {
+        (Some(text), _) => explain_source(rt, SliceSource::new(text.as_bytes()), MESSAGE),
+        (None, Some(path)) => run_product(rt, &Explain, "explain", path, None),
+        (None, None) => explain_source(rt, ReadSource::new(rt.reader()), INPUT),
     }
 }
 

@@ -1,5 +1,5 @@
-//! The command of krbtool for a service: `accept`, which answers the lines of standard input; and what explains a message,
-//! which isn't a command yet.
+//! The commands of krbtool for a service: `accept`, which answers the lines of standard input, and `explain`, which
+//! says what is in a message.
 //!
 //! [`accept_lines`] is the engine, over a source and a sink; its contract says which answers are written, and which
 //! history the acceptor's memory then stands for. [`run_accept`] reads the words of the command line, opens the

@@ -6,7 +6,7 @@ use krb_file_commands::{
     run_add, run_check_ccache, run_check_keytab, run_convert_ccache, run_convert_keytab,
     run_list_ccache, run_list_keytab, run_pick, run_remove,
 };
-use krb_service_command::run_accept;
+use krb_service_command::{run_accept, run_explain};
 use std::io::Input;
 use std::random::RandomSource;
 use std::rt::Files;
@@ -26,6 +26,7 @@ pub(crate) fn run<R: AllocGlobal + Files + RandomSource + Input + Print + Eprint
         Command::ConvertCcache { file, out, replace } => run_convert_ccache(rt, file, out, replace),
         Command::Request(words) => run_request(rt, words),
         Command::Accept(words) => run_accept(rt, words),
+        Command::Explain(words) => run_explain(rt, words),
         Command::Finish(words) => run_finish(rt, words),
         Command::PickKey(words) => run_pick(rt, words),
         Command::RemoveKey(words) => run_remove(rt, words),

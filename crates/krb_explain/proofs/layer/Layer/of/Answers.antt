@@ -7,11 +7,11 @@ use Rattle.krb_explain.specs.Layer.{IsFaultOf}
 use Rattle.krb_der.specs.Place.{begins}
 use Rattle.krb_explain.proofs.layer.Layer.of.Goals as goal
 
--- the fault that is told is that of what the bytes begin as
-of_begin : (b : Bool) (bytes : List ℕ) (answer token told : TokenFault) → IsAnswerFault bytes answer → IsTokenFault bytes token
-    → told ≡ (if b then answer else token) → IsFaultOf b bytes told
-of_begin true bytes answer token told of_answer of_token is = subst (λ (fault : TokenFault). IsAnswerFault bytes fault) (sym is) of_answer
-of_begin false bytes answer token told of_answer of_token is = subst (λ (fault : TokenFault). IsTokenFault bytes fault) (sym is) of_token
+-- the fault is that of what the bytes begin as
+of_begin : (b : Bool) (bytes : List ℕ) (answer token fault : TokenFault) → IsAnswerFault bytes answer → IsTokenFault bytes token
+    → fault ≡ (if b then answer else token) → IsFaultOf b bytes fault
+of_begin true bytes answer token fault of_answer of_token is = subst (λ (other : TokenFault). IsAnswerFault bytes other) (sym is) of_answer
+of_begin false bytes answer token fault of_answer of_token is = subst (λ (other : TokenFault). IsTokenFault bytes other) (sym is) of_token
 
 pub returns-in-None : goal.returns-in-None
 returns-in-None c = record {

@@ -3,7 +3,7 @@ use Rattle.clap.specs.Words.{App, app_of}
 use Rattle.krb_command_line.specs.CommandLine.{with_command}
 use Rattle.krb_command_line.specs.Inner.Commands.{app_for}
 use Rattle.krb_command_line.proofs.CommandLaws.{one_more}
-use Rattle.krb_command_line.proofs.commands.command_with.Goals as goal
+use Rattle.krb_command_line.proofs.commands.with_rows.Goals as goal
 
 pub loop-row-preserved : goal.loop-row-preserved
 loop-row-preserved c =
