@@ -52,15 +52,19 @@ def realm(tmp_path_factory):
     made.stop()
 
 
+CURL = ["curl", "-sv", "--negotiate", "-u", ":", "URL"]
+OLD = ["kvno", "-k", "KEYTAB", NAME]
+# The kind of client, its cache, the command, and what it says.
 SAID = {
-    "curl, no ticket": ("default", "none", ["curl", "-sv", "--negotiate", "-u", ":", "URL"], "No credentials were supplied"),
-    "curl, no such service": ("default", "alice", ["curl", "-sv", "--negotiate", "-u", ":", "URL"], "not found in Kerberos database"),
+    "curl, no ticket": ("default", "none", CURL, "No credentials were supplied"),
+    "curl, no such service": ("default", "alice", CURL, "not found in Kerberos database"),
     "kvno, no such service": ("default", "alice", ["kvno", "HTTP/none"], "not found in Kerberos database"),
-    "kvno, a type that isn't offered": ("legacy", "alice", ["kvno", "host/set"], "KDC has no support for encryption type"),
-    "kvno, a type that isn't permitted": ("new", "alice", ["kvno", "host/old"], "No credentials found with supported encryption types"),
-    "kvno, an old keytab": ("default", "alice", ["kvno", "-k", "KEYTAB", NAME], "keytab entry invalid"),
-    "kvno, why": ("default", "alice", ["kvno", "-k", "KEYTAB", NAME], "Wrong principal in request"),
-    "klist, a session key of type 18": ("default", "alice", ["klist", "-e"], "Etype (skey, tkt): aes256-cts-hmac-sha1-96"),
+    "kvno, not offered": ("legacy", "alice", ["kvno", "host/set"], "KDC has no support for encryption type"),
+    "kvno, not permitted": ("new", "alice", ["kvno", "host/old"],
+                            "No credentials found with supported encryption types"),
+    "kvno, an old keytab": ("default", "alice", OLD, "keytab entry invalid"),
+    "kvno, why": ("default", "alice", OLD, "Wrong principal in request"),
+    "klist, type 18": ("default", "alice", ["klist", "-e"], "Etype (skey, tkt): aes256-cts-hmac-sha1-96"),
 }
 
 

@@ -1,7 +1,9 @@
-"""Counts what a reader must believe for each promise as a whole: the contracts that state it, and the definitions that they are written in.
+"""Counts what a reader must believe for each promise as a whole.
 
-The table stands in docs/PROOFS.md. The words of a contract are looked up in the crates' specs/, and so are the words of each definition that was
-found, until nothing is new. Words of the standard library, and types of the sources (`declared`), aren't counted. Neither are lines without code.
+That is the contracts that state it, and the definitions that they are written in. The table stands in docs/PROOFS.md.
+The words of a contract are looked up in the crates' specs/, and so are the words of each definition that was found,
+until nothing is new. Words of the standard library, and types of the sources (`declared`), aren't counted. Neither are
+lines without code.
 """
 import re
 from dataclasses import dataclass
@@ -10,14 +12,17 @@ from functools import lru_cache
 from . import ROOT, layout
 
 DOCUMENT = "docs/PROOFS.md"
+SEALING = ["krb_enc/key::seal", "krb_enc/key::open", "krb_enc/laws::sealed_text_opens"]
+ACCEPT, MAKE, FINISH = "krb_ap/acceptor::accept", "krb_ap/request::make_request", "krb_ap/finish::finish"
+LOGIN = ["krb_login/service::answer", "krb_login/laws::only_by_right", "krb_login/laws::answers_that"]
 # The promises, and the functions whose contracts state them: laws, and calls of the library.
 PROMISES = [
-    ("Each layer meets its definition: sealing", ["krb_enc/key::seal", "krb_enc/key::open", "krb_enc/laws::sealed_text_opens"]),
-    ("Acceptance is sound", ["krb_ap/acceptor::accept", "krb_ap/laws::one_answer", "krb_ap/laws::no_stamp_twice"]),
-    ("A good request gets in", ["krb_ap/acceptor::accept", "krb_ap/request::make_request", "krb_ap/laws::built_is_accepted"]),
-    ("Both sides agree", ["krb_ap/acceptor::accept", "krb_ap/finish::finish", "krb_ap/laws::both_agree"]),
-    ("A shared store lets in once", ["krb_ap/acceptor::accept", "krb_ap/laws::a_store_lets_in_once"]),
-    ("A login in one call", ["krb_login/service::answer", "krb_login/laws::only_by_right", "krb_login/laws::answers_that"]),
+    ("Each layer meets its definition: sealing", SEALING),
+    ("Acceptance is sound", [ACCEPT, "krb_ap/laws::one_answer", "krb_ap/laws::no_stamp_twice"]),
+    ("A good request gets in", [ACCEPT, MAKE, "krb_ap/laws::built_is_accepted"]),
+    ("Both sides agree", [ACCEPT, FINISH, "krb_ap/laws::both_agree"]),
+    ("A shared store lets in once", [ACCEPT, "krb_ap/laws::a_store_lets_in_once"]),
+    ("A login in one call", LOGIN),
 ]
 WORD = re.compile(r"[^\W\d]\w*'*(?:◌\w+◌)?|◌[^\s◌]+◌")
 USE = re.compile(r"^(?:ghost |pub )*use Rattle\.([\w.]+)\.\{(.*?)\}", re.M | re.S)
@@ -67,7 +72,7 @@ def path_of(module):
 
 
 def starts(lines):
-    """Where definitions begin, and their names. Those of a module without a name, and of a mutual block, are indented."""
+    """Where definitions begin, and their names. Those of a module without a name, or of a mutual block, are indented."""
     base = 0
     for at, line in enumerate(lines):
         indent = len(line) - len(line.lstrip())
@@ -86,8 +91,8 @@ def definitions(path):
     lines, found = text_of(path).split("\n"), {}
     begun = list(starts(lines))
     for (at, name), (end, _) in zip(begun, [*begun[1:], (len(lines), "")]):
-        before = found.get(name)
-        made = Definition(path, before.first, (*before.lines, *lines[at:end])) if before else Definition(path, at + 1, tuple(lines[at:end]))
+        before = found.get(name, Definition(path, at + 1, ()))
+        made = Definition(path, before.first, (*before.lines, *lines[at:end]))
         found[name] = made
         if DATA.match(lines[at]):
             found |= {it: made for line in made.lines[1:] for it in re.findall(r"^\s+(\w+) :", line)}
