@@ -72,7 +72,7 @@ def path_of(module):
 
 
 def starts(lines):
-    """Where definitions begin, and their names. Those of a module without a name, or of a mutual block, are indented."""
+    """Where definitions begin, and their names. Those of a nameless module or a mutual block are indented."""
     base = 0
     for at, line in enumerate(lines):
         indent = len(line) - len(line.lstrip())
