@@ -84,10 +84,11 @@ class _Connection:
     def run(self) -> None:
         """Answer requests until the client or an error ends the connection."""
         try:
-            while self._answered():
-                pass
-        except _Bad as bad:
-            self._send(str(bad), [], str(bad).encode() + b"\n", False)
+            try:
+                while self._answered():
+                    pass
+            except _Bad as bad:
+                self._send(str(bad), [], str(bad).encode() + b"\n", False)
         except OSError:
             return
         self._linger()
