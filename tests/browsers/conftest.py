@@ -15,8 +15,8 @@ class World:
         self.folder, self.realm, self.library = folder, realm, library
         self.services = {}
 
-    def start(self, name, *words, **more):
-        self.services[name] = web_realm.Service(self.folder, self.realm, self.library, *words, program=APP, **more)
+    def start(self, name, *words, program=APP, **more):
+        self.services[name] = web_realm.Service(self.folder, self.realm, self.library, *words, program=program, **more)
 
     def __getitem__(self, name):
         return self.services[name]
@@ -37,6 +37,7 @@ def world(library, tmp_path_factory):
     try:
         tickets.bend(made.realm.folder / "www.keytab", made.realm.folder / "wrong.keytab")
         made.start("web", served="*")
+        made.start("of examples/negotiate", "--first", program=web_realm.EXAMPLE)
         made.start("sessions", "--sessions")
         made.start("with a wrong clock", ahead=web_realm.WRONG)
         made.start("with another key", keytab="wrong")

@@ -24,7 +24,7 @@ from ._wsgi import App
 _HEAD, _BODY, _CONNECTIONS, _PATIENCE = 262_144, 1_048_576, 1000, 30.0
 _REQUEST_LINE = re.compile(rb"([!#$%&'*+.^_`|~0-9A-Za-z-]+) ([!-~]+) HTTP/1\.([01])\Z")
 _FIELD = re.compile(rb"([!#$%&'*+.^_`|~0-9A-Za-z-]+):[ \t]*([^\0\r\n]*?)[ \t]*\Z")
-_ABSOLUTE = re.compile(rb"https?://[^/?#]+", re.I)
+_ABSOLUTE = re.compile(rb"\Ahttps?://[^/?#]+", re.I)
 _log = logging.getLogger("fevstunik.web")
 
 
