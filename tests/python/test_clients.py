@@ -131,6 +131,7 @@ def test_a_login(made, service, page, words):
         answer = client.ask(f"{service.url}/{page}")
         assert (answer.status_code, answer.text) == (200, HELLO)
     assert {it[:2] for it in service.tokens} == {("localhost", "HTTP/localhost@EX")}
+    assert service.is_mutual == {words.get("mutual") != "off"}
 
 
 def test_a_page_that_is_missing_is_handed_on(made, service):

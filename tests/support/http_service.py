@@ -18,7 +18,7 @@ REALM, CLIENT = "EX", "alice@EX"
 # The hosts of the services, and by how much the clock is ahead of one that says so.
 HOSTS = ("localhost", "127.0.0.1")
 AHEAD = 1_000
-BASIC = 'Basic realm="a \\" quote, Negotiate AAAA"'
+BASIC = 'Basic realm="a \\" quote, Negotiate, and more"'
 
 
 def cache(hosts=HOSTS, ends=36_000):
@@ -68,6 +68,7 @@ class Handler(BaseHTTPRequestHandler):
         if self.token is not None:
             asked = Asked.read(Token.open(self.token).request)
             self.server.tokens.append((self.headers["Host"].split(":")[0], asked.name, name))
+            self.server.is_mutual.add(asked.mutual)
         getattr(self, f"answer_{name}")()
 
     do_POST = do_GET
@@ -199,14 +200,15 @@ class Handler(BaseHTTPRequestHandler):
 
 
 class Server(ThreadingHTTPServer):
-    """`tokens` has for each token the host that it was sent to, the service that it is for, and the page."""
+    """`tokens` has for each token the host that it was sent to, the service that it is for, and the page; `is_mutual`
+    has whether one asks for a reply."""
 
     daemon_threads = True
 
     def __init__(self, tls=None):
         super().__init__(("127.0.0.1", 0), Handler)
         self.service, self.later = (Service(keytab(), None, first_life=True) for _ in range(2))
-        self.tokens, self.replies, self.repeated = [], [], False
+        self.tokens, self.is_mutual, self.replies, self.repeated = [], set(), [], False
         self.url = f"{'https' if tls else 'http'}://localhost:{self.server_port}"
         if tls:
             bindings = tls_server_end_point(ssl.PEM_cert_to_DER_cert(tls.read_text().partition("-----BEGIN PRIV")[0]))
