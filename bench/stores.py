@@ -20,7 +20,7 @@ from pathlib import Path
 import exchange
 
 TOP = Path(__file__).resolve().parent.parent
-sys.path += [str(TOP / "tests"), str(TOP / "python")]
+sys.path += [str(TOP), str(TOP / "tests"), str(TOP / "python")]
 import builds  # noqa: E402
 from support import c_programs, instances, store_servers  # noqa: E402
 from fevstunik import Moment  # noqa: E402
@@ -76,17 +76,17 @@ def answered(instance, requests):
 
 def rate(words, count, requests):
     """How many requests so many instances accept in a second, each a part of them."""
-    instances = [instances.Instance(words) for _ in range(count)]
+    started = [instances.Instance(words) for _ in range(count)]
     try:
-        for one in instances:
+        for one in started:
             if answered(one, ["00"]):
                 sys.exit("a byte was accepted")
         with ThreadPoolExecutor(count) as pool:
             began = time.monotonic()
-            accepted = sum(pool.map(answered, instances, [requests[at::count] for at in range(count)]))
+            accepted = sum(pool.map(answered, started, [requests[at::count] for at in range(count)]))
             took = time.monotonic() - began
     finally:
-        for one in instances:
+        for one in started:
             one.close()
     if accepted != len(requests):
         sys.exit(f"{accepted} requests were accepted of {len(requests)}")

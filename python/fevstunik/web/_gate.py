@@ -155,11 +155,11 @@ class Gate:
     def _let_in(self, login: Login) -> _Decided:
         reply: Headers = (_header(login.reply),) if login.reply else ()
         if not self._terms.is_bound(login):
-            return _refused(HTTPStatus.UNAUTHORIZED, "CHANNEL_BINDINGS", f"{Code.CHANNEL_BINDINGS.text} ({login.client})", (_CHALLENGE,))
+            return _refused(HTTPStatus.UNAUTHORIZED, "CHANNEL_BINDINGS", Code.CHANNEL_BINDINGS.text, (_CHALLENGE,), login.client)
         try:
             user = self._terms.users.user_of(login)
         except NotAllowed as error:
-            return _refused(HTTPStatus.FORBIDDEN, "NOT_ALLOWED", f"{error} ({login.client})", reply)
+            return _refused(HTTPStatus.FORBIDDEN, "NOT_ALLOWED", str(error), reply, login.client)
         cookie = None if self._cookies is None else self._cookies.of(user)
         if cookie is not None:
             reply += (("Set-Cookie", cookie),)
@@ -177,8 +177,9 @@ def _begin_all() -> None:
 os.register_at_fork(after_in_child=_begin_all)
 
 
-def _refused(status: HTTPStatus, cause: str, text: str, headers: Headers = ()) -> _Decided:
-    return Answer(status, cause, headers), Event(cause, f"{cause}: {text}")
+def _refused(status: HTTPStatus, cause: str, text: str, headers: Headers = (), client: str | None = None) -> _Decided:
+    named = "" if client is None else f" ({client})"
+    return Answer(status, cause, headers), Event(cause, f"{cause}: {text}{named}", client=client)
 
 
 def _header(token: bytes) -> tuple[str, str]:
