@@ -6,8 +6,7 @@ A service makes one Service from its Keytab, and passes what clients send to it:
 >>> service = Service(Keytab.read("examples/service.keytab"), "host/web@EX", first_life=True)
 
 (If a service has used one of these keys before, pass what its processes share, as store="/run/web/stamps", or else started=time.time(), instead.)
-A client makes its first token from a ticket of its
-CredentialCache:
+A client makes its first token from a ticket of its CredentialCache:
 
 >>> client = Client(CredentialCache.read("examples/client.ccache"), "host/web@EX")
 >>> token = client.first(now=1_700_000_100)

@@ -242,7 +242,8 @@ class _Carried:
     token: Token | None
 
     def refusal(self, known: Known, code: Code, at: Moment) -> bytes:
-        """What goes back to a client that is refused: an error if it asked for a reply, else a negotiation's reject; nothing if it can't be made."""
+        """What goes back to a client that is refused: an error if it asked for a reply, else a negotiation's reject. If it can't be made,
+        nothing."""
         try:
             if not known.wants_reply:
                 return b"" if self.token is None else self.token.rejected()
@@ -342,9 +343,9 @@ class Service(Serving):
     keytab      its keys
     service     the name that is served, as ``host/web@EX``, or None for each name of the keytab, as for Acceptor
     skew        by how many seconds clocks may differ
-    store       what all processes of the service share, so that no two let a client in by one request: a path, as ``"/run/web/stamps"``, for the
-                processes of one machine, or another store of fevstunik.stores. The service's start is the moment at which the store was made, so
-                there is a pause when it is new, and none when the service is started again
+    store       what all processes of the service share, so that no two let a client in by one request: a path, as ``"/run/web/stamps"``, for
+                the processes of one machine, or another store of fevstunik.stores. The service's start is the moment at which the store was
+                made, so there is a pause when it is new, and none when the service is started again
     started     the service's clock at this start, as time.time(), if there is no store; with one, the later start counts
     first_life  True if every key of the keytab is new: Acceptor says what both mean. With a store this leaves out the pause after it was made.
                 Take it out again when the service has been started: after the next boot, the keys aren't new
@@ -361,8 +362,8 @@ class Service(Serving):
 
     A client that breaks these terms is Refused with ANONYMOUS_CLIENT, FOREIGN_REALM or CHANNEL_BINDINGS.
 
-    Make one and keep it. Any thread may call it, for any number of clients at once. A lock lets one decision run at a time. A Service belongs to
-    the process that made it: after a fork, the child's calls raise RuntimeError.
+    Make one and keep it. Any thread may call it, for any number of clients at once. A lock lets one decision run at a time. A Service
+    belongs to the process that made it: after a fork, the child's calls raise RuntimeError.
 
     It is a context manager. At the end of the block, or by close(), the library frees what it holds. Then calls raise the Fault
     EMPTY_HANDLE, and `remembered` is 0.
@@ -402,13 +403,13 @@ class Service(Serving):
         data  what the client sent, whatever it is
         now   the service's clock: the machine's clock by default. Time doesn't go back: the latest moment given so far is the one that counts
 
-        Returns a Login, a GoOn or a Refused (it isn't raised); each has the bytes to send back in `reply`, which may be empty. Only a Login is
-        true. A GoOn says that the client has
-        sent no request yet: to take its next token, too, use login(). If memory runs out, the client is Refused with OUT_OF_MEMORY.
+        Returns a Login, a GoOn or a Refused (it isn't raised); each has the bytes to send back in `reply`, which may be empty. Only a Login
+        is true. A GoOn says that the client has sent no request yet: to take its next token, too, use login(). If memory runs out, the
+        client is Refused with OUT_OF_MEMORY.
 
-        A service that has a store asks it after it has accepted a request, with no lock held, and then reads its clock again: to `now`, if it was
-        passed, the time is added that has gone by. Nothing of the request can be read before. Of a stamp that the store has, the client is Refused with
-        REPEAT; if the store fails, or doesn't answer in time, with STORE_FAILED.
+        A service that has a store asks it after it has accepted a request, with no lock held, and then reads its clock again: to `now`, if
+        it was passed, the time is added that has gone by. Nothing of the request can be read before. Of a stamp that the store has, the
+        client is Refused with REPEAT; if the store fails, or doesn't answer in time, with STORE_FAILED.
 
         >>> from fevstunik import Keytab, Service
         >>> request = bytes.fromhex(open("examples/calls.txt").readline().split()[2])
@@ -488,8 +489,8 @@ def _store_of(store: Store | str | os.PathLike[str], skew: int) -> Store:
 
 
 def _start_over(store: Store, skew: int, started: When | None) -> Moment:
-    """The start of a service that has a store. What a service with the store's largest skew may have accepted before the store was made is earlier
-    than this start by the skew."""
+    """The start of a service that has a store. What a service with the store's largest skew may have accepted before the store was made isn't
+    later than this start by more than the skew."""
     made = store.remembers_from
     start = Moment(made.seconds + store.largest_skew - skew, made.micros)
     return start if started is None else max(start, Moment.of(started))

@@ -24,7 +24,7 @@ from support.instances import ACCEPTED, BATCH, PYTHON, REPEAT, SERVICE, STORE, I
 
 pytestmark = [pytest.mark.packages, pytest.mark.slow]
 # How many requests there are in each phase, and more for what comes after the phases.
-REQUESTS, MORE = int(os.environ.get("STORES_REQUESTS", "300")), 20
+REQUESTS, MORE = int(os.environ.get("STORES_REQUESTS", "240")), 20
 # How often each process is killed in the second phase.
 KILLS = 4
 # How long a process waits for the store while both run on a busy machine, and where that is tested; how long a phase

@@ -14,7 +14,8 @@ from ._store import SECONDS, Connected, Made, clock, micros, skew_of
 _LACKS = "SELECT to_regclass('fevstunik_stamps') IS NULL OR to_regclass('fevstunik_store') IS NULL"
 _TABLES = """
 SELECT pg_advisory_xact_lock(4120);
-CREATE TABLE IF NOT EXISTS fevstunik_store (one boolean PRIMARY KEY DEFAULT true CHECK (one), made bigint NOT NULL, largest_skew integer NOT NULL);
+CREATE TABLE IF NOT EXISTS fevstunik_store (
+  one boolean PRIMARY KEY DEFAULT true CHECK (one), made bigint NOT NULL, largest_skew integer NOT NULL);
 CREATE TABLE IF NOT EXISTS fevstunik_stamps (stamp bytea PRIMARY KEY, keep_until bigint NOT NULL);
 CREATE INDEX IF NOT EXISTS fevstunik_stamps_until ON fevstunik_stamps (keep_until);
 """
@@ -44,10 +45,10 @@ class PostgreSQL(Connected[Any]):
     seconds       how long to wait for an answer, and for a connection: then the connection is closed, and StoreFailed is raised
     unchecked     True if the server's settings aren't to be looked at
 
-    A stamp is one statement, which also deletes two that needn't be kept any longer. The first process makes the tables `fevstunik_stamps` and
-    `fevstunik_store`. Raises UnsafeStore if the server isn't set up as docs/OPERATING.md says (`fsync`, `full_page_writes`, `synchronous_commit`), if a table is
-    unlogged or temporary, if the server's clock is ahead, or if the store was made with another largest skew. If the tables were made again, the
-    services that use them let nobody in until they are started again.
+    A stamp is one statement, which also deletes two that needn't be kept any longer. The first process makes the tables `fevstunik_stamps`
+    and `fevstunik_store`. Raises UnsafeStore if the server isn't set up as docs/OPERATING.md says (`fsync`, `full_page_writes`,
+    `synchronous_commit`), if a table is unlogged or temporary, if the server's clock is ahead, or if the store was made with another
+    largest skew. If the tables were made again, the services that use them let nobody in until they are started again.
     """
 
     def __init__(self, where: str, largest_skew: int | None = None, *, seconds: float = SECONDS, unchecked: bool = False) -> None:

@@ -23,10 +23,10 @@ class Redis(Connected[Any]):
     seconds       how long to wait for an answer, and for a connection: then the connection is closed, and StoreFailed is raised
     unchecked     True if the server's settings aren't to be looked at
 
-    A stamp is one command, ``SET KEY "" NX EXAT SECONDS``, and expires by itself. The server needs what docs/OPERATING.md says. Raises UnsafeStore
-    if it is older than 6.2, a replica, or set up otherwise (`appendonly`, `appendfsync`, `no-appendfsync-on-rewrite`, `maxmemory-policy`); if its clock is
-    ahead; or if the store was made with another largest skew. If the server has lost the store, the services that use it let nobody in until they
-    are started again.
+    A stamp is one command, ``SET KEY "" NX EXAT SECONDS``, and expires by itself. The server needs what docs/OPERATING.md says. Raises
+    UnsafeStore if it is older than 6.2, a replica, or set up otherwise (`appendonly`, `appendfsync`, `no-appendfsync-on-rewrite`,
+    `maxmemory-policy`); if its clock is ahead; or if the store was made with another largest skew. If the server has lost the store, the
+    services that use it let nobody in until they are started again.
     """
 
     def __init__(self, url: str, largest_skew: int | None = None, *, seconds: float = SECONDS, unchecked: bool = False) -> None:

@@ -67,18 +67,19 @@ class _File:
 class SQLite(Connected[_File]):
     """A store in a file, for all processes of one machine: by SQLite, as Python has it.
 
-    path          the file, as ``"/run/web/stamps"``; the name of the machine's boot is put after its name. Its folder belongs to the service's user
+    path          the file, as ``"/run/web/stamps"``; the name of the machine's boot is put after it. Its folder is the service's user's
     largest_skew  the largest skew of the services that use it, in seconds; 300 if this is left out, and the file is new
     seconds       how long to wait for an answer: then StoreFailed is raised
     boot          the name of the machine's boot: by default /proc/sys/kernel/random/boot_id
     unchecked     True if the file's place and mode aren't to be looked at
 
-    The first process of a boot makes the file, and removes those of earlier boots. So clients are refused with JUST_STARTED for the skew after each
-    boot, and never after a service was started again. What a killed process has added stays. Nothing is synced: a file of another boot may lack stamps,
-    and isn't used. If the file is removed, the services that use it let nobody in until they are started again.
+    The first process of a boot makes the file, and removes those of earlier boots. So clients are refused with JUST_STARTED for the skew
+    after each boot, and never after a service was started again. What a killed process has added stays. Nothing is synced: a file of
+    another boot may lack stamps, and isn't used. If the file is removed, the services that use it let nobody in until they are started
+    again.
 
-    Raises UnsafeStore if others may write to the folder or read the file, if the file system isn't known to be on this machine, or if the file was made
-    with another largest skew.
+    Raises UnsafeStore if others may write to the folder or read the file, if the file system isn't known to be on this machine, or if the
+    file was made with another largest skew.
 
     >>> import tempfile
     >>> from fevstunik import Moment
@@ -207,8 +208,8 @@ class SQLite(Connected[_File]):
             connection.base.close()
 
 
-# SQLite doesn't notice a fork, and takes locks of the parent for its own, on the same file: so nothing is open when a process forks; and if a call of
-# another thread is, the child doesn't open a file.
+# SQLite doesn't notice a fork, and takes locks of the parent for its own, on the same file: so nothing is open when a process forks; and if
+# a call of another thread is, the child doesn't open a file.
 _stores: weakref.WeakSet[SQLite] = weakref.WeakSet()
 _open_now: weakref.WeakSet[_File] = weakref.WeakSet()
 _process = here()

@@ -18,8 +18,9 @@ _MICROS = 1_000_000
 class Store(Protocol):
     """A store, as a service asks it. Any object that has these three is one.
 
-    A store never loses a stamp before `keep_until`, also if it crashes, and its clock isn't ahead of a service's by more than `largest_skew`. If it
-    may have lost stamps, `remembers_from` has to be later than each request that may be lost, and the services that use it are started again.
+    A store never loses a stamp before `keep_until`, also if it crashes, and its clock isn't ahead of a service's by more than
+    `largest_skew`. If it may have lost stamps, `remembers_from` has to be later than what the clocks of services said when they were added,
+    and the services that use it are started again.
 
     >>> import tempfile
     >>> from fevstunik.stores import SQLite, Store
@@ -48,8 +49,8 @@ class Made:
 
     def for_skew(self, wanted: int | None) -> Made:
         if wanted not in (None, self.largest_skew):
-            raise UnsafeStore("largest_skew", f"the store was made with {self.largest_skew}, not {wanted}: it keeps stamps for this long. To change it, "
-                                              f"stop all services that use it, and remove it")
+            raise UnsafeStore("largest_skew", f"the store was made with {self.largest_skew}, not {wanted}: it keeps stamps for this long. "
+                                              "To change it, stop all services that use it, and remove it")
         return self
 
 
@@ -73,8 +74,8 @@ _Connection = TypeVar("_Connection")
 class Connected(Secret, ABC, Generic[_Connection]):
     """A store that is asked over connections, one call at a time over each.
 
-    Only a connection over which the whole answer came in time is used again: so no answer can be taken for that about another stamp. A process that
-    was forked opens its own.
+    Only a connection over which the whole answer came in time is used again: so no answer can be taken for that about another stamp. A
+    process that was forked opens its own.
     """
 
     _made: Made
