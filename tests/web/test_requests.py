@@ -160,8 +160,10 @@ def test_refusals(made, over, cause, mutual):
 
 
 def test_a_repeat(ask):
+    """Another token is asked for: python-requests sends its token again after a redirect."""
     value = authorized(negotiate(token()))
-    assert [ask(headers=value).status for _ in range(3)] == [200, 401, 401]
+    answers = [ask(headers=value) for _ in range(3)]
+    assert [it.status for it in answers] == [200, 401, 401] and {it.token for it in answers[1:]} == {b""}
 
 
 def test_a_start(made, over):

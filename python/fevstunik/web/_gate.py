@@ -148,8 +148,9 @@ class Gate:
             return Answer(HTTPStatus.SERVICE_UNAVAILABLE, event.cause, (self._terms.retry,)), event
         if decision.cause in _NOT_ALLOWED:
             return Answer(HTTPStatus.FORBIDDEN, event.cause), event
-        # An error goes back to a client that awaits a reply. A browser that gets one shows no page.
-        awaits = decision.asked is not None and decision.asked.mutual
+        # An error goes back to a client that awaits a reply. A browser that gets one shows no page. After a repeat, a new token is all that
+        # is needed: python-requests sends its token again after a redirect, and makes a new one only if it is asked to.
+        awaits = decision.asked is not None and decision.asked.mutual and decision.cause != Code.REPEAT
         return Answer(HTTPStatus.UNAUTHORIZED, event.cause, (_header(decision.reply if awaits else b""),)), event
 
     def _let_in(self, login: Login) -> _Decided:
