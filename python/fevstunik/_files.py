@@ -242,7 +242,7 @@ class CredentialCache(Secret):
         9
         """
         made = cls(content(path))
-        made._path = os.fspath(path)
+        made._path = os.fsdecode(path)
         return made
 
     @classmethod

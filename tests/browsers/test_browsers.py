@@ -3,6 +3,7 @@ logged in by a session. What they show is kept as pictures in build/pictures."""
 import contextlib
 import functools
 import struct
+import time
 
 import pytest
 
@@ -23,19 +24,28 @@ REFUSALS = {
 
 @pytest.fixture(scope="module")
 def started(world):
-    """Gives the browser of a name, which is started once and logs in at two hosts. A new profile of Chromium asks for
-    its first page before it knows these hosts: it then shows the page for those who haven't logged in, and logs in from
-    the next page on."""
+    """Gives the browser of a name, which is started once and logs in at two hosts."""
     env = {name: world.env()[name] for name in ("KRB5_CONFIG", "KRB5CCNAME")}
     with contextlib.ExitStack() as stack:
         @functools.cache
         def start(name):
             made = stack.enter_context(BROWSERS[name](world.folder / name, ["localhost", OTHER_HOST], env))
             made.name = name
-            first = made.page(world["web"].url)[1]
-            assert first == HELLO or name == "Chromium" and "This site needs a Kerberos login." in first
+            if name == "Chromium":
+                wait_for_chromium(made, world["web"].url)
             return made
         yield start
+
+
+def wait_for_chromium(browser, url):
+    """A new profile of Chromium asks for its first page before it knows at which hosts to log in: it then shows the
+    page for those who haven't logged in."""
+    for _ in range(10):
+        text = browser.page(url)[1]
+        if text == HELLO:
+            return
+        assert "This site needs a Kerberos login." in text
+        time.sleep(0.2)
 
 
 @pytest.fixture(params=BROWSERS)

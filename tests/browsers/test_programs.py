@@ -80,10 +80,11 @@ for url in sys.argv[1:]:
 
 
 def test_requests_kerberos(world):
-    """It checks the proof of who the service is."""
-    said = kdc.ran([PYTHON, "-B", "-c", REQUESTS_KERBEROS, world["web"].url, world["web"].url], seconds=SECONDS,
-                   env=world.env())
-    assert said == f"200 {HELLO}" * 2
+    """It checks the proof of who the service is. After a redirect it sends its token again, and then a new one."""
+    here = world["web"].url
+    said = kdc.ran([PYTHON, "-B", "-c", REQUESTS_KERBEROS, here, here, leading(here, here, "inside")],
+                   seconds=SECONDS, env=world.env())
+    assert said == f"200 {HELLO}" * 3
     said = kdc.ran([PYTHON, "-B", "-c", REQUESTS_KERBEROS, world["with a wrong clock"].url], seconds=SECONDS,
                    env=world.env())
     assert said.startswith("401 ")

@@ -75,9 +75,10 @@ def bent(header):
 
 
 def refused(service, what, header, why, asks=True):
-    """A header is refused, with an error in a token if its client asks for a reply, and the log says why."""
+    """A header is refused, with an error in a token if its client asks for a reply, and the log says why. After a
+    repeat another token is asked for."""
     status, words, _ = service.asked(header)
-    yield f"{what} is refused", is_it((status, len(words)), (401, 2 if asks else 1))
+    yield f"{what} is refused", is_it((status, len(words)), (401, 2 if asks and why != REPEAT else 1))
     yield f"{what} is refused by name", is_it(service.last(), why)
 
 

@@ -131,6 +131,15 @@ def test_a_login(made, service, page, words):
         answer = client.ask(f"{service.url}/{page}")
         assert (answer.status_code, answer.text) == (200, HELLO)
     assert {it[:2] for it in service.tokens} == {("localhost", "HTTP/localhost@EX")}
+    assert service.is_mutual == {words.get("mutual") != "off"}
+    # (httpx sends a token again to the place that a page of the same host leads to)
+    assert len(service.sent) == len(set(service.sent)) or page == "inside" and not isinstance(client, Requests)
+
+
+def test_cookies_and_history(made, service):
+    """The cookie of the first answer is sent with the token, and the history has that answer."""
+    answer = made().ask(f"{service.url}/marked")
+    assert answer.text == HELLO and [it.status_code for it in answer.history] == [401]
 
 
 def test_a_page_that_is_missing_is_handed_on(made, service):

@@ -18,7 +18,7 @@ REALM, CLIENT = "EX", "alice@EX"
 # The hosts of the services, and by how much the clock is ahead of one that says so.
 HOSTS = ("localhost", "127.0.0.1")
 AHEAD = 1_000
-BASIC = 'Basic realm="a \\" quote, Negotiate AAAA"'
+BASIC = 'Basic realm="a \\" quote, Negotiate, and more"'
 
 
 def cache(hosts=HOSTS, ends=36_000):
@@ -68,6 +68,8 @@ class Handler(BaseHTTPRequestHandler):
         if self.token is not None:
             asked = Asked.read(Token.open(self.token).request)
             self.server.tokens.append((self.headers["Host"].split(":")[0], asked.name, name))
+            self.server.is_mutual.add(asked.mutual)
+            self.server.sent.append(self.token)
         getattr(self, f"answer_{name}")()
 
     do_POST = do_GET
@@ -185,6 +187,15 @@ class Handler(BaseHTTPRequestHandler):
         else:
             self.hello(self.logged_in(), Set_Cookie="session=1")
 
+    def answer_marked(self):
+        """For those who send a token with the cookie of the first answer."""
+        if self.token is None:
+            self.say(401, "who are you?\n", b"", Set_Cookie="mark=1")
+        elif "mark=1" in self.headers.get("Cookie", ""):
+            self.hello(self.logged_in())
+        else:
+            self.say(400, "no cookie\n")
+
     def answer_missing(self):
         login = self.logged_in()
         if login is not None:
@@ -199,14 +210,15 @@ class Handler(BaseHTTPRequestHandler):
 
 
 class Server(ThreadingHTTPServer):
-    """`tokens` has for each token the host that it was sent to, the service that it is for, and the page."""
+    """`tokens` has for each token the host that it was sent to, the service that it is for, and the page; `is_mutual`
+    has whether one asks for a reply, `sent` the tokens."""
 
     daemon_threads = True
 
     def __init__(self, tls=None):
         super().__init__(("127.0.0.1", 0), Handler)
         self.service, self.later = (Service(keytab(), None, first_life=True) for _ in range(2))
-        self.tokens, self.replies, self.repeated = [], [], False
+        self.tokens, self.sent, self.is_mutual, self.replies, self.repeated = [], [], set(), [], False
         self.url = f"{'https' if tls else 'http'}://localhost:{self.server_port}"
         if tls:
             bindings = tls_server_end_point(ssl.PEM_cert_to_DER_cert(tls.read_text().partition("-----BEGIN PRIV")[0]))

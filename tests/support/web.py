@@ -94,8 +94,14 @@ def wsgi_app(environ, start_response):
     if path == "raises-late":
         return failing(start_response)
     if path == "raises-after-start":
-        start_response("200 OK", [])
+        start_response("200 OK", [("Content-Length", "3")])
         raise KeyError(path)
+    if path == "raises-at-a-part":
+        start_response("200 OK", [("Content-Length", "3")])
+        return (1 // 0 for _ in range(1))
+    if path == "writes":
+        start_response("200 OK", [("Content-Type", "text/plain")])(b"written, ")
+        return (it for it in [b"and", b"yielded"])
     status = f"{path} Status" if path.isdigit() else "200 OK"
     start_response(status, [("Content-Type", "text/plain"), ("X-Method", environ["REQUEST_METHOD"])])
     return [environ.get("REMOTE_USER", "nobody").encode()]
@@ -133,11 +139,12 @@ def by_wsgi(negotiate_, app=wsgi_app):
         started = []
 
         def start(status, sent, exc_info=None):
-            assert not started or exc_info
+            assert not started
             started[:] = [status, sent]
-        parts = inner(environ, start)
-        body = b"".join(parts)
-        return Answer(int(started[0].split()[0]), started[1], body)
+            return written.append
+        written = []
+        body = b"".join(inner(environ, start))
+        return Answer(int(started[0].split()[0]), started[1], b"".join(written) + body)
     return ask
 
 

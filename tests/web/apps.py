@@ -18,7 +18,8 @@ def made():
 def plain():
     def app(environ, start_response):
         if environ["PATH_INFO"] == "/fails":
-            raise KeyError
+            start_response("200 OK", [("Content-Type", "text/plain"), ("Content-Length", "3")])
+            return (1 // 0 for _ in range(1))
         body = environ["wsgi.input"].read(int(environ.get("CONTENT_LENGTH") or 0))
         start_response("200 OK" if environ["PATH_INFO"] == "/" else "404 Not Found", [("Content-Type", "text/plain")])
         return [environ.get("REMOTE_USER", "nobody").encode() + b" " + body]

@@ -7,6 +7,7 @@ import pytest
 
 from fevstunik import Fault
 from fevstunik.stores import StoreFailed
+from fevstunik.web import Users
 from support import fixture, web
 from support.web import negotiate, token
 
@@ -125,9 +126,10 @@ def test_a_text_is_no_list(made, terms):
         made(**terms)
 
 
-@pytest.mark.parametrize("terms", [{"exempt": ["health"]}, {"proxies": ["localhost"]}])
+@pytest.mark.parametrize("terms", [{"exempt": ["health"]}, {"proxies": ["localhost"]}, {"limit": 0}, {"skew": 90_000},
+                                   {"first_life": 1}])
 def test_wrong_terms(made, terms):
-    with pytest.raises(ValueError):
+    with pytest.raises((ValueError, TypeError, Fault)):
         made(**terms)
 
 
@@ -155,6 +157,14 @@ def test_a_record_of_a_refusal(made, caplog):
     assert (it.cause, it.user, it.asked, it.etype, it.kvno) == ("BAD_KEY_VERSION", None, web.NAME, 19, 5)
     assert it.getMessage().endswith("ticket for host/web@EX, etype 19, kvno 5; the keytab has kvno 3")
     assert value.split()[1][:20] not in str(vars(it))
+
+
+def test_a_record_of_a_user_who_is_not_let_in(made, caplog):
+    caplog.set_level(logging.INFO)
+    assert asked(web.by_wsgi(made(users=Users(realms={"EX": "{user}"}, only=["bob"])))) == 403
+    it = logged(caplog)
+    assert (it.cause, it.user) == ("NOT_ALLOWED", "alice@EX")
+    assert it.getMessage() == "denied: NOT_ALLOWED: the client isn't one of those who are let in (alice@EX)"
 
 
 @pytest.mark.parametrize("address, forwarded, peer", [

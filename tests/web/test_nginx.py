@@ -329,8 +329,18 @@ WRONG = {
     'service = "host/web@EX"\nexempt = ["/"]': "`exempt` isn't taken",
     'service = "HTTP/web@EX"': "no key of type 19 or 20 for HTTP/web@EX",
     'service = "host/web@EX"\n[users]\nrealms = 1': "int",
+    'service = "host/web@EX"\nsessions = 1': "int",
+    'service = "host/web@EX"\nfirst_life = 1': "bool",
     "=": "web.toml",
 }
+
+
+def test_a_file_in_the_place_of_the_socket_stays(tmp_path, keytab):
+    (tmp_path / "web.toml").write_text('keytab = "web.keytab"\nservice = "host/web@EX"\n')
+    (tmp_path / "socket").write_text("kept")
+    command = [sys.executable, "-m", "fevstunik.web", "--config", "web.toml", "--socket", "socket"]
+    ran = subprocess.run(command, capture_output=True, text=True, timeout=60, cwd=tmp_path)
+    assert ran.returncode == 1 and "in use" in ran.stderr and (tmp_path / "socket").read_text() == "kept"
 
 
 @pytest.mark.parametrize("lines, said", WRONG.items(), ids=str)

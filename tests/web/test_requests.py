@@ -50,9 +50,28 @@ def test_the_token_comes_with_each_status(ask, path, status):
     assert answer.status == status and answer.token
 
 
-def test_a_failure_after_the_start(made):
-    answer = web.by_wsgi(made())(path="/raises-after-start", headers=authorized(negotiate(token())))
+@pytest.mark.parametrize("path", ["/raises-after-start", "/raises-at-a-part"])
+def test_a_failure_after_the_start(made, path):
+    answer = web.by_wsgi(made())(path=path, headers=authorized(negotiate(token())))
     assert answer.status == 500 and answer.token
+    assert int(answer.one("Content-Length")) == len(answer.body)
+
+
+def test_an_application_that_writes(made):
+    answer = web.by_wsgi(made())(path="/writes", headers=authorized(negotiate(token())))
+    assert (answer.status, answer.body) == (200, b"written, andyielded") and answer.token
+
+
+def test_an_answer_that_breaks_off_is_the_servers(made):
+    def app(environ, start_response):
+        start_response("200 OK", [])
+        yield b"begun"
+        raise KeyError
+    environ = {"REQUEST_METHOD": "GET", "PATH_INFO": "/", "HTTP_AUTHORIZATION": negotiate(token())}
+    parts = made().wsgi(app)(environ, lambda *_: None)
+    assert next(parts) == b"begun"
+    with pytest.raises(KeyError):
+        next(parts)
 
 
 def test_without_a_token_a_failure_is_the_servers(made):
@@ -141,8 +160,10 @@ def test_refusals(made, over, cause, mutual):
 
 
 def test_a_repeat(ask):
+    """Another token is asked for: python-requests sends its token again after a redirect."""
     value = authorized(negotiate(token()))
-    assert [ask(headers=value).status for _ in range(3)] == [200, 401, 401]
+    answers = [ask(headers=value) for _ in range(3)]
+    assert [it.status for it in answers] == [200, 401, 401] and {it.token for it in answers[1:]} == {b""}
 
 
 def test_a_start(made, over):

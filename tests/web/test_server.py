@@ -61,6 +61,8 @@ SEQUENCES = {
     "a query and escapes": (asks("GET /a%20b%e9?c=%20d HTTP/1.1"), [(200, "GET,/a b\xe9,c=%20d,,-")]),
     "an absolute target": (asks("GET http://web/one?x HTTP/1.1"), [(200, "GET,/one,x,,-")]),
     "a host alone": (asks("GET http://web HTTP/1.1"), [(200, "GET,/,,,-")]),
+    "a host and a query": (asks("GET http://web?x HTTP/1.1"), [(200, "GET,/,x,,-")]),
+    "an address in a query": (asks("GET /a?http://b/c HTTP/1.1"), [(200, "GET,/a,http://b/c,,-")]),
     "two": (asks("GET /a HTTP/1.1") + ONE, [(200, "GET,/a,,,-"), (200, "GET,/one,,,-")]),
     "nothing after the end": (ONE + ONE, [(200, "GET,/one,,,-")]),
     "HTTP/1.0": (asks("GET /a HTTP/1.0", host=False) + ONE, [(200, "GET,/a,,,-")]),

@@ -86,6 +86,8 @@ def _again(response: httpx.Response, header: str) -> httpx.Request:
         raise LoginError(LoginTrouble.BODY_SPENT, "the service asks for a login after it was sent the body, which can't be read again: "
                          "pass bytes, or preemptive=True", response)
     request.headers["Authorization"] = header
+    if response.cookies:
+        httpx.Cookies(response.cookies).set_cookie_header(request)
     return request
 
 

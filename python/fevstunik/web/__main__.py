@@ -6,6 +6,7 @@ import argparse
 import logging
 import os
 import socket
+import stat
 import sys
 
 from .._errors import Fault, StoreFailed
@@ -23,7 +24,7 @@ def listener_at(path: str | None) -> socket.socket:
         sys.exit("fevstunik.web: --socket is needed, if systemd passes none")
     made = socket.socket(socket.AF_UNIX)
     with socket.socket(socket.AF_UNIX) as other:
-        if os.path.exists(path) and other.connect_ex(path):
+        if os.path.exists(path) and stat.S_ISSOCK(os.stat(path).st_mode) and other.connect_ex(path):
             os.unlink(path)
     made.bind(path)
     made.listen(_BACKLOG)

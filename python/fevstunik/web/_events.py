@@ -17,7 +17,7 @@ from ._users import User
 
 _log = logging.getLogger("fevstunik.web")
 # Decisions of every request, which nobody reads but to find a fault.
-_QUIET = frozenset({"NO_TOKEN", "GO_ON", "SESSION", "EXEMPT"})
+_QUIET = frozenset({"NO_TOKEN", "GO_ON", "SESSION", "EXEMPT", "LOGOUT"})
 # What an operator has to look at.
 _LOUD = frozenset({"FULL", "OUT_OF_MEMORY", "STORE_FAILED"})
 Networks = list["ipaddress.IPv4Network | ipaddress.IPv6Network"]
@@ -25,11 +25,19 @@ Networks = list["ipaddress.IPv4Network | ipaddress.IPv6Network"]
 
 @dataclass(frozen=True)
 class Event:
-    """A decision: its cause, the text that says why, the user once one is known, and what the request asked for."""
+    """A decision.
+
+    cause   its cause
+    text    why, for a refusal
+    user    who is let in
+    client  the client's name, once a request of its was accepted
+    asked   what a refused request asked for
+    """
 
     cause: str
     text: str = ""
     user: User | None = None
+    client: str | None = None
     asked: Asked | None = None
 
 
@@ -67,7 +75,7 @@ def _line(event: Event) -> str:
 def _fields(event: Event, peer: str) -> dict[str, Any]:
     asked = event.asked
     return {
-        "cause": event.cause, "peer": fit_for_a_line(peer), "user": None if event.user is None else event.user.client,
+        "cause": event.cause, "peer": fit_for_a_line(peer), "user": event.client if event.user is None else event.user.client,
         "asked": None if asked is None else fit_for_a_line(asked.name), "etype": None if asked is None else asked.etype,
         "kvno": None if asked is None else asked.kvno}
 

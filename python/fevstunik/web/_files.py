@@ -96,8 +96,8 @@ class Certificates:
 def hash_of(data: bytes, path: str) -> bytes:
     """The hash of the bindings `tls-server-end-point` of the first certificate in a PEM file."""
     begin, end = b"-----BEGIN CERTIFICATE-----", b"-----END CERTIFICATE-----"
-    first, _, after = data.partition(begin)[2].partition(end)
-    if not _ or not first:
+    first, ended, _ = data.partition(begin)[2].partition(end)
+    if not first or not ended:
         raise ValueError(f"{path} has no certificate in PEM")
     return bindings_of(tls_server_end_point(ssl.PEM_cert_to_DER_cert((begin + first + end).decode("ascii", "replace"))))
 

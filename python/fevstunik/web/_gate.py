@@ -148,18 +148,19 @@ class Gate:
             return Answer(HTTPStatus.SERVICE_UNAVAILABLE, event.cause, (self._terms.retry,)), event
         if decision.cause in _NOT_ALLOWED:
             return Answer(HTTPStatus.FORBIDDEN, event.cause), event
-        # An error goes back to a client that awaits a reply. A browser that gets one shows no page.
-        awaits = decision.asked is not None and decision.asked.mutual
+        # An error goes back to a client that awaits a reply. A browser that gets one shows no page. After a repeat, a new token is all that
+        # is needed: python-requests sends its token again after a redirect, and makes a new one only if it is asked to.
+        awaits = decision.asked is not None and decision.asked.mutual and decision.cause != Code.REPEAT
         return Answer(HTTPStatus.UNAUTHORIZED, event.cause, (_header(decision.reply if awaits else b""),)), event
 
     def _let_in(self, login: Login) -> _Decided:
         reply: Headers = (_header(login.reply),) if login.reply else ()
         if not self._terms.is_bound(login):
-            return _refused(HTTPStatus.UNAUTHORIZED, "CHANNEL_BINDINGS", f"{Code.CHANNEL_BINDINGS.text} ({login.client})", (_CHALLENGE,))
+            return _refused(HTTPStatus.UNAUTHORIZED, "CHANNEL_BINDINGS", Code.CHANNEL_BINDINGS.text, (_CHALLENGE,), login.client)
         try:
             user = self._terms.users.user_of(login)
         except NotAllowed as error:
-            return _refused(HTTPStatus.FORBIDDEN, "NOT_ALLOWED", f"{error} ({login.client})", reply)
+            return _refused(HTTPStatus.FORBIDDEN, "NOT_ALLOWED", str(error), reply, login.client)
         cookie = None if self._cookies is None else self._cookies.of(user)
         if cookie is not None:
             reply += (("Set-Cookie", cookie),)
@@ -177,8 +178,9 @@ def _begin_all() -> None:
 os.register_at_fork(after_in_child=_begin_all)
 
 
-def _refused(status: HTTPStatus, cause: str, text: str, headers: Headers = ()) -> _Decided:
-    return Answer(status, cause, headers), Event(cause, f"{cause}: {text}")
+def _refused(status: HTTPStatus, cause: str, text: str, headers: Headers = (), client: str | None = None) -> _Decided:
+    named = "" if client is None else f" ({client})"
+    return Answer(status, cause, headers), Event(cause, f"{cause}: {text}{named}", client=client)
 
 
 def _header(token: bytes) -> tuple[str, str]:

@@ -68,6 +68,8 @@ class Negotiate:
         given: dict[str, Any] = {
             "skew": skew, "first_life": first_life, "limit": limit, "limit_for_client": limit_for_client,
             "anonymous": users.anonymous, "realms": users.realms, "store": _opened(store, skew)}
+        # (wrong terms are found here, and not at the first request)
+        Serving(path, data, service, {**given, "store": None}).close()
         cookies = None if sessions is None else Cookies(sessions, service or "", users)
         self._gate = Gate(lambda: Serving(path, data, service, given), terms, cookies)
         self._waits = store is not None

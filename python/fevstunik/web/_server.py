@@ -24,7 +24,7 @@ from ._wsgi import App
 _HEAD, _BODY, _CONNECTIONS, _PATIENCE = 262_144, 1_048_576, 1000, 30.0
 _REQUEST_LINE = re.compile(rb"([!#$%&'*+.^_`|~0-9A-Za-z-]+) ([!-~]+) HTTP/1\.([01])\Z")
 _FIELD = re.compile(rb"([!#$%&'*+.^_`|~0-9A-Za-z-]+):[ \t]*([^\0\r\n]*?)[ \t]*\Z")
-_ABSOLUTE = re.compile(rb"\Ahttps?://[^/?#]+", re.I)
+_ABSOLUTE = re.compile(rb"https?://[^/?#]+", re.I)
 _log = logging.getLogger("fevstunik.web")
 
 
@@ -67,13 +67,22 @@ def _head_of(data: bytes) -> _Head:
     fields = [_FIELD.match(it) for it in lines]
     if found is None or None in fields:
         raise _Bad("400 Bad Request")
-    head = _Head(found[1].decode(), _ABSOLUTE.sub(b"", found[2], count=1) or b"/", int(found[3]),
+    head = _Head(found[1].decode(), _target(found[2]), int(found[3]),
                  [(it[1].lower(), it[2]) for it in fields if it is not None])
     if not head.target.startswith(b"/") and (head.method, head.target) != ("OPTIONS", b"*"):
         raise _Bad("400 Bad Request")
     if len(head.values(b"host")) != 1 and (head.minor or head.values(b"host")):
         raise _Bad("400 Bad Request")
     return head
+
+
+def _target(sent: bytes) -> bytes:
+    """The target without scheme and host, with which it may be sent (RFC 9112, section 3.2.2)."""
+    absolute = _ABSOLUTE.match(sent)
+    if absolute is None:
+        return sent
+    rest = sent[absolute.end():]
+    return rest if rest.startswith(b"/") else b"/" + rest
 
 
 class _Connection:
@@ -84,10 +93,11 @@ class _Connection:
     def run(self) -> None:
         """Answer requests until the client or an error ends the connection."""
         try:
-            while self._answered():
-                pass
-        except _Bad as bad:
-            self._send(str(bad), [], str(bad).encode() + b"\n", False)
+            try:
+                while self._answered():
+                    pass
+            except _Bad as bad:
+                self._send(str(bad), [], str(bad).encode() + b"\n", False)
         except OSError:
             return
         self._linger()

@@ -39,6 +39,9 @@ class Serving:
         self._lock = threading.Lock()
         self._rounds: OrderedDict[Hashable, tuple[Connection, float]] = OrderedDict()
 
+    def close(self) -> None:
+        self._service.close()
+
     def answer(self, token: bytes, connection: Hashable) -> Login | GoOn | Refused:
         """Decide about a token. `connection` stands for the client's connection: the second round of a negotiation comes over the same."""
         self._look(False)

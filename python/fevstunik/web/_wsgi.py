@@ -2,7 +2,6 @@
 from __future__ import annotations
 
 import logging
-import sys
 from collections.abc import Callable, Iterable, Iterator
 from http import HTTPStatus
 from typing import Any
@@ -36,27 +35,52 @@ class Middleware:
 
 
 class _Answering:
-    """An application's answer, which gets headers of ours whatever its status is, also if the application fails."""
+    """An application's answer, which gets headers of ours whatever its status is, also if the application fails.
+
+    The server's start_response is called once, when the first bytes are there: gunicorn keeps the headers of an earlier call.
+    """
 
     def __init__(self, headers: Headers, environ: dict[str, Any], start_response: Callable[..., Any]) -> None:
         self._headers, self._environ, self._start = headers, environ, start_response
-        self._begun = False
+        self._held: tuple[str, list[tuple[str, str]]] | None = None
+        self._write: Callable[[bytes], Any] | None = None
 
     def answered(self, app: App) -> Iterable[bytes]:
         try:
             parts = app(self._environ, self._begin)
         except Exception:
             return self._failed()
-        # (a server may know how to send what the application has returned, such as a file)
-        return parts if self._begun else self._watched(parts)
+        if self._held is not None and self._is_whole(parts):
+            self._send()
+            return parts
+        return self._watched(parts)
 
-    def _begin(self, status: str, headers: list[tuple[str, str]], *exc_info: Any) -> Any:
-        self._begun = True
-        return self._start(status, [*headers, *self._headers], *exc_info)
+    def _is_whole(self, parts: Iterable[bytes]) -> bool:
+        """Whether nothing can fail any more, or the server knows how to send it, such as a file."""
+        file = self._environ.get("wsgi.file_wrapper")
+        return isinstance(parts, (list, tuple)) or (isinstance(file, type) and isinstance(parts, file))
+
+    def _begin(self, status: str, headers: list[tuple[str, str]], exc_info: Any = None) -> Callable[[bytes], Any]:
+        if exc_info and self._write is not None:
+            raise exc_info[1].with_traceback(exc_info[2])
+        self._held = status, headers
+        return lambda data: self._send()(data)
+
+    def _send(self) -> Callable[[bytes], Any]:
+        """Start the answer, unless it has begun."""
+        if self._write is None:
+            if self._held is None:
+                raise AssertionError("the application has called no start_response")
+            status, headers = self._held
+            self._write = self._start(status, [*headers, *self._headers]) or (lambda _: None)
+        return self._write
 
     def _watched(self, parts: Iterable[bytes]) -> Iterator[bytes]:
         try:
-            yield from parts
+            for part in parts:
+                self._send()
+                yield part
+            self._send()
         except Exception:
             yield from self._failed()
         finally:
@@ -65,10 +89,11 @@ class _Answering:
                 close()
 
     def _failed(self) -> Iterable[bytes]:
-        """A page in place of the application's. If its answer is on its way, the server raises what the application has raised."""
+        """A page in place of the application's answer, unless that has begun: then the failure is the server's."""
+        if self._write is not None:
+            raise
         _log.exception("the application failed")
-        failed = Answer(HTTPStatus.INTERNAL_SERVER_ERROR, "FAILED", self._headers)
-        return _page(failed, self._environ, lambda *words: self._start(*words, sys.exc_info()))
+        return _page(Answer(HTTPStatus.INTERNAL_SERVER_ERROR, "FAILED", self._headers), self._environ, self._start)
 
 
 def _page(answer: Answer, environ: dict[str, Any], start: Callable[..., Any]) -> list[bytes]:

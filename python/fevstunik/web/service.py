@@ -31,8 +31,8 @@ def app(config: Path) -> App:
     """Return the service of a configuration as an application over WSGI. A name in it that isn't known raises ValueError."""
     with open(config, "rb") as file:
         given = tomllib.load(file)
-    for table, name in ((given, "keytab"), (given.get("sessions", {}), "key")):
-        if name in table:
+    for table, name in ((given, "keytab"), (given.get("sessions"), "key")):
+        if isinstance(table, dict) and isinstance(table.get(name), str):
             table[name] = os.path.join(os.path.dirname(os.path.abspath(config)), table[name])
     return negotiate_of(given).wsgi(_answer)
 
