@@ -154,11 +154,11 @@ def test_a_session_with_a_cookie(made, service, words, tokens):
     assert texts == [HELLO, "hello again\n", "hello again\n"] and pages(service) == ["cookie"] * tokens
 
 
-@pytest.mark.parametrize("page", ["repeat", "repeats"])
+@pytest.mark.parametrize("page", ["repeat", "another", "repeats"])
 def test_a_repeat_is_sent_once_more(made, service, page):
     client = made()
-    if page == "repeat":
-        assert client.ask(f"{service.url}/repeat").text == HELLO
+    if page != "repeats":
+        assert client.ask(f"{service.url}/{page}").text == HELLO
     else:
         with fails(LoginTrouble.REFUSED, ServiceError) as raised:
             client.ask(f"{service.url}/repeats")

@@ -153,6 +153,15 @@ class Handler(BaseHTTPRequestHandler):
             self.server.service.answer(self.token)
         self.hello(self.logged_in())
 
+    def answer_another(self):
+        """As a service does that asks for another token after a repeat."""
+        is_first = self.token is not None and not self.server.repeated
+        self.server.repeated = self.server.repeated or is_first
+        if is_first:
+            self.say(401, "once more\n", b"")
+        else:
+            self.hello(self.logged_in())
+
     def answer_repeats(self):
         """The same for all tokens."""
         if self.token is not None:

@@ -186,13 +186,13 @@ class HttpLogin:
         return sent
 
     def _may_try_again(self, sent: _Sent, text: str | None) -> bool:
-        """Whether another token may be let in, if the service says why it refused this one. It has to be asked for a reply to say so."""
+        """Whether another token may be let in: after a repeat, if the service asks for one and doesn't say why, and by its clock."""
         error = _error_of(sent, text)
+        if text is None or error is not None and error.error is not None and error.error.code == _REPEAT:
+            is_first, self._has_repeated = not self._has_repeated, True
+            return is_first
         if error is None or error.error is None:
             return False
-        if error.error.code == _REPEAT and not self._has_repeated:
-            self._has_repeated = True
-            return True
         may_adjust = self._settings.adjust_clock and sent.origin not in self._adjusted
         if error.error.code == _SKEW and may_adjust and error.clock_offset is not None:
             self._adjusted[sent.origin] = sent.ahead + error.clock_offset

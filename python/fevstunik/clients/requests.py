@@ -31,9 +31,10 @@ class Negotiate(AuthBase):
                   is sent twice, and one that can be read only once raises LoginError (BODY_SPENT)
     canonicalize  whether DNS says by which name a host's service is known. Nobody has signed what DNS says
 
-    A ticket that isn't in the cache is got by ``kvno`` or ``kgetcred``. Each token is for the host that it is sent to. A request that the
-    service has seen before (Repeat) is sent once more with a new token. A redirect needs no proof of its own; the page that it leads to
-    does. After https, no token is sent over http. Over http, whoever is between can answer in the service's name once it has proved itself.
+    A ticket that isn't in the cache is got by ``kvno`` or ``kgetcred``. Each token is for the host that it is sent to. If the service has
+    seen it before (Repeat), or refuses it and doesn't say why, the request is sent once more with a new one. A redirect needs no proof of
+    its own; the page that it leads to does. After https, no token is sent over http. Over http, whoever is between can answer in the
+    service's name once it has proved itself.
 
     Raises LoginError. Threads may share it.
 
