@@ -112,7 +112,7 @@ nothing P o e = subst (λ x. IfSome x P) (sym e) tt
 
 by_cause : (call : Call) (refused : Refused) (cause : Cause) → HasCause call refused cause → ShowsWhatIsOpen call refused
 by_cause call refused (Token fault) h = record { asked = nothing _ refused.asked h.asked; answer = open_reject call _ refused.answer h.answer }
-by_cause call refused (Request refusal) h = of_request call h.0 h.1.0 refusal h.1.1.0 refused h.1.1.1.1
+by_cause call refused (Request refusal) h = of_request call h.0 h.1.0 refusal h.1.1.0 refused h.1.1.1.1.1
 by_cause call refused (Breached breach) h = of_request call h.0 h.1.0 _ h.1.1.1.0 refused h.1.1.1.1.1.1
 by_cause call refused OutOfMemory h = record { asked = nothing _ refused.asked h.1.asked; answer = nothing _ refused.answer h.1.answer }
 by_cause call refused StoreFailed h = absurd h

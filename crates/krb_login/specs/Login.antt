@@ -11,7 +11,7 @@ use Rattle.krb_gss.specs.Negotiation.{IsAsking, Takes}
 use Rattle.krb_ap.specs.Setup.{Setup, Arrival, arrival}
 use Rattle.krb_ap.specs.Taken.{Taken, Accept}
 use Rattle.krb_ap.specs.Answer.{taken_of}
-use Rattle.krb_ap.specs.Causes.{Cause as IsCause, code_of as refusal_code}
+use Rattle.krb_ap.specs.Causes.{Cause as IsCause, TellsPlaceWithin, code_of as refusal_code}
 use Rattle.krb_ap.specs.Opened.{IsOrdinary}
 use Rattle.krb_ap.specs.Reply.{IsReply}
 use Rattle.krb_ap.specs.ErrorReply.{IsErrorReply, IsErrorTooLong}
@@ -163,12 +163,14 @@ pub data MayRunOut (call : Call) : Type 0 where
   asking : (first : Mechanism) → call.negotiation ≡ Begun → IsAsking first call.bytes → MayRunOut call
   deciding : (carrier : Carrier) (request : List ℕ) → HoldsRequest call carrier request → IsOrdinary request → MayRunOut call
 
--- The error of a breach of the terms has the code of `Authorization`, KRB_ERR_GENERIC.
+-- A refusal tells no place outside of the request. The error of a breach of the terms has the code of
+-- `Authorization`, KRB_ERR_GENERIC.
 abbrev pub HasCause : Call → Refused → Cause → Type 0
 HasCause call refused (Token fault) = IsFaultySo call.negotiation call.bytes fault refused
 HasCause call refused (Request refusal) =
     (carrier : Carrier) × ((request : List ℕ) × (HoldsRequest call carrier request
-    × (IsCause call.setup call.history (arrival request call.now) refusal × IsRefusedSo call.now carrier request refusal refused)))
+    × (IsCause call.setup call.history (arrival request call.now) refusal × (TellsPlaceWithin request refusal
+    × IsRefusedSo call.now carrier request refusal refused))))
 HasCause call refused (Breached breach) =
     (carrier : Carrier) × ((request : List ℕ) × ((taken : Taken) × (HoldsRequest call carrier request
     × (Accept call.setup call.history (arrival request call.now) taken

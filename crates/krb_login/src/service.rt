@@ -6,13 +6,13 @@ ghost use Rattle.krb_ap.specs.History.{IsShownLately};
 ghost use Rattle.krb_login.specs.Inner.{IsJudged};
 ghost use Rattle.krb_ap.specs.Answer.{taken_of};
 ghost use Rattle.krb_ap.specs.Opened.{IsOrdinary};
-ghost use Rattle.krb_ap.specs.Service.{Stands};
+ghost use Rattle.krb_ap.specs.Service.{SameMemory, Stands};
 ghost use Rattle.krb_ap.specs.Setup.{Arrival, arrival};
 ghost use Rattle.krb_ap.specs.Taken.{Accept};
 ghost use Rattle.krb_gss.specs.Negotiation.{IsAsking};
 ghost use Rattle.krb_login.specs.Terms.{IsFirstBroken, Meets};
 ghost use Rattle.krb_gss.specs.declared.negotiating.Negotiation.{Negotiation as NegotiationValue};
-ghost use Rattle.krb_ap.specs.Causes.{Cause as IsCause};
+ghost use Rattle.krb_ap.specs.Causes.{Cause as IsCause, TellsPlaceWithin};
 ghost use Rattle.krb_ap.specs.declared.reply.ReplyOptions.{ReplyOptions as ReplyOptionsValue};
 ghost use Rattle.krb_gss.specs.Answer.{WritesVerdict};
 ghost use Rattle.krb_login.specs.Carrying.{Carries, IsNegotiating};
@@ -87,6 +87,11 @@ impl<M: ReplayMemory> Service<M> {
         ensures forgets { IsTrue M.FORGETS → (history : List Arrival)
             → Stands M.has M.newest self.old.acceptor history → IsDecided result
             → GoesOn (λ after. SameStamps (IsShownLately self.old.acceptor.setup after) (M.has self.new.acceptor.memory))
+            (call_of self.old.terms self.old.acceptor.setup history negotiation.old given.entry) result }
+        // If the history stays the same, the memory does.
+        ensures unchanged { (history : List Arrival)
+            → Stands M.has M.newest self.old.acceptor history
+            → GoesOn (λ after. after ≡ history → SameMemory M.has M.newest self.old.acceptor.memory self.new.acceptor.memory)
             (call_of self.old.terms self.old.acceptor.setup history negotiation.old given.entry) result }
         ensures limits { M.limits self.new.acceptor.memory ≡ M.limits self.old.acceptor.memory }
     {
@@ -201,6 +206,12 @@ impl<M: ReplayMemory> Service<M> {
             → Carries negotiation carrier request.now bytes
             → GoesOn (λ after. SameStamps (IsShownLately self.old.acceptor.setup after) (M.has self.new.acceptor.memory))
             (call_with self.old.terms self.old.acceptor.setup history negotiation bytes given.entry) result }
+        ensures unchanged { (history : List Arrival)
+            → Stands M.has M.newest self.old.acceptor history
+            → (negotiation : NegotiationValue) (bytes : List ℕ)
+            → Carries negotiation carrier request.now bytes
+            → GoesOn (λ after. after ≡ history → SameMemory M.has M.newest self.old.acceptor.memory self.new.acceptor.memory)
+            (call_with self.old.terms self.old.acceptor.setup history negotiation bytes given.entry) result }
         ensures limits { M.limits self.new.acceptor.memory ≡ M.limits self.old.acceptor.memory }
     {
         let Given {
@@ -277,6 +288,8 @@ impl<M: ReplayMemory> Service<M> {
         ensures forgets { IsTrue M.FORGETS → (history : List Arrival)
             → Stands M.has M.newest self.old.acceptor history → IsJudged result
             → SameStamps (IsShownLately self.old.acceptor.setup (arrival request.now now ∷ history)) (M.has self.new.acceptor.memory) }
+        ensures unchanged { IfErr result (λ refused. (IsOfRequest refused.cause → ⊥)
+            → SameMemory M.has M.newest self.old.acceptor.memory self.new.acceptor.memory) }
         ensures limits { M.limits self.new.acceptor.memory ≡ M.limits self.old.acceptor.memory }
     {
         let accepted = match self.acceptor.accept(alloc, request, now) {
@@ -298,7 +311,8 @@ impl<M: ReplayMemory> Service<M> {
 // Answers a request that the acceptor refuses for a cause.
 fn refuse(alloc: Global, carrier: Carrier, request: &[u8], now: Moment, refusal: Refusal) -> Refused
     ensures cause { (call : Call) → HoldsRequest call carrier request.now → call.now ≡ now
-        → IsCause call.setup call.history (arrival request.now call.now) refusal → HasCause call result result.cause }
+        → IsCause call.setup call.history (arrival request.now call.now) refusal → TellsPlaceWithin request.now refusal
+        → HasCause call result result.cause }
     ensures decides { IsOfRequest result.cause }
 {
     let cause = Cause::Request(refusal);

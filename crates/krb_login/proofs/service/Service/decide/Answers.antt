@@ -1,6 +1,7 @@
 use Rattle.std.proofs.Common.{◌∷◌, refl}
 use Rattle.krb_ap.specs.Setup.{arrival}
 use Rattle.krb_login.specs.Login.{added, call_with}
+use Rattle.krb_login.proofs.Stepping.{no_longer, undecided_if_same}
 use Rattle.krb_login.proofs.service.Service.decide.Goals as goal
 
 pub returns-in-Ok-clause-decided : goal.returns-in-Ok-clause-decided
@@ -37,3 +38,20 @@ returns-in-Err-clause-forgets g c forgets history stands decided negotiation byt
   is_after = added c.args.carrier c.args.request.now decided carries refl;
   stands = c.in-Err.ensures.forgets forgets history stands decided;
 }
+
+pub returns-in-Ok-clause-unchanged : goal.returns-in-Ok-clause-unchanged
+returns-in-Ok-clause-unchanged g c history stands negotiation bytes carries = record {
+  after = (arrival c.args.request.now c.args.given.now) ∷ history;
+  is_after = c.let_in.ensures.after (call_with c.args.self.now.terms c.args.self.now.acceptor.setup history negotiation bytes c.args.given) c.args.request.now carries
+      (c.in-Ok.ensures.accepted history stands) c.in-Ok.ensures.meets;
+  stands = λ same. absurd (no_longer _ history same);
+}
+
+pub returns-in-Err-clause-unchanged : goal.returns-in-Err-clause-unchanged
+returns-in-Err-clause-unchanged g c history stands negotiation bytes carries =
+    let on = c.in-Err.ensures.goes_on history stands negotiation bytes c.args.given.confounder.now c.args.given.choice carries in
+    record {
+      after = on.after;
+      is_after = on.is_after;
+      stands = λ same. c.in-Err.ensures.unchanged (undecided_if_same (call_with c.args.self.now.terms c.args.self.now.acceptor.setup history negotiation bytes c.args.given) c.in-Err.refused on.after on.is_after same);
+    }

@@ -21,7 +21,7 @@ returns-then-is_memory-clause-refused g c history stands negotiation bytes confo
 pub returns-in-Err-clause-refused : goal.returns-in-Err-clause-refused
 returns-in-Err-clause-refused g c history stands negotiation bytes confounder choice carries =
     c.refuse.ensures.cause (call_for c.args.self.now.terms c.args.self.now.acceptor.setup history negotiation bytes c.args.now confounder choice) carries refl
-    (c.in-Err.ensures.answer history stands (is_not _ _ c.is_memory.ensures c.if-is_memory.false))
+    (c.in-Err.ensures.answer history stands (is_not _ _ c.is_memory.ensures c.if-is_memory.false)) c.in-Err.ensures.offset
 
 pub returns-in-Err-clause-goes_on : goal.returns-in-Err-clause-goes_on
 returns-in-Err-clause-goes_on g c history stands negotiation bytes confounder choice carries = record {
@@ -70,3 +70,12 @@ returns-clause-moves g c = λ judged. c.in-Ok.ensures.moves (no_refusal _ _)
 
 pub returns-clause-forgets : goal.returns-clause-forgets
 returns-clause-forgets g c forgets history stands judged = c.in-Ok.ensures.forgets forgets history stands (no_refusal _ _)
+
+pub returns-then-is_memory-clause-unchanged : goal.returns-then-is_memory-clause-unchanged
+returns-then-is_memory-clause-unchanged g c = λ _. c.in-Err.ensures.unchanged (ap Err (is_so _ _ c.is_memory.ensures c.if-is_memory.true))
+
+pub returns-in-Err-clause-unchanged : goal.returns-in-Err-clause-unchanged
+returns-in-Err-clause-unchanged g c = λ none. absurd (none c.refuse.ensures.decides)
+
+pub returns-in-Some-clause-unchanged : goal.returns-in-Some-clause-unchanged
+returns-in-Some-clause-unchanged g c = λ none. absurd (none c.turn_away.ensures.decides)
