@@ -191,15 +191,15 @@ def memory_table(ours):
     print(f"\nadvance drops 500,000 tuples in {half * 500_000 / 1e6:.0f} ms, and 250,000 in {quarter * 250_000 / 1e6:.0f} ms.")
 
 
-def greatest_table(folder, ours, held=10_000_000, thousands=1_000):
-    """What a call takes more at most, of a million calls on a memory that has as many tuples as its limits allow: valgrind counts the instructions
-    of a thousand calls at a time, so one call can't take more than what the greatest count is above the least."""
+def greatest_table(folder, ours, held=10_000_000, lines=2_000):
+    """What a call takes more at most, of 20,000 calls on a memory that has as many tuples as its limits allow: valgrind counts the instructions
+    of ten calls at a time, so one call can't take more than what the greatest count is above the least."""
     out = folder / "counted"
-    said(["valgrind", "-q", "--tool=callgrind", f"--callgrind-out-file={out}", "--dump-before=write", ours, "calls", "limited", str(held), str(thousands)])
+    said(["valgrind", "-q", "--tool=callgrind", f"--callgrind-out-file={out}", "--dump-before=write", ours, "calls", "limited", str(held), str(lines)])
     # before the first line the memory is filled
-    counts = [instructions(folder / f"counted.{it}") for it in range(2, thousands + 2)]
+    counts = [instructions(folder / f"counted.{it}") for it in range(2, lines + 2)]
     least, greatest = min(counts), max(counts)
-    print(f"\n{held:,} tuples held, {1_000 * thousands:,} calls: a thousand calls take {least:,} instructions at least and {greatest:,} at most, "
+    print(f"\n{held:,} tuples held, {10 * lines:,} calls: ten calls take {least:,} instructions at least and {greatest:,} at most, "
           f"so a call takes at most {greatest - least:,} more than another.")
 
 

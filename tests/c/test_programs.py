@@ -102,6 +102,21 @@ def test_what_requests_take(archive, tmp_path, checks):
     c_programs.counted(checks, run(program, KEYTAB, CACHE, other, 300_000, 1_000_000))
 
 
+def test_no_pause(archive, tmp_path, checks):
+    """What has expired is freed in small portions: the instructions of requests after many have expired at once."""
+    counting = ["valgrind", "-q", "--tool=callgrind", f"--callgrind-out-file={tmp_path}/counted"]
+    counting.append("--dump-before=counted")
+    program = linked(archive, tmp_path / "pauses", of_tests("pauses"))
+    c_programs.counted(checks, run(*counting, program, KEYTAB, CACHE, 5_000))
+    counts = [instructions(tmp_path / f"counted.{it}") for it in range(2, 82)]
+    checks.equal("200 microseconds more at most", max(counts) - min(counts) < 600_000, True)
+
+
+def instructions(path):
+    """The count of a file of callgrind."""
+    return next(int(it.split()[1]) for it in path.read_text().splitlines() if it.startswith("totals:"))
+
+
 def test_leaks(archive, tmp_path):
     """The program of the exchange under valgrind, linked to the system's C library, whose allocations valgrind sees."""
     program = linked(archive, tmp_path / "library", of_tests("library"))
