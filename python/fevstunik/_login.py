@@ -383,7 +383,8 @@ class Service(Serving):
         if asked is not None and not first_life:
             started = _start_over(asked, skew, started)
         options = options_of(service, skew, started, first_life, (limit, limit_for_client))
-        _bind(options, bindings, _flag("bindings_required", bindings_required))
+        options.bindings, bound = _bound(bindings, _flag("bindings_required", bindings_required))
+        options.bindings_hash = type(options.bindings_hash)(*bound)
         if subkey not in _KEYS or isinstance(subkey, bool):
             raise ValueError(f"subkeys are of type 19 or 20, not {subkey!r}")
         if isinstance(realms, (str, bytes)):
@@ -454,6 +455,24 @@ class Service(Serving):
         """
         return Connection(self)
 
+    def replace_bindings(self, bindings: Bytes | None, *, required: bool = False) -> None:
+        """Take other channel bindings, for example those of a renewed certificate. All else stays.
+
+        bindings  as tls_server_end_point returns them; None looks at no client's
+        required  whether each client must send these bindings, as bindings_required of Service
+
+        A client whose connection was opened before that still sends the old ones, and is refused.
+
+        >>> from fevstunik import Client, CredentialCache, Keytab, Service
+        >>> service = Service(Keytab.read("examples/service.keytab"), "host/web@EX", first_life=True, bindings=b"old")
+        >>> service.replace_bindings(b"new", required=True)
+        >>> client = Client(CredentialCache.read("examples/client.ccache"), "host/web@EX", bindings=b"new")
+        >>> service.answer(client.first(now=1_700_000_100), now=1_700_000_100).client
+        'alice@EX'
+        """
+        rule, bound = _bound(bindings, _flag("required", required))
+        done(self._handle.call("acceptor_replace_bindings", rule, bound, len(bound)))
+
     def replace_keytab(self, keytab: Keytab, service: str | None) -> None:
         """Take another keytab, as Acceptor.replace_keytab does. The terms stay.
 
@@ -496,14 +515,13 @@ def _start_over(store: Store, skew: int, started: When | None) -> Moment:
     return start if started is None else max(start, Moment.of(started))
 
 
-def _bind(options: _interface.AcceptorOptions, bindings: Bytes | None, required: bool) -> None:
-    """Write to the options which bindings a client has to send."""
-    if bindings is None:
-        if required:
-            raise ValueError("bindings_required needs the bindings")
-        return
-    options.bindings = _REQUIRED if required else _IF_SENT
-    options.bindings_hash = type(options.bindings_hash)(*bindings_of(bindings))
+def _bound(bindings: Bytes | None, required: bool) -> tuple[int, bytes]:
+    """What becomes of a client's bindings, and the hash that they are compared with."""
+    if bindings is not None:
+        return _REQUIRED if required else _IF_SENT, bindings_of(bindings)
+    if required:
+        raise ValueError("bindings_required needs the bindings")
+    return _IGNORED, b""
 
 
 def _flag(name: str, value: bool) -> bool:

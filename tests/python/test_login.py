@@ -164,6 +164,21 @@ def test_bindings(words, sent, let_in):
         assert isinstance(service.answer(asking(6), NOW), Refused if "bindings_required" in words else Login)
 
 
+def test_bindings_are_replaced():
+    with serving(bindings=CHANNEL, bindings_required=True) as service:
+        service.replace_bindings(OTHER, required=True)
+        assert service.answer(bound_to(CHANNEL, 1), NOW).cause == Code.CHANNEL_BINDINGS
+        assert service.answer(bound_to(OTHER, 2), NOW).client == "alice@EX"
+        assert service.answer(bound_to(None, 3), NOW).cause == Code.CHANNEL_BINDINGS
+        service.replace_bindings(OTHER)
+        assert service.answer(bound_to(None, 4), NOW).client == "alice@EX"
+        with pytest.raises(ValueError):
+            service.replace_bindings(None, required=True)
+        assert service.answer(bound_to(CHANNEL, 5), NOW).cause == Code.CHANNEL_BINDINGS
+        service.replace_bindings(None)
+        assert service.answer(bound_to(CHANNEL, 6), NOW).client == "alice@EX"
+
+
 def test_bindings_of_a_real_client(cache):
     with serving(bindings=CHANNEL, bindings_required=True) as service:
         client = Client(cache, NAME, bindings=CHANNEL)

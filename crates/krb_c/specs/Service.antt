@@ -47,7 +47,7 @@ fresh entries skew start limit limit_for_client terms subkey_type = record {
   service = record {
     acceptor = record {
       setup = record { entries = entries; skew = skew; start = start };
-      memory = limited (record { stamps = []; latest = None }) limit limit_for_client;
+      memory = limited (record { stamps = []; latest = None; unfreed = 0 }) limit limit_for_client;
     };
     terms = terms;
   };

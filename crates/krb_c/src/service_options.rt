@@ -71,7 +71,7 @@ fn acceptor_of(
     memory: LimitedMemory<TimedMemory>,
     start: Option<Moment>,
 ) -> Acceptor<LimitedMemory<TimedMemory>>
-    requires { memory.memory ≡ record { stamps = []; latest = None } }
+    requires { memory.memory ≡ record { stamps = []; latest = None; unfreed = 0 } }
     ensures setup { result.setup ≡ record { entries = keytab; skew = skew; start = start } }
     ensures memory { result.memory ≡ memory }
     ensures stands { StandsFor result.setup (Contains result.memory.memory.stamps) result.memory.memory.latest [] }
