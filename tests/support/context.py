@@ -10,7 +10,7 @@ from support.sealing import TYPES, checksum, sealed
 PROGRAM = "krb_calls_context"
 SIGN, SEAL = {"acceptor": 23, "initiator": 25}, {"acceptor": 22, "initiator": 24}
 DEFECTIVE, WRONG = "the bytes are no token of this kind", "the checksum is wrong"
-OTHER_SIDE, OTHER_KEY = "the token was sent by the other side", "the token is under another key"
+OTHER_SIDE, OTHER_KEY = "the token was sent back: it is of the side that reads it", "the token is under another key"
 NOT_NEXT, WINDOW = "the token isn't the next one", 64
 KEYS = [(19, bytes(range(16))), (20, bytes(range(100, 132)))]
 

@@ -16,10 +16,10 @@ pub struct Agreed {
     pub initiator_subkey: Option<Key>,
     /// The subkey that the service's reply has.
     pub acceptor_subkey: Option<Key>,
-    /// The sequence number that the authenticator has.
+    /// The sequence number that the authenticator has; 0 if it has none.
     pub initiator_number: u32,
-    /// The sequence number that the reply has. If there is no reply, MIT krb5 takes the
-    /// authenticator's.
+    /// The sequence number that the reply has; 0 if it has none. If there is no reply, MIT krb5
+    /// takes the authenticator's.
     pub acceptor_number: u32,
 }
 
@@ -52,8 +52,9 @@ impl Agreed {
 /// How a side of a context writes and takes tokens.
 #[derive(Clone, Copy, Debug, PartialEq, Eq)]
 pub struct Options {
-    /// By how many bytes sealed tokens are rotated when they are written (RRC): 0, or 28 as Windows
-    /// writes them. Tokens that are read may have any number.
+    /// By how many bytes sealed tokens are rotated when they are written (RRC): any number. 0 is what
+    /// MIT krb5 writes; 32 (type 19) or 40 (type 20) puts the tag and the sealed header in front.
+    /// Tokens that are read may have any number.
     pub rotation: u16,
     /// Whether only the next token is taken, and each other one refused.
     pub is_in_order: bool,

@@ -16,8 +16,7 @@ use crate::role::Role;
 use krb_enc::ShortSlice;
 use std::marker::Model;
 
-/// One side of a context: it counts the tokens that it sends, and knows which ones it took. It is
-/// held in place.
+/// One side of a context: it counts the tokens that it sends, and knows which ones it took.
 ///
 /// The type has no `Debug`, so no log shows a key.
 #[derive(Drop)]
@@ -89,7 +88,7 @@ impl Context {
     /// - `NumbersUsedUp`: a token with the last number was sent.
     /// - `ShortSlice`: the MIC token is longer than `token`.
     ///
-    /// Source: RFC 4121, sections 4.2.4 and 4.2.6.1.
+    /// Source: RFC 4121, sections 4.2.1, 4.2.2, 4.2.4 and 4.2.6.1.
     pub fn mic_to(&mut self, text: &[u8], token: &mut [u8]) -> Result<usize, SendFault>
         ensures { IsSent (λ number. mic_token self.old.sender number text.now)
             self.old self.new token.old token.new result }
@@ -140,6 +139,8 @@ impl Context {
 
     /// Returns the length of the longest text whose Wrap token has at most `size` bytes; none if even
     /// the token of an empty text is longer.
+    ///
+    /// Source: RFC 2743, section 2.2.7.
     pub fn wrap_size_limit(&self, size: usize, is_sealed: bool) -> Option<usize>
         ensures fits { IfSome result (λ limit. (confounder text : List ℕ) (number : ℕ) → length confounder ≡ 16
             → (length (wrap_token self.now.sender is_sealed self.now.options.rotation confounder number text) ≤ size)
@@ -151,7 +152,8 @@ impl Context {
     }
 
     /// Checks that `token` is a MIC token of `text` from the other side and takes it. Returns its
-    /// number, and how it stands to those that were taken before it.
+    /// number, and how it stands to those that were taken before it. Unless the options ask for
+    /// order, a repeat or an old token is taken, too: look at `order`.
     ///
     /// # Errors
     /// The first that applies. In each case the context is unchanged.
@@ -173,7 +175,8 @@ impl Context {
     }
 
     /// Opens a Wrap token of the other side in place and takes it. Returns where its text is in
-    /// `token`, and how it stands to those that were taken before it.
+    /// `token`, and how it stands to those that were taken before it. Unless the options ask for
+    /// order, a repeat or an old token is opened, too: look at `order`.
     ///
     /// # Errors
     /// The first that applies. In each case the context is unchanged. After `Integrity` and

@@ -22,8 +22,7 @@ const SEALED: u8 = 2;
 
 const ACCEPTOR_SUBKEY: u8 = 4;
 
-/// What makes and checks the tokens that one side sends, prepared once for many texts. It is held in
-/// place.
+/// What makes and checks the tokens that one side sends, prepared once for many texts.
 ///
 /// A contract sees the key, the side and the flag AcceptorSubkey. The type has no `Debug`, so no log
 /// shows a key.
@@ -72,7 +71,7 @@ impl Direction {
     ///
     /// Source: RFC 4121, section 2.
     pub fn new(key: &Key, side: Role, is_acceptor_subkey: bool) -> Direction
-        ensures { result ≡ sender_of key.now side is_acceptor_subkey }
+        ensures { result ≡ record { key = key.now; side = side; acceptor_subkey = is_acceptor_subkey } }
     {
         Direction {
             side,

@@ -9,12 +9,12 @@ use thiserror::Error;
 /// Why a token isn't accepted.
 #[derive(Clone, Copy, Debug, PartialEq, Eq, Error)]
 pub enum MessageFault {
-    /// The bytes aren't a token of this kind: they are too few, they don't begin with its number and
-    /// its filler, a MIC token says that it is sealed, or a count doesn't fit the token.
+    /// The bytes aren't a token of this kind: they are too few, they don't begin with its identifier
+    /// (TOK_ID) and its filler, a MIC token says that it is sealed, or EC doesn't fit the token.
     #[error("the bytes are no token of this kind")]
     Defective,
     /// The flag SentByAcceptor is that of the other side: the token was sent back.
-    #[error("the token was sent by the other side")]
+    #[error("the token was sent back: it is of the side that reads it")]
     Direction,
     /// The flag AcceptorSubkey says that the token is under another key than the context's.
     #[error("the token is under another key")]

@@ -12,7 +12,7 @@ const SLOTS: usize = 64;
 pub enum Order {
     /// It is the next one.
     Next,
-    /// It comes after the next one: tokens between them are missing (GSS_S_GAP_TOKEN).
+    /// It comes after the next one, which is missing, and so are all between them (GSS_S_GAP_TOKEN).
     AfterGap,
     /// It was missing until now (GSS_S_UNSEQ_TOKEN).
     Late,
