@@ -224,11 +224,15 @@ def test_names():
     assert len(parts) >= 9
 
 
+# A table of a store, and a counter of web logins.
+NO_FUNCTIONS = {"fevstunik_store", "fevstunik_web_decisions_total"}
+
+
 @pytest.mark.parametrize("name", LINKING)
 def test_functions(name):
     """The functions of the library for C that a document names are in its header."""
     header = (TOP / "include/fevstunik.h").read_text()
-    named = set(re.findall(r"\bfevstunik_[a-z_]+[a-z]\b", text_of(name)))
+    named = set(re.findall(r"\bfevstunik_[a-z_]+[a-z]\b", text_of(name))) - NO_FUNCTIONS
     assert sorted(it for it in named if it not in header) == []
 
 

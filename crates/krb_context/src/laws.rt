@@ -1,13 +1,13 @@
 //! Laws over the definitions, for all keys, texts and numbers. Each function has an empty body: its
 //! contract is the law.
 
-ghost use Rattle.std.specs.Prelude.{◌≡◌, ◌⊎◌, ◌<◌, ◌+◌, ◌^◌, ℕ, List, [], Some, All, Bool, Contains, length};
+ghost use Rattle.std.specs.Prelude.{◌≡◌, ◌⊎◌, ◌<◌, ◌+◌, ◌^◌, ℕ, List, All, Bool, Contains, length};
 ghost use Rattle.krb_context.specs.Side.{Sender, peer_of, peer_sender};
 ghost use Rattle.krb_context.specs.Mic.{IsMic, mic_token};
 ghost use Rattle.krb_context.specs.Wrap.{IsWrap, rotated_token, sealed_token, wrap_overhead, wrap_token};
 ghost use Rattle.krb_context.specs.Faults.{IsMicFault, IsWrapFault};
-ghost use Rattle.krb_context.specs.Sequence.{IsOrder, Stands, sent_numbers};
-ghost use Rattle.krb_context.specs.Context.{HasOrder, IsNextFor, IsOutOfOrder, State, Takes, first_of, number_after, sender_in};
+ghost use Rattle.krb_context.specs.Sequence.{IsOrder, sent_numbers};
+ghost use Rattle.krb_context.specs.Context.{HasOrder, IsNextFor, IsOutOfOrder, State, Takes, number_after, sender_in};
 ghost use Rattle.krb_context.specs.declared.agreed.Agreed.{Agreed};
 ghost use Rattle.krb_context.specs.declared.fault.MessageFault.{MessageFault};
 ghost use Rattle.krb_context.specs.declared.fault.ReceiveFault.{ReceiveFault};
@@ -72,15 +72,10 @@ pub fn each_number_once()
         → IsOrder first taken number one → IsOrder first taken number other → one ≡ other }
 {}
 
-/// Two sides that were made of what both agreed on begin so that the next token that a side sends
-/// reaches the other side: if that one took all tokens before it,
+/// The next token that a side sends reaches the other side: if that one took all tokens before it,
 /// in their order, then it takes this one with its text, as the next one, also if it takes tokens
 /// only in order. What it took is never the next one again.
 pub fn the_next_token_is_taken()
-    ensures begins { (agreed : Agreed) (side : Role) (from to : State)
-        → from.sender ≡ sender_in agreed side → to.sender ≡ sender_in agreed (peer_of side)
-        → from.next ≡ Some (first_of agreed side) → first_of agreed side < 2 ^ 64 → from.options.rotation < 2 ^ 16
-        → Stands to.window (first_of agreed (peer_of (peer_of side))) [] → IsNextFor from to (first_of agreed side) 0 }
     ensures wrap { (from to : State) (first count : ℕ) (is_sealed : Bool) (confounder text : List ℕ)
         → IsNextFor from to first count → length confounder ≡ 16 → All (λ byte. byte < 256) confounder → All (λ byte. byte < 256) text
         → IsWrap (peer_sender to.sender) is_sealed (first + count) text

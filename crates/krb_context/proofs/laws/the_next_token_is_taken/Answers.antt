@@ -3,7 +3,6 @@ use Rattle.krb_context.proofs.laws.the_next_token_is_taken.Goals as goal
 
 pub returns : goal.returns
 returns c = record {
-  begins = search;
   wrap = next_wrap;
   mic = next_mic;
   next = next_order;
