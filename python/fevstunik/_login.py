@@ -355,7 +355,7 @@ class Service(Serving):
     bindings_required
                 whether each client must send these bindings. Otherwise one that sends none is let in, but none that sends others
     anonymous   whether anonymous clients are let in (RFC 8062)
-    realms      the realms of which clients are let in, as ["EX"], or None for any: a KDC checked the realms between
+    realms      the realms whose clients are let in, as ["EX"], or None for any: a KDC checked the realms between
     subkey      19 or 20 to send a new key of this type with each reply, or None. Those who go on to seal messages want one
 
     Pass a store, or just one of started and first_life. The skew is no larger than that of the store.

@@ -96,7 +96,7 @@ def test_who_comes_in(made, over, rules, more, wanted):
 
 @pytest.fixture(scope="module")
 def certificates(tmp_path_factory):
-    """Two certificates in PEM, of which one has a chain after it, and the hashes of their bindings."""
+    """Two certificates in PEM, one with a chain after it, and the hashes of their bindings."""
     folder, paths, hashes = tmp_path_factory.mktemp("certificates"), [], []
     for name, kind in (("rsa", "rsa:2048"), ("ec", "ec")):
         path = folder / f"{name}.pem"

@@ -75,7 +75,7 @@ def realms_of(data: bytes, service: str | None) -> list[str]:
 
 
 class Certificates:
-    """The certificates of a TLS server, of which each may be the one that a client's channel has; `known` has their hashes so far."""
+    """The certificates of a TLS server: a client's channel may have any of them. `known` has their hashes so far."""
 
     def __init__(self, paths: Iterable[Path]) -> None:
         self._files = [Watched(it) for it in paths]

@@ -110,7 +110,7 @@ class Users:
 
     @property
     def realms(self) -> list[str] | None:
-        """The realms of which clients are let in, or None for any.
+        """The realms whose clients are let in, or None for any.
 
         >>> Users(realms={"EXAMPLE.COM": "{user}"}).realms
         ['EXAMPLE.COM']

@@ -116,5 +116,5 @@ def _values(environ: dict[str, Any], name: str) -> list[bytes]:
 
 
 def _bytes(environ: dict[str, Any], name: str) -> bytes:
-    """The bytes of a header, of which the server has made a text."""
+    """The bytes of a header that the server has made a text of."""
     return str(environ.get(name, "")).encode("latin-1", "replace")
