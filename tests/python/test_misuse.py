@@ -251,8 +251,10 @@ def test_signal_handlers_ask_for_moments():
     """No moment is given twice, also if a handler asks in the middle of another asking."""
     found, handled = [], []
     with signals(lambda: handled.append(_values._own_moments.next())):
-        for _ in range(50_000):
+        for _ in range(5_000_000):
             found.append(_values._own_moments.next())
+            if len(found) >= 50_000 and len(handled) > 10:
+                break
     assert len(handled) > 10 and len(set(found + handled)) == len(found) + len(handled)
 
 

@@ -138,9 +138,9 @@ def believed(functions):
 def row(promise, functions):
     found = believed(functions)
     crates = sorted({it.path.split("/")[1] for it in found})
-    linked = ", ".join(f"[`{place_of(it)[1]}`](../{contract(it).path}#L{contract(it).first})" for it in functions)
+    named = ", ".join(f"`{place_of(it)[1]}` ({contract(it).path}:{contract(it).first})" for it in functions)
     files, lines = len({it.path for it in found}), sum(it.size for it in found)
-    return f"| {promise} | {linked} | {', '.join(f'`{it}`' for it in crates)} | {files} | {lines:,} |"
+    return f"| {promise} | {named} | {', '.join(f'`{it}`' for it in crates)} | {files} | {lines:,} |"
 
 
 def files():
