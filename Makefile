@@ -27,7 +27,7 @@ TO_DOC = $(DESTDIR)$(DOCDIR)
 # What install may have made and no system has from the start; inner folders first.
 FOLDERS = $(NEWER:%=$(TO_LIB)/glibc-hwcaps/%) $(TO_LIB)/glibc-hwcaps $(TO_LIB)/pkgconfig $(MANDIR)/man1 $(MANDIR)/man3 \
   $(SHARE)/bash-completion/completions $(SHARE)/bash-completion $(DESTDIR)$(ZSHDIR) $(SHARE)/zsh \
-  $(TO_DOC)/examples/negotiate $(TO_DOC)/examples/service $(TO_DOC)/examples $(TO_DOC)/docs $(TO_DOC)/bench $(TO_DOC)/tests $(TO_DOC) $(SHARE)/doc
+  $(TO_DOC)/examples/negotiate $(TO_DOC)/examples/service $(TO_DOC)/examples/sign $(TO_DOC)/examples $(TO_DOC)/docs $(TO_DOC)/bench $(TO_DOC)/tests $(TO_DOC) $(SHARE)/doc
 # The loader finds a new library when its cache has it. (A library that is staged for packing isn't in use yet.)
 RUN_LDCONFIG = [ -n "$(DESTDIR)" ] || [ "$$(id -u)" != 0 ] || ldconfig
 BUILD := build
@@ -133,17 +133,17 @@ SHELL_FILES := test krbtool packaging/build-library packaging/link-library packa
 .PHONY: help lint test
 help:
 	@echo 'make              builds krbtool and the library for C (it proves them first)'
-	@echo 'make install      installs them; packaging/INSTALL says which variables there are'
+	@echo 'make install      installs them; the top of the Makefile has PREFIX, LIBDIR and others'
 	@echo 'make check        proves, builds and tests everything: ./test'
 	@echo 'make test         runs the tests of what is built'
 	@echo 'make test T=NAME  runs the tests whose names contain NAME'
 	@echo 'make lint         checks the layout of Python, C and shell, and looks for common mistakes'
-	@echo 'make dist         makes the source tarball'
+	@echo 'make dist         packs what was built; make dist-src packs the sources, make wheel the Python package'
 
 test:
 	$(PYTEST) $(if $(T),-k '$(T)',-n auto --dist loadgroup) tests
 
 lint:
 	flake8 tests tools
-	clang-format --dry-run --Werror $$(git ls-files 'tests/peers/*.[ch]' 'tests/support/*.[ch]')
+	clang-format --dry-run --Werror $$(git ls-files 'tests/peers/*.[ch]' 'tests/support/*.[ch]' 'tests/context/*.[ch]' 'examples/service/*.[ch]' 'examples/sign/*.[ch]')
 	shellcheck --severity=warning --exclude=SC2164 $(SHELL_FILES)

@@ -1,14 +1,12 @@
-"""Times requests made and accepted beside MIT krb5, over the same tickets, and prints tables of ratios. run.py calls it."""
+"""Tickets, keytabs and caches of the requests that are timed, and requests that a service refuses."""
 import calendar
-import resource
 import struct
-import subprocess
 import sys
+import threading
 import time
 from pathlib import Path
 
 import files
-from pairs import PAIRS as SHORT_PAIRS, compared, time_of
 
 TOP = Path(__file__).resolve().parent.parent
 sys.path.append(str(TOP / "tests"))
@@ -18,8 +16,11 @@ from support.sealing import BASE, sealed
 REALM, SERVICE, CLIENT = b"EXAMPLE.TEST", (b"host", b"web0.example.test"), b"alice"
 SESSION = {19: bytes(range(16)), 20: bytes(range(32))}
 HOURS_10 = 36_000
-SKEW = 300
+# How many bytes of authorization data a ticket has, if it has any.
 PAC = 1_024
+# The greatest message has 2^20 bytes; the heads around what fills it take less than this.
+FILLED = (1 << 20) - 400
+CONFOUNDER = bytes(range(16))
 
 
 def written(seconds):
@@ -73,59 +74,50 @@ def laid_out(folder, etype, entries, extra):
     return str(folder / "keytab"), str(folder / "cache"), str(now)
 
 
-def rows():
-    for etype in (19, 20):
-        for extra in (0, PAC):
-            yield etype, 1, extra, 0
-    for entries in (10, 1_000, 100_000):
-        yield 19, entries, 0, 0
-    for held in (1_000, 100_000):
-        yield 19, 1, 0, held
+CACHES: dict[tuple[int, int], list[bytes]] = {}
+LOCK = threading.Lock()
 
 
-def shown(etype, entries, extra, held):
-    parts = [f"type {etype}"]
-    if extra:
-        parts.append(f"{extra:,} bytes of authorization data")
-    if entries > 1:
-        parts.append(f"a keytab of {entries:,} entries")
-    if held:
-        parts.append(f"{held:,} requests remembered")
-    return ", ".join(parts)
+def clients(folder, etype, now, extra, count):
+    """The path of a folder of caches, one for each client, with a ticket and a session key of its own. (They are made
+    once: it takes a while.)"""
+    made = folder / f"caches-{etype}-{extra}-{count}"
+    with LOCK:
+        known = CACHES.setdefault((etype, extra), [])
+        for index in range(len(known), count):
+            session = {etype: index.to_bytes(len(SESSION[etype]), "big")}
+            known.append(cache(etype, now, extra, b"user%d" % index, session))
+        if not made.exists():
+            made.mkdir()
+            for index in range(count):
+                (made / str(index)).write_bytes(known[index])
+    return made
 
 
-def table(folder, ours, mit, run_of):
-    print("\n| | | ours | MIT krb5 | MIT's time / ours |\n|---|---|---|---|---|")
-    for etype, entries, extra, held in rows():
-        keys, tickets, now = laid_out(folder, etype, entries, extra)
-        count = "1000"
-        for word in ("make", "accept"):
-            it = compared(run_of([ours, word, keys, tickets, now, str(held), count]), run_of([mit, word, keys, tickets, count]))
-            print(f"| {shown(etype, entries, extra, held)} | {word} | {time_of(it.ours)} | {time_of(it.theirs)} | {it.shown} |", flush=True)
-    keys, tickets, now = laid_out(folder, 19, 1, 0)
-    few, many = (run_of([ours, "accept", keys, tickets, now, held, "1000"]) for held in ("1000", "1000000"))
-    print(f"\naccept with 1,000,000 requests remembered takes {compared(few, many, pairs=3).shown} times as long as with 1,000.")
+def ticket_for(components, kvno=1, cipher=b"\x5a" * 200):
+    return der.ticket(REALM, der.name(3, *components), der.encrypted(19, cipher, kvno))
 
 
-def processor_seconds(command, **more):
-    """What a command that ends well takes of a processor, the system's part too."""
-    before = resource.getrusage(resource.RUSAGE_CHILDREN)
-    subprocess.run(command, check=True, stdout=subprocess.DEVNULL, **more)
-    after = resource.getrusage(resource.RUSAGE_CHILDREN)
-    return after.ru_utime + after.ru_stime - before.ru_utime - before.ru_stime
+def authenticator(now, client=CLIENT, key=SESSION[19]):
+    part = der.authenticator(REALM, der.name(1, client), 5, now)
+    return der.encrypted(19, sealed(19, key, 11, CONFOUNDER, part))
 
 
-def lines_table(folder, ours, krbtool, mit, count=10_000):
-    """The command accept over lines, as a whole process, beside krb5_rd_req in a loop of C that reads and prints as many lines."""
-    print("\n| | krbtool accept | krb5_rd_req in a loop | its time / ours |\n|---|---|---|---|")
-    for etype in (19, 20):
-        keys, tickets, now = laid_out(folder, etype, 1, 0)
-        lines = folder / "lines"
-        lines.write_bytes(subprocess.run([ours, "lines", keys, tickets, now, "0", str(count)], check=True, capture_output=True).stdout)
-
-        def over(command):
-            with open(lines, "rb") as given:
-                return processor_seconds(command, stdin=given) * 1e9
-
-        it = compared(lambda: over([krbtool, "accept", keys]), lambda: over([mit, "lines", keys, tickets, str(count)]), SHORT_PAIRS)
-        print(f"| {count:,} lines, type {etype} | {time_of(it.ours)} | {time_of(it.theirs)} | {it.shown} |", flush=True)
+def refused(now):
+    """Requests that a service refuses, one for each stage, each with what it is."""
+    good = ticket(19, now, 0)
+    other = authenticator(now)
+    yield "not a request", b"hello"
+    yield "1 MiB that isn't a request", bytes(1 << 20)
+    yield "cut off", der.request(0, good, other)[:-1]
+    yield "a service that isn't served", der.request(0, ticket_for((b"host", b"other.example.test")), other)
+    yield "a version number that the keytab lacks", der.request(0, ticket_for(SERVICE, 2), other)
+    yield "a ticket that isn't sealed with the key", der.request(0, ticket_for(SERVICE), other)
+    yield "an authenticator that isn't sealed with the session key", der.request(0, good, der.encrypted(19, b"\x5a" * 100))
+    yield "another client's name", der.request(0, good, authenticator(now, b"mallory"))
+    yield "a clock that is an hour off", der.request(0, good, authenticator(now - 3600))
+    yield "1 MiB: a service of 523,000 empty components", der.request(0, ticket_for([b""] * ((FILLED - 1_500) // 2)), other)
+    yield "1 MiB: a service of one long component", der.request(0, ticket_for([b"host", b"a" * (FILLED - 500)]), other)
+    yield "1 MiB: a ticket that isn't sealed with the key", der.request(0, ticket_for(SERVICE, 1, b"\x5a" * (FILLED - 500)), other)
+    yield ("1 MiB: an authenticator that isn't sealed with the session key",
+           der.request(0, good, der.encrypted(19, b"\x5a" * (FILLED - 500))))

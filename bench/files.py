@@ -1,9 +1,7 @@
 #!/usr/bin/env python3
-"""Times krbtool on large files beside MIT's tools, as whole processes in one run, and prints a table of ratios.
+"""Keytabs and credential caches of many entries; and, as a program, how much memory krbtool takes for a file of the greatest size.
 
-    bench/files.py PROGRAM
-
-Needs Debian's package krb5-user. Nothing here is a test: it asserts nothing but that both programs end well.
+    bench/files.py [PROGRAM]    prints a table for this krbtool, or for the one that make left
 """
 import os
 import resource
@@ -11,10 +9,9 @@ import struct
 import subprocess
 import sys
 import tempfile
-import time
 from pathlib import Path
 
-from pairs import compared, time_of
+import builds
 
 LIMIT = 16_777_216
 
@@ -70,19 +67,6 @@ def small_cache(limit):
     return b"\x05\x04\x00\x00" + empty + one * ((limit - 16) // len(one))
 
 
-def timed(command, env=None):
-    """The best of five runs in seconds, and the largest resident size of a child so far in bytes."""
-    best = None
-    for _ in range(5):
-        start = time.perf_counter()
-        ran = subprocess.run(command, stdout=subprocess.DEVNULL, stderr=subprocess.PIPE, env=env)
-        took = time.perf_counter() - start
-        if ran.returncode:
-            sys.exit(f"{command} ended with {ran.returncode}: {ran.stderr[:300]!r}")
-        best = took if best is None else min(best, took)
-    return best
-
-
 def built_peak(folder):
     """The launcher that tells the memory of what it runs."""
     made = f"{folder}/peak"
@@ -101,21 +85,6 @@ def processor_time(command):
         return 1e9 * (after.ru_utime + after.ru_stime - before.ru_utime - before.ru_stime)
 
     return run
-
-
-def listed(name, ours, theirs):
-    """A row of two commands."""
-    it = compared(processor_time(ours), processor_time(theirs))
-    print(f"| {name} | {time_of(it.ours)} | {time_of(it.theirs)} | {it.shown} |", flush=True)
-
-
-def growing(word, path, made, most):
-    """Rows of one command on a half, a quarter .. of the largest file."""
-    for part in (8, 4, 2, 1):
-        path.write_bytes(made(most // part))
-        size = path.stat().st_size
-        took = timed([word[0], word[1], str(path)])
-        print(f"| {size:,} bytes: {word[1]} | {took * 1000:.1f} ms | | {took / size * 1e9:.1f} ns a byte |")
 
 
 def many_components(head, empty, tail, limit):
@@ -163,33 +132,27 @@ def at_the_limit(launcher, word, path, files):
             sys.exit(f"{word} on {name} ended with {done.returncode}")
         used = int(done.stdout)
         own = own or used
-        more = f"{used / len(data):.1f} times the file, {used - own:,} bytes more than for nothing" if name != "nothing" else ""
-        print(f"| {word[1]}, memory at {len(data):,} bytes, {name} | {used:,} bytes | | {more} |")
+        print(f"| {word[1]} | {name} | {len(data):,} | {used:,} | {used / len(data):.2f} | {used - own:,} |", flush=True)
 
 
-def tables(program):
+def kinds_of_keytabs():
+    return {"nothing": keytab(0), "an ordinary file": keytab((LIMIT - 2) // len(keytab_record(999_999))), "smallest records": small_keytab(LIMIT),
+            "names with 129 empty components": empty_keytab(LIMIT), "records of 1 MiB": keytab_of_long_records(LIMIT, 1 << 20)}
+
+
+def kinds_of_caches():
+    return {"nothing": cache(0), "an ordinary file": cache((LIMIT - 100) // len(credential(99_999))), "smallest credentials": small_cache(LIMIT),
+            "names with 129 empty components": empty_cache(LIMIT), "credentials of 1 MiB": cache_of_long_credentials(LIMIT, 1 << 20)}
+
+
+def table(program):
+    print("| command | file | bytes | memory, bytes | times the file | more than for nothing |\n|---|---|---|---|---|---|")
     with tempfile.TemporaryDirectory() as folder:
-        launcher = built_peak(folder)
-        keys, tickets = Path(folder) / "keytab", Path(folder) / "ccache"
-        print("| what | krbtool | klist | its time / ours |\n|---|---|---|---|")
-        keys.write_bytes(keytab(10_000))
-        tickets.write_bytes(cache(10_000))
-        listed("10,000 entries: list-keytab, klist -kte", [program, "list-keytab", str(keys)], ["klist", "-kte", str(keys)])
-        listed(f"10,000 credentials, {tickets.stat().st_size:,} bytes: list-ccache, klist", [program, "list-ccache", str(tickets)],
-                 ["klist", f"FILE:{tickets}"])
-        most = (LIMIT - 2) // len(keytab_record(999_999))
-        growing((program, "list-keytab"), keys, keytab, most)
-        for word in ("list-keytab", "check-keytab"):
-            at_the_limit(launcher, (program, word), keys, {
-                "nothing": keytab(0), "large": keytab(most), "smallest records": small_keytab(LIMIT), "empty components": empty_keytab(LIMIT),
-                "records of 1 MiB": keytab_of_long_records(LIMIT, 1 << 20)})
-        most = (LIMIT - 100) // len(credential(99_999))
-        growing((program, "list-ccache"), tickets, cache, most)
-        for word in ("list-ccache", "check-ccache"):
-            at_the_limit(launcher, (program, word), tickets, {
-                "nothing": cache(0), "large": cache(most), "smallest credentials": small_cache(LIMIT), "empty components": empty_cache(LIMIT),
-                "credentials of 1 MiB": cache_of_long_credentials(LIMIT, 1 << 20)})
+        launcher, path = built_peak(folder), Path(folder) / "file"
+        for words, kinds in ((("list-keytab", "check-keytab"), kinds_of_keytabs()), (("list-ccache", "check-ccache"), kinds_of_caches())):
+            for word in words:
+                at_the_limit(launcher, (program, word), path, kinds)
 
 
 if __name__ == "__main__":
-    tables(os.path.abspath(sys.argv[1]))
+    table(os.path.abspath(sys.argv[1]) if sys.argv[1:] else str(builds.made_folder() / "krbtool"))

@@ -35,15 +35,15 @@ def of_pairs(runs: list[tuple[float, float]]) -> Compared:
     return Compared(min(it[0] for it in runs), min(it[1] for it in runs), median(ratios), min(ratios), max(ratios))
 
 
-def paired(ours: Callable[[], float], theirs: Callable[[], float]) -> tuple[float, float]:
+def paired(ours: Callable[[], float], theirs: Callable[[], float], short: int = SHORT) -> tuple[float, float]:
     """The least of some short runs of each side, in turn."""
-    runs = [(ours(), theirs()) for _ in range(SHORT)]
+    runs = [(ours(), theirs()) for _ in range(short)]
     return min(it[0] for it in runs), min(it[1] for it in runs)
 
 
-def compared(ours: Callable[[], float], theirs: Callable[[], float], pairs: int = PAIRS) -> Compared:
+def compared(ours: Callable[[], float], theirs: Callable[[], float], pairs: int = PAIRS, short: int = SHORT) -> Compared:
     """`ours` and `theirs` run a program once, and return the time that it took."""
-    return of_pairs([paired(ours, theirs) for _ in range(pairs)])
+    return of_pairs([paired(ours, theirs, short) for _ in range(pairs)])
 
 
 def time_of(nanoseconds: float) -> str:

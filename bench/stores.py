@@ -1,13 +1,14 @@
 #!/usr/bin/env python3
-"""Times instances of a service that share a store, and prints a table of logins a second, and one of what a store adds to one login.
+"""Times processes of a service that share a store, and prints two tables: logins a second with the processor time of each, and what a store adds
+to one login.
 
-    bench/stores.py
+    bench/stores.py [FOLDER]     FOLDER has libfevstunik.a and the shared library, as build/x86-64-v2 of `make`; else they are built
 
-Beside them are one instance without a store, and MIT krb5's krb5_rd_req with its replay cache in a file, which its processes share. Needs what
-tests/stores and bench/from_c.py need. Each number is the best of some runs. Nothing here is a test, but each request has to be accepted.
+Each process is sent a part of the requests: examples/service/service in C over TCP, some at a time, and examples/shared.py by lines, one at a time.
+Beside them are processes without a store, each of which remembers for itself, and MIT krb5's krb5_rd_req with its replay cache in a file, which its
+processes share. Needs what tests/stores and bench/from_c.py need; takes about two minutes. Nothing here is a test, but each request has to be accepted.
 """
 import contextlib
-import itertools
 import os
 import statistics
 import subprocess
@@ -16,6 +17,7 @@ import tempfile
 import time
 from concurrent.futures import ThreadPoolExecutor
 from pathlib import Path
+from typing import NamedTuple
 
 import exchange
 
@@ -26,10 +28,20 @@ from support import c_programs, instances, store_servers  # noqa: E402
 from fevstunik import Moment  # noqa: E402
 from fevstunik.stores import PostgreSQL, Redis, SQLite  # noqa: E402
 
-INSTANCES, REQUESTS, RUNS = (1, 2, 4), 2_000, 3
-# The stores, by what they are named in the tables: how one is made, and how it is opened. (/run is in memory on most machines.)
-STORES = (("a file in memory", lambda: AFile("/dev/shm"), SQLite), ("a file on disk", lambda: AFile(TOP / "build"), SQLite),
-          ("Redis", store_servers.Redis, Redis), ("PostgreSQL", store_servers.Postgres, PostgreSQL))
+# How many processes; how many requests (a store that syncs gets a part); how often each is timed; and how many clients each process in C
+# has at a time.
+COUNTS, REQUESTS, SYNCED, RUNS, CLIENTS = (1, 2, 4), 2_000, 400, 2, 4
+SOURCES = [TOP / f"examples/service/{it}.c" for it in ("store", "sqlite_store", "redis_store")]
+
+
+class Rate(NamedTuple):
+    """Logins a second, and microseconds of the processes' processor time for each."""
+
+    logins: float
+    micros: float
+
+    def __str__(self):
+        return f"{self.logins:,.0f} ({self.micros:,.0f} µs)"
 
 
 class AFile(store_servers.File):
@@ -37,6 +49,14 @@ class AFile(store_servers.File):
 
     def boot(self):
         self.boot_file.write_text(Path("/proc/sys/kernel/random/boot_id").read_text())
+
+
+# What the stores are named in the tables, how one is made, how it is opened in Python, whether it syncs, and whether there is one in C. (/run is in
+# memory on most machines.)
+STORES = (("a file in memory", lambda: AFile("/dev/shm"), SQLite, False, True),
+          ("a file on disk", lambda: AFile(TOP / "build"), SQLite, False, True),
+          ("Redis", store_servers.Redis, Redis, True, True),
+          ("PostgreSQL", store_servers.Postgres, PostgreSQL, True, False))
 
 
 def must(ran):
@@ -51,20 +71,32 @@ def archive_of(folder):
 
 def shared_library(folder):
     """Builds the library, and returns the path of the shared one."""
-    (path,) = archive_of(folder).parent.glob("libfevstunik.so.*")
-    return path
+    return shared_beside(archive_of(folder))
 
 
-def built(folder):
-    """Builds the library, and the service in C with a store and without one."""
-    service = "-O2", "-D_DEFAULT_SOURCE", TOP / "examples/service/shared.c"
-    c_programs.linked(archive_of(folder), folder / "shared", *service, "-lhiredis")
-    c_programs.linked(archive_of(folder), folder / "alone", *service, TOP / "bench/no_store.c")
+def shared_beside(archive):
+    return next(it for it in archive.parent.glob("libfevstunik.so.*.*"))
+
+
+def built(folder, archive):
+    """Builds the service and what times it."""
+    words, libraries = ["-O2", "-D_DEFAULT_SOURCE", "-pthread", "-DSECONDS=60"], ["-lsqlite3", "-lhiredis"]
+    c_programs.linked(archive, folder / "service", *words, TOP / "examples/service/service.c", *SOURCES, *libraries)
+    c_programs.linked(archive, folder / "adds", *words, TOP / "bench/adds.c", *SOURCES, *libraries)
+    must(c_programs.run("gcc", "-O2", "-pthread", TOP / "bench/load.c", "-o", folder / "load"))
     flags = must(c_programs.run("pkg-config", "--cflags", "--libs", "krb5")).split()
     must(c_programs.run("gcc", "-O2", TOP / "bench/mit_exchange.c", *flags, "-o", folder / "mit"))
 
 
-def answered(instance, requests):
+# ---------------------------------------------------------------- processes of ours
+
+
+def processor_time(process):
+    """In seconds: of all threads of a process, also of those that have ended (clock_getcpuclockid(3))."""
+    return time.clock_gettime(~process.pid << 3 | 2)
+
+
+def by_lines(instance, requests):
     """Sends requests, some at a time, and counts those that are accepted."""
     count = 0
     for at in range(0, len(requests), instances.BATCH):
@@ -74,23 +106,38 @@ def answered(instance, requests):
     return count
 
 
-def rate(words, count, requests):
-    """How many requests so many instances accept in a second, each a part of them."""
-    started = [instances.Instance(words) for _ in range(count)]
-    try:
-        for one in started:
-            if answered(one, ["00"]):
+def rate_of(kind, words, count, requests, deliver):
+    """What so many processes do, each with a part of the requests."""
+    with contextlib.ExitStack() as stack:
+        started = [stack.enter_context(contextlib.closing(kind(words))) for _ in range(count)]
+        for it in started:
+            if it.asked("00") is instances.ACCEPTED:
                 sys.exit("a byte was accepted")
+        parts = [requests[at::count] for at in range(count)]
+        used = sum(processor_time(it.process) for it in started)
         with ThreadPoolExecutor(count) as pool:
             began = time.monotonic()
-            accepted = sum(pool.map(answered, started, [requests[at::count] for at in range(count)]))
+            accepted = sum(pool.map(deliver, started, parts))
             took = time.monotonic() - began
-    finally:
-        for one in started:
-            one.close()
+        used = sum(processor_time(it.process) for it in started) - used
     if accepted != len(requests):
         sys.exit(f"{accepted} requests were accepted of {len(requests)}")
-    return len(requests) / took
+    return Rate(len(requests) / took, 1e6 * used / len(requests))
+
+
+def in_python(words, count, requests):
+    return rate_of(instances.Instance, [instances.PYTHON, "-B", *words], count, requests, by_lines)
+
+
+def in_c(folder, words, count, requests):
+    def by_clients(instance, part):
+        ran = subprocess.run([folder / "load", instance.port, str(CLIENTS)], input="\n".join(part) + "\n", capture_output=True, text=True)
+        return int(must(ran).split()[0])
+
+    return rate_of(instances.Served, [folder / "service", *instances.SERVICE, *words], count, requests, by_clients)
+
+
+# ---------------------------------------------------------------- MIT's
 
 
 def with_file(folder, count):
@@ -100,56 +147,77 @@ def with_file(folder, count):
     cache.unlink(missing_ok=True)
     env = {**os.environ, "KRB5RCACHENAME": f"file2:{cache}"}
     words = [str(folder / "mit"), "remember", keys, tickets, str(REQUESTS // count)]
+    before = used_by_children()
     started = [subprocess.Popen(words, stdout=subprocess.PIPE, text=True, env=env) for _ in range(count)]
     seconds = [float(it.communicate()[0]) * (REQUESTS // count) / 1e9 for it in started]
-    return REQUESTS / max(seconds)
+    return Rate(REQUESTS / max(seconds), 1e6 * (used_by_children() - before) / REQUESTS)
 
 
-def row(name, counts, measured):
-    """A row of the table; `measured` takes a number of instances."""
-    best = [max(measured(count) for _ in range(RUNS)) if count in counts else None for count in INSTANCES]
-    print(f"| {name} | " + " | ".join("" if it is None else f"{it:,.0f}" for it in best) + " |", flush=True)
+def used_by_children():
+    found = os.times()
+    return found.children_user + found.children_system
 
 
-def table(folder):
+# ---------------------------------------------------------------- tables
+
+
+def row(name, measured):
+    """A row of the table; `measured` takes a number of processes, and which run of how many it is."""
+    best = [max(measured(count, index * RUNS + run) for run in range(RUNS)) for index, count in enumerate(COUNTS)]
+    print(f"| {name} | " + " | ".join(map(str, best)) + " |", flush=True)
+
+
+def requests_of(cache, library):
+    """Requests for each run of a row, each of another second, far enough from the others for a busy machine."""
+    with ThreadPoolExecutor(4) as pool:
+        return list(pool.map(lambda run: instances.made_requests(cache, REQUESTS, library, 20 * run), range(len(COUNTS) * RUNS)))
+
+
+def over_a_store(name, make, many, measured):
+    with contextlib.closing(make()) as store:
+        store.start()
+        store.age()
+        row(name, lambda count, run: measured(store, count, many[run]))
+
+
+def table(folder, archive):
     cache = folder / "cache"
     cache.write_bytes(c_programs.current_cache(int(time.time()) - 60))
-    library = shared_library(folder)
+    library = shared_beside(archive)
     os.environ["FEVSTUNIK_LIBRARY"] = str(library)
+    many = requests_of(cache, library)
+    few = [it[:SYNCED] for it in many]
+    print("\n| logins a second (processor time of each) | " + " | ".join(f"{it} process{'es' * (it > 1)}" for it in COUNTS) + " |\n|---|---|---|---|")
+    row("C, no store", lambda count, run: in_c(folder, ["first"], count, many[run]))
+    for name, make, _, syncs, is_in_c in STORES:
+        if is_in_c:
+            over_a_store(f"C, {name}", make, few if syncs else many, lambda store, *it: in_c(folder, [store.in_c, 20], *it))
+    row("Python, no store", lambda count, run: in_python([TOP / "examples/serve.py", *instances.SERVICE, "--first"], count, many[run]))
+    for name, make, _, syncs, _ in STORES:
+        words = [TOP / "examples/shared.py", *instances.SERVICE]
+        over_a_store(f"Python, {name}", make, few if syncs else many, lambda store, *it: in_python([*words, place_of(store), "--wait", 20], *it))
+    row("MIT krb5 in C, a replay cache in a file", lambda count, run: with_file(folder, count))
 
-    ago = itertools.count(250, -1)
 
-    def timed(words):
-        """Each time with requests of another second, which no store has seen."""
-        return lambda count: rate(words, count, instances.made_requests(cache, REQUESTS, library, next(ago)))
+def place_of(store):
+    """As examples/shared.py and the stores in Python take it."""
+    return store.where if hasattr(store, "where") else store.path
 
-    print("\n| accepted requests a second | " + " | ".join(f"{count} instance{'s' * (count > 1)}" for count in INSTANCES) + " |\n|---|---|---|---|")
-    in_python = [instances.PYTHON, "-B", TOP / "examples/shared.py", *instances.SERVICE]
-    added = {}
-    row("C, no store", (1,), timed([folder / "alone", *instances.SERVICE, "none"]))
-    row("Python, no store", (1,), timed([instances.PYTHON, "-B", TOP / "examples/serve.py", *instances.SERVICE, "--first"]))
-    for name, make, opened in STORES:
+
+def added(folder):
+    """How long it takes in the median to add a stamp of a usual length, by one process."""
+    print("\n| a store adds to one login | C | Python |\n|---|---|---|")
+    for name, make, opened, _, is_in_c in STORES:
         with contextlib.closing(make()) as store:
             store.start()
-            store.age()
-            where = store.where if hasattr(store, "where") else store.path
-            if name == "Redis":
-                row("C, Redis", INSTANCES, timed([folder / "shared", *instances.SERVICE, store.socket, 20]))
-            row(f"Python, {name}", INSTANCES, timed([*in_python, where, "--wait", "20"]))
-            added[name] = micros_of(opened(where))
-    row("MIT krb5 in C, a replay cache in a file", INSTANCES, lambda count: with_file(folder, count))
-
-
-    print("\n| a store adds to one login | microseconds |\n|---|---|")
-    for name, micros in added.items():
-        print(f"| {name} | {micros:,.0f} |")
+            nanoseconds = must(c_programs.run(folder / "adds", store.in_c, SYNCED)) if is_in_c else None
+            print(f"| {name} | {f'{int(nanoseconds) / 1000:,.0f} µs' if nanoseconds else ''} | {micros_of(opened(place_of(store))):,.0f} µs |", flush=True)
 
 
 def micros_of(store):
-    """How long it takes in the median to add a stamp of a usual length, by one process."""
     until, times = Moment(int(time.time()) + 600), []
-    for number in range(REQUESTS):
-        stamp = b"%80d" % number
+    for number in range(SYNCED):
+        stamp = b"%79d." % number
         began = time.perf_counter()
         if not store.add(stamp, until):
             sys.exit("a stamp isn't new")
@@ -157,15 +225,17 @@ def micros_of(store):
     return 1e6 * statistics.median(times)
 
 
-def tables(folder):
-    """Builds what the table times in this folder, and prints it."""
-    built(folder)
-    table(folder)
+def tables(folder, archive=None):
+    """Builds what the tables time in this folder, and prints them."""
+    archive = archive or archive_of(folder)
+    built(folder, archive)
+    table(folder, archive)
+    added(folder)
 
 
 def main():
     with tempfile.TemporaryDirectory() as name:
-        tables(Path(name))
+        tables(Path(name), *(Path(it).resolve() / "libfevstunik.a" for it in sys.argv[1:2]))
 
 
 if __name__ == "__main__":

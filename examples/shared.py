@@ -6,7 +6,7 @@ others. It answers lines of standard input as serve.py does.
     examples/shared.py examples/service.keytab host/web@EX unix:///run/redis/redis.sock < requests
     examples/shared.py examples/service.keytab host/web@EX "dbname=web user=web" < requests
 
-If the store doesn't answer in time, nobody is let in: `refused STORE_FAILED -`. examples/service/shared.c is such a process in C, over Redis.
+If the store doesn't answer in time, nobody is let in: `refused STORE_FAILED -`. examples/service is such a service in C, over the same stores.
 """
 import argparse
 import sys

@@ -68,7 +68,7 @@ extern "C" {
 /* ---- version ---- */
 
 #define FEVSTUNIK_VERSION_MAJOR 0
-#define FEVSTUNIK_VERSION_MINOR 1
+#define FEVSTUNIK_VERSION_MINOR 2
 #define FEVSTUNIK_VERSION_PATCH 0
 
 /* Returns the version of the library that the program runs with: 10,000 times the major number,
@@ -85,8 +85,9 @@ uint32_t fevstunik_version(void);
  * treat a code that you don't know as a failure.
  */
 typedef enum fevstunik_code {
-    FEVSTUNIK_OK = 0,    /* success */
-    FEVSTUNIK_GO_ON = 1, /* the login goes on with the client's next token; send the bytes first */
+    FEVSTUNIK_OK = 0,        /* success */
+    FEVSTUNIK_GO_ON = 1,     /* the login goes on with the client's next token; send the bytes first */
+    FEVSTUNIK_ASK_STORE = 2, /* the store of stamps decides whether the request is a repeat; ask it, then call fevstunik_login_settle */
 
     /* Why a request is refused. The causes are checked in this order, and the first that applies is
      * returned. A number before a text is the code of RFC 4120, section 7.5.9, which the answer has
@@ -116,12 +117,15 @@ typedef enum fevstunik_code {
     FEVSTUNIK_FOREIGN_REALM = 290,    /* 60: the client is of a realm that isn't let in */
     FEVSTUNIK_CHANNEL_BINDINGS = 300, /* 60: the channel bindings aren't those of the connection */
 
+    /* Why fevstunik_login_settle doesn't let a client in, besides SKEW and REPEAT. */
+    FEVSTUNIK_STORE_FAILED = 310, /* 60: the store of stamps doesn't answer */
+
     /* Codes that many calls may return. */
     FEVSTUNIK_OUT_OF_MEMORY = 400,  /* out of memory; malloc returned NULL */
     FEVSTUNIK_SHORT_BUFFER = 401,   /* the buffer is too short; `size` bytes are needed */
     FEVSTUNIK_EMPTY_HANDLE = 402,   /* the handle is empty */
     FEVSTUNIK_NOTHING_THERE = 403,  /* the handle has no accepted request, no refusal, or no such moment */
-    FEVSTUNIK_TOO_LONG = 404,       /* a file, a request, an error, a token, a name or a key is longer than its limit */
+    FEVSTUNIK_TOO_LONG = 404,       /* a file, a request, an error, a token, a name, a key or bindings are longer than their limit */
     FEVSTUNIK_FULL = 405,           /* the service remembers as many requests as it may, of all clients or of this one; `limit` or `limit_for_client` is reached */
     FEVSTUNIK_BAD_SKEW = 410,       /* the skew is more than 86,400 seconds */
     FEVSTUNIK_BAD_MOMENT = 411,     /* the moment is outside the years 0000 to 9999, or has 1,000,000 microseconds or more */
@@ -135,6 +139,9 @@ typedef enum fevstunik_code {
     FEVSTUNIK_EARLY_START = 419,    /* the start is before the year 2020; `any_start` isn't set */
     FEVSTUNIK_BAD_BINDINGS = 420,   /* there is no such rule for channel bindings, or it has no bindings to compare with; `bindings` isn't a fevstunik_bindings, or the hash isn't 16 bytes, or is all zero */
     FEVSTUNIK_BAD_RANDOM = 421,     /* there are fewer or more random bytes than the service needs; 16, and those of its subkey */
+    FEVSTUNIK_BAD_SAID = 422,       /* the number isn't one of what a store of stamps says; it isn't a fevstunik_said */
+    FEVSTUNIK_NOT_WAITING = 423,    /* the login doesn't wait for a store of stamps */
+    FEVSTUNIK_SHARED = 424,         /* the service shares a store of stamps, which this call doesn't ask; call fevstunik_service_answer */
 
     /* What is wrong with a file. */
     FEVSTUNIK_FILE_VERSION = 500,   /* the file doesn't begin with 05 02 (a keytab), or with 05 03 or 05 04 (a cache) */
@@ -180,7 +187,18 @@ typedef enum fevstunik_code {
     FEVSTUNIK_NEGOTIATION_OVER = 923,   /* the negotiation is over: it has taken a request, or refused a token */
     FEVSTUNIK_CONTEXT_TRUNCATED = 930,  /* the checksum of type 0x8003 is cut off */
     FEVSTUNIK_CONTEXT_BINDINGS = 931,   /* the length of the bindings in the checksum of type 0x8003 isn't 16 */
-    FEVSTUNIK_CONTEXT_DELEGATION = 932  /* the delegation option in the checksum of type 0x8003 isn't 1 */
+    FEVSTUNIK_CONTEXT_DELEGATION = 932, /* the delegation option in the checksum of type 0x8003 isn't 1 */
+
+    /* Why a message after the login isn't taken or written. */
+    FEVSTUNIK_MESSAGE_DEFECTIVE = 940, /* the bytes aren't a message of this kind */
+    FEVSTUNIK_MESSAGE_DIRECTION = 941, /* the message was sent back: it is one of the side that reads it */
+    FEVSTUNIK_MESSAGE_OTHER_KEY = 942, /* the message is under another key */
+    FEVSTUNIK_MESSAGE_INTEGRITY = 943, /* the message or its text was changed */
+    FEVSTUNIK_MESSAGE_GAP = 944,       /* messages before this one are missing */
+    FEVSTUNIK_MESSAGE_REPEAT = 946,    /* the message was taken before */
+    FEVSTUNIK_MESSAGE_OLD = 947,       /* the message is too old to know whether it was taken before */
+    FEVSTUNIK_NUMBERS_USED_UP = 948,   /* the message with the last number was sent */
+    FEVSTUNIK_BAD_ROLE = 949           /* the number isn't that of a side; `role` isn't a fevstunik_role */
 } fevstunik_code;
 
 /* Returns the name of a code, such as "FEVSTUNIK_REPEAT", or "FEVSTUNIK_UNKNOWN" if the number
@@ -193,6 +211,7 @@ static inline const char *fevstunik_code_name(uint32_t code)
     switch (code) {
     case FEVSTUNIK_OK: return "FEVSTUNIK_OK";
     case FEVSTUNIK_GO_ON: return "FEVSTUNIK_GO_ON";
+    case FEVSTUNIK_ASK_STORE: return "FEVSTUNIK_ASK_STORE";
     case FEVSTUNIK_MESSAGE_TYPE: return "FEVSTUNIK_MESSAGE_TYPE";
     case FEVSTUNIK_MALFORMED: return "FEVSTUNIK_MALFORMED";
     case FEVSTUNIK_USER_TO_USER: return "FEVSTUNIK_USER_TO_USER";
@@ -214,6 +233,7 @@ static inline const char *fevstunik_code_name(uint32_t code)
     case FEVSTUNIK_ANONYMOUS_CLIENT: return "FEVSTUNIK_ANONYMOUS_CLIENT";
     case FEVSTUNIK_FOREIGN_REALM: return "FEVSTUNIK_FOREIGN_REALM";
     case FEVSTUNIK_CHANNEL_BINDINGS: return "FEVSTUNIK_CHANNEL_BINDINGS";
+    case FEVSTUNIK_STORE_FAILED: return "FEVSTUNIK_STORE_FAILED";
     case FEVSTUNIK_OUT_OF_MEMORY: return "FEVSTUNIK_OUT_OF_MEMORY";
     case FEVSTUNIK_SHORT_BUFFER: return "FEVSTUNIK_SHORT_BUFFER";
     case FEVSTUNIK_EMPTY_HANDLE: return "FEVSTUNIK_EMPTY_HANDLE";
@@ -232,6 +252,9 @@ static inline const char *fevstunik_code_name(uint32_t code)
     case FEVSTUNIK_EARLY_START: return "FEVSTUNIK_EARLY_START";
     case FEVSTUNIK_BAD_BINDINGS: return "FEVSTUNIK_BAD_BINDINGS";
     case FEVSTUNIK_BAD_RANDOM: return "FEVSTUNIK_BAD_RANDOM";
+    case FEVSTUNIK_BAD_SAID: return "FEVSTUNIK_BAD_SAID";
+    case FEVSTUNIK_NOT_WAITING: return "FEVSTUNIK_NOT_WAITING";
+    case FEVSTUNIK_SHARED: return "FEVSTUNIK_SHARED";
     case FEVSTUNIK_FILE_VERSION: return "FEVSTUNIK_FILE_VERSION";
     case FEVSTUNIK_FILE_HEADER: return "FEVSTUNIK_FILE_HEADER";
     case FEVSTUNIK_FILE_TRUNCATED: return "FEVSTUNIK_FILE_TRUNCATED";
@@ -268,6 +291,15 @@ static inline const char *fevstunik_code_name(uint32_t code)
     case FEVSTUNIK_CONTEXT_TRUNCATED: return "FEVSTUNIK_CONTEXT_TRUNCATED";
     case FEVSTUNIK_CONTEXT_BINDINGS: return "FEVSTUNIK_CONTEXT_BINDINGS";
     case FEVSTUNIK_CONTEXT_DELEGATION: return "FEVSTUNIK_CONTEXT_DELEGATION";
+    case FEVSTUNIK_MESSAGE_DEFECTIVE: return "FEVSTUNIK_MESSAGE_DEFECTIVE";
+    case FEVSTUNIK_MESSAGE_DIRECTION: return "FEVSTUNIK_MESSAGE_DIRECTION";
+    case FEVSTUNIK_MESSAGE_OTHER_KEY: return "FEVSTUNIK_MESSAGE_OTHER_KEY";
+    case FEVSTUNIK_MESSAGE_INTEGRITY: return "FEVSTUNIK_MESSAGE_INTEGRITY";
+    case FEVSTUNIK_MESSAGE_GAP: return "FEVSTUNIK_MESSAGE_GAP";
+    case FEVSTUNIK_MESSAGE_REPEAT: return "FEVSTUNIK_MESSAGE_REPEAT";
+    case FEVSTUNIK_MESSAGE_OLD: return "FEVSTUNIK_MESSAGE_OLD";
+    case FEVSTUNIK_NUMBERS_USED_UP: return "FEVSTUNIK_NUMBERS_USED_UP";
+    case FEVSTUNIK_BAD_ROLE: return "FEVSTUNIK_BAD_ROLE";
     default: return "FEVSTUNIK_UNKNOWN";
     }
 }
@@ -282,6 +314,7 @@ static inline const char *fevstunik_code_text(uint32_t code)
     switch (code) {
     case FEVSTUNIK_OK: return "success";
     case FEVSTUNIK_GO_ON: return "the login goes on with the client's next token";
+    case FEVSTUNIK_ASK_STORE: return "the store of stamps decides whether the request is a repeat";
     case FEVSTUNIK_MESSAGE_TYPE: return "the first byte isn't that of a request";
     case FEVSTUNIK_MALFORMED: return "the bytes aren't a request";
     case FEVSTUNIK_USER_TO_USER: return "the option use-session-key is set";
@@ -303,11 +336,12 @@ static inline const char *fevstunik_code_text(uint32_t code)
     case FEVSTUNIK_ANONYMOUS_CLIENT: return "the client is anonymous";
     case FEVSTUNIK_FOREIGN_REALM: return "the client is of a realm that isn't let in";
     case FEVSTUNIK_CHANNEL_BINDINGS: return "the channel bindings aren't those of the connection";
+    case FEVSTUNIK_STORE_FAILED: return "the store of stamps doesn't answer";
     case FEVSTUNIK_OUT_OF_MEMORY: return "out of memory";
     case FEVSTUNIK_SHORT_BUFFER: return "the buffer is too short";
     case FEVSTUNIK_EMPTY_HANDLE: return "the handle is empty";
     case FEVSTUNIK_NOTHING_THERE: return "the handle has no accepted request, no refusal, or no such moment";
-    case FEVSTUNIK_TOO_LONG: return "a file, a request, an error, a token, a name or a key is longer than its limit";
+    case FEVSTUNIK_TOO_LONG: return "a file, a request, an error, a token, a name, a key or bindings are longer than their limit";
     case FEVSTUNIK_FULL: return "the service remembers as many requests as it may, of all clients or of this one";
     case FEVSTUNIK_BAD_SKEW: return "the skew is more than 86,400 seconds";
     case FEVSTUNIK_BAD_MOMENT: return "the moment is outside the years 0000 to 9999, or has 1,000,000 microseconds or more";
@@ -321,6 +355,9 @@ static inline const char *fevstunik_code_text(uint32_t code)
     case FEVSTUNIK_EARLY_START: return "the start is before the year 2020";
     case FEVSTUNIK_BAD_BINDINGS: return "there is no such rule for channel bindings, or it has no bindings to compare with";
     case FEVSTUNIK_BAD_RANDOM: return "there are fewer or more random bytes than the service needs";
+    case FEVSTUNIK_BAD_SAID: return "the number isn't one of what a store of stamps says";
+    case FEVSTUNIK_NOT_WAITING: return "the login doesn't wait for a store of stamps";
+    case FEVSTUNIK_SHARED: return "the service shares a store of stamps, which this call doesn't ask";
     case FEVSTUNIK_FILE_VERSION: return "the file doesn't begin with 05 02 (a keytab), or with 05 03 or 05 04 (a cache)";
     case FEVSTUNIK_FILE_HEADER: return "the header of the cache is malformed";
     case FEVSTUNIK_FILE_TRUNCATED: return "the keytab ends within a record";
@@ -357,6 +394,15 @@ static inline const char *fevstunik_code_text(uint32_t code)
     case FEVSTUNIK_CONTEXT_TRUNCATED: return "the checksum of type 0x8003 is cut off";
     case FEVSTUNIK_CONTEXT_BINDINGS: return "the length of the bindings in the checksum of type 0x8003 isn't 16";
     case FEVSTUNIK_CONTEXT_DELEGATION: return "the delegation option in the checksum of type 0x8003 isn't 1";
+    case FEVSTUNIK_MESSAGE_DEFECTIVE: return "the bytes aren't a message of this kind";
+    case FEVSTUNIK_MESSAGE_DIRECTION: return "the message was sent back: it is one of the side that reads it";
+    case FEVSTUNIK_MESSAGE_OTHER_KEY: return "the message is under another key";
+    case FEVSTUNIK_MESSAGE_INTEGRITY: return "the message or its text was changed";
+    case FEVSTUNIK_MESSAGE_GAP: return "messages before this one are missing";
+    case FEVSTUNIK_MESSAGE_REPEAT: return "the message was taken before";
+    case FEVSTUNIK_MESSAGE_OLD: return "the message is too old to know whether it was taken before";
+    case FEVSTUNIK_NUMBERS_USED_UP: return "the message with the last number was sent";
+    case FEVSTUNIK_BAD_ROLE: return "the number isn't that of a side";
     default: return "an unknown code";
     }
 }
@@ -558,9 +604,19 @@ typedef struct fevstunik_context_choice {
  * meaning. There is no default: 0 is refused.
  */
 typedef enum fevstunik_restart {
-    FEVSTUNIK_RESTART_STARTED = 1,   /* by the moment of the start: it refuses requests from before it */
-    FEVSTUNIK_RESTART_FIRST_LIFE = 2 /* there are none: no service has used any key of the keytab before, or a store of stamps has lost nothing */
+    FEVSTUNIK_RESTART_STARTED = 1,    /* by the moment of the start: it refuses requests from before it */
+    FEVSTUNIK_RESTART_FIRST_LIFE = 2, /* there are none: no service has used any key of the keytab before, or a store of stamps has lost nothing */
+    FEVSTUNIK_RESTART_SHARED = 3      /* by a store of stamps, which is asked before a client is let in, and by the moment from which it remembers */
 } fevstunik_restart;
+
+/* What a store said of the stamp of a login that waits for it. A number never changes its meaning.
+ * There is no default: 0 is refused.
+ */
+typedef enum fevstunik_said {
+    FEVSTUNIK_SAID_NEW = 1,   /* it hadn't got the stamp, and has it now */
+    FEVSTUNIK_SAID_KNOWN = 2, /* it has had the stamp before */
+    FEVSTUNIK_SAID_FAILED = 3 /* it didn't answer, or not in time, or can't keep the stamp */
+} fevstunik_said;
 
 /* What fevstunik_service_answer does with a client's channel bindings. A number never changes its
  * meaning.
@@ -577,7 +633,7 @@ typedef enum fevstunik_bindings {
  */
 typedef struct fevstunik_acceptor_options {
     size_t size;               /* sizeof (fevstunik_acceptor_options) */
-    fevstunik_time started;    /* with FEVSTUNIK_RESTART_STARTED: the service's clock at this start */
+    fevstunik_time started;    /* with _RESTART_STARTED: the service's clock at this start; with _RESTART_SHARED: from when on the store remembers, and later by the difference of the skews if another service of these keys has a larger one, or had */
     uint32_t skew;             /* by how many seconds clocks may differ: up to 86,400; 300 is usual */
     uint32_t restarts;         /* a fevstunik_restart */
     bool any_name;             /* whether each name of the keytab is served if no name is given */
@@ -613,6 +669,47 @@ typedef struct fevstunik_usage {
     size_t full;             /* how many requests were answered with FEVSTUNIK_FULL */
 } fevstunik_usage;
 
+/* The two sides of a login. A number never changes its meaning. */
+typedef enum fevstunik_role {
+    FEVSTUNIK_ROLE_CLIENT = 1, /* the side that asked to log in */
+    FEVSTUNIK_ROLE_SERVICE = 2 /* the side that let it in */
+} fevstunik_role;
+
+/* How a message stands to those that were taken before it (RFC 2743, section 1.2.3). A number never
+ * changes its meaning.
+ */
+typedef enum fevstunik_order {
+    FEVSTUNIK_ORDER_NEXT = 0,   /* it is the next one */
+    FEVSTUNIK_ORDER_GAP = 1,    /* those between the next one and this one are missing */
+    FEVSTUNIK_ORDER_LATE = 2,   /* it was missing until now */
+    FEVSTUNIK_ORDER_REPEAT = 3, /* it was taken before */
+    FEVSTUNIK_ORDER_OLD = 4     /* it is before the first one, or more than 64 before the next one, so it isn't known whether it was taken */
+} fevstunik_order;
+
+/* What both sides agreed on in a login, and how one of them writes and takes messages. A service
+ * has the client's part from fevstunik_accepted_known and its own from its reply, a client has its
+ * own from its request and the service's from fevstunik_finish.
+ */
+typedef struct fevstunik_message_options {
+    uint32_t role;               /* which side this is: a fevstunik_role */
+    int32_t session_type;        /* the encryption type of the session key: 19 or 20 */
+    int32_t client_subkey_type;  /* that of the client's subkey, or 0 if its request has none */
+    int32_t service_subkey_type; /* that of the service's subkey, or 0 if its reply has none */
+    uint32_t client_seq;         /* the client's first sequence number, or 0 if its request has none */
+    uint32_t service_seq;        /* the service's first sequence number, or 0 if its reply has none; if there is no reply, MIT krb5 takes the client's */
+    uint16_t rotation;           /* by how many bytes sealed messages are rotated (RRC): 0, as MIT krb5 writes them, or any other number */
+    bool any_order;              /* whether messages are taken in any order; otherwise only the next one is taken, and each other one refused */
+    bool repeats;                /* whether, with any order, repeats are taken too, and messages that are too old to tell: then look at each one's order */
+} fevstunik_message_options;
+
+/* What is known of a message that was taken. */
+typedef struct fevstunik_received {
+    uint64_t number;     /* its sequence number */
+    fevstunik_span text; /* the place of its text in the message; empty if the text isn't inside */
+    uint32_t order;      /* how it stands to those before it: a fevstunik_order */
+    bool sealed;         /* whether the text was encrypted */
+} fevstunik_received;
+
 /* A service that accepts requests: opaque, and all zero before its first use. */
 typedef struct fevstunik_acceptor {
     void *opaque;
@@ -646,6 +743,11 @@ typedef struct fevstunik_pending {
     void *opaque;
 } fevstunik_pending;
 
+/* One side's messages after a login: opaque, and all zero before its first use. */
+typedef struct fevstunik_messages {
+    void *opaque;
+} fevstunik_messages;
+
 /* The values that initialize handles as empty. */
 #define FEVSTUNIK_ACCEPTOR_INIT {NULL}
 #define FEVSTUNIK_ACCEPTED_INIT {NULL}
@@ -653,6 +755,7 @@ typedef struct fevstunik_pending {
 #define FEVSTUNIK_KEYTAB_INIT {NULL}
 #define FEVSTUNIK_CACHE_INIT {NULL}
 #define FEVSTUNIK_PENDING_INIT {NULL}
+#define FEVSTUNIK_MESSAGES_INIT {NULL}
 
 /* ---- files ---- */
 
@@ -837,6 +940,14 @@ fevstunik_answer fevstunik_name_check(const uint8_t *name, size_t name_size);
  * time since the machine was started (CLOCK_MONOTONIC) and 0 are noticed, unless
  * `options->any_start` is true.
  *
+ * With FEVSTUNIK_RESTART_SHARED the service shares a store of stamps with others, and lets nobody
+ * in before it was asked: fevstunik_service_answer returns FEVSTUNIK_ASK_STORE for a client that it
+ * would let in, and fevstunik_login_settle decides. `options->started` is the moment from which the
+ * store remembers: that of its making, if it has lost nothing since. If another service of these
+ * keys has a larger skew, or had one, add the difference of the skews. All that is said of a start
+ * holds of it, too, so a service that is started again over such a store has no pause. The service
+ * refuses fevstunik_acceptor_accept, which asks no store.
+ *
  * With FEVSTUNIK_RESTART_FIRST_LIFE the service accepts at once. Use it only if *every* key of the
  * keytab is new, so that no service has used one of them before, or over a store of stamps
  * (fevstunik_accepted_stamp) that has lost nothing (docs/OPERATING.md, "Restarts", has the exact
@@ -915,11 +1026,12 @@ fevstunik_answer fevstunik_accepted_new(fevstunik_accepted *accepted);
  * returns anything but FEVSTUNIK_EMPTY_HANDLE. fevstunik_acceptor_error builds the error from it.
  *
  * Returns FEVSTUNIK_OK, or the first that applies: FEVSTUNIK_BAD_MOMENT; FEVSTUNIK_EMPTY_HANDLE if
- * either handle is empty; or a cause from FEVSTUNIK_MESSAGE_TYPE to FEVSTUNIK_AUTHORIZATION,
- * FEVSTUNIK_FULL or FEVSTUNIK_OUT_OF_MEMORY. FEVSTUNIK_FULL means that the request can't be
- * remembered, because a limit is reached: it isn't decided, and may be sent again later.
- * FEVSTUNIK_EMPTY_HANDLE leaves the service unchanged. FEVSTUNIK_BAD_MOMENT, FEVSTUNIK_FULL and
- * FEVSTUNIK_OUT_OF_MEMORY leave what is remembered and the latest moment unchanged.
+ * either handle is empty; FEVSTUNIK_SHARED if the service shares a store of stamps; or a cause from
+ * FEVSTUNIK_MESSAGE_TYPE to FEVSTUNIK_AUTHORIZATION, FEVSTUNIK_FULL or FEVSTUNIK_OUT_OF_MEMORY.
+ * FEVSTUNIK_FULL means that the request can't be remembered, because a limit is reached: it isn't
+ * decided, and may be sent again later. FEVSTUNIK_EMPTY_HANDLE leaves the service unchanged.
+ * FEVSTUNIK_BAD_MOMENT, FEVSTUNIK_SHARED, FEVSTUNIK_FULL and FEVSTUNIK_OUT_OF_MEMORY leave what is
+ * remembered and the latest moment unchanged.
  *
  *     fevstunik_time now = {1700000101, 0};
  *     if (fevstunik_acceptor_accept(&service, &accepted, request, request_size, &now).code == FEVSTUNIK_OK) ...
@@ -1076,8 +1188,10 @@ size_t fevstunik_acceptor_count(fevstunik_acceptor *handle);
  */
 fevstunik_answer fevstunik_acceptor_usage(fevstunik_acceptor *handle, fevstunik_usage *usage);
 
-/* Reads the latest moment that fevstunik_acceptor_accept was given so far. The service decides by
- * it. Calls that returned FULL, OUT_OF_MEMORY, BAD_MOMENT or EMPTY_HANDLE don't count.
+/* Reads the latest moment by which fevstunik_acceptor_accept or fevstunik_service_answer decided on
+ * a request so far. The service decides by it. Calls that decided on no request (FULL,
+ * OUT_OF_MEMORY, BAD_MOMENT, EMPTY_HANDLE, SHARED, BAD_RANDOM, and bytes that hold no request)
+ * don't count.
  *
  * Returns FEVSTUNIK_OK; or writes nothing and returns FEVSTUNIK_EMPTY_HANDLE or
  * FEVSTUNIK_NOTHING_THERE.
@@ -1128,20 +1242,25 @@ void fevstunik_acceptor_free(fevstunik_acceptor *handle);
  * the service's terms (`options` of fevstunik_acceptor_new), and writes what goes back to the
  * client to `out`, wrapped as the client wrapped its request. Unless the code is
  * FEVSTUNIK_SHORT_BUFFER, send these `size` bytes, whatever the code is; if there are none, nothing
- * goes back. With a store that several services share, send them only after its answer
- * (docs/OPERATING.md).
+ * goes back.
  *  - FEVSTUNIK_OK: the client is let in. `&login->accepted` holds what is known of it:
  *    fevstunik_accepted_known reads it. The bytes are the reply, if the client asks for one; else
  *    what a negotiation says without one.
  *  - FEVSTUNIK_GO_ON: a negotiation goes on. Send the bytes, and make the call with the same login
  *    for the client's next token.
+ *  - FEVSTUNIK_ASK_STORE, if the service shares a store of stamps (FEVSTUNIK_RESTART_SHARED): the
+ *    client isn't let in yet, nothing of it can be read, and there are no bytes to send.
+ *    fevstunik_login_stamp returns what to ask the store, and fevstunik_login_settle decides by its
+ *    answer. Such a service returns FEVSTUNIK_OK from no call but that one.
  *  - Any other code but FEVSTUNIK_SHORT_BUFFER: the client isn't let in, and nothing of it can be
  *    read. The bytes are an error (KRB-ERROR) for a client that asks for a reply, else a
- *    negotiation's reject, if it is one. If memory runs out, or the error would be too long, there
- *    may be none.
+ *    negotiation's reject, if it is one. If memory runs out, the code is FEVSTUNIK_FULL, or the
+ *    error would be too long, there may be none: then close the connection, so that the client
+ *    doesn't wait.
  * `login` is a new handle for each client. A login that is decided takes no other token: it returns
- * FEVSTUNIK_NEGOTIATION_OVER. `random` has fresh random bytes, new for each call: 16, then those of
- * the subkey if `subkey_type` of the options isn't 0 (16 for type 19, 32 for type 20).
+ * FEVSTUNIK_NEGOTIATION_OVER. Nor does one that waits for a store: it stops waiting, and its client
+ * can't be let in by this request. `random` has fresh random bytes, new for each call: 16, then
+ * those of the subkey if `subkey_type` of the options isn't 0 (16 for type 19, 32 for type 20).
  *
  * If the buffer is too short for the bytes, the code is FEVSTUNIK_SHORT_BUFFER, `size` is the
  * number of bytes that are needed, and `out` is unchanged; but all is decided, so don't make the
@@ -1150,8 +1269,8 @@ void fevstunik_acceptor_free(fevstunik_acceptor *handle);
  *
  * If threads share the service, put a lock around this call; reading what was accepted needs none.
  *
- * Returns FEVSTUNIK_OK or FEVSTUNIK_GO_ON; a cause from FEVSTUNIK_MESSAGE_TYPE to
- * FEVSTUNIK_CHANNEL_BINDINGS; FEVSTUNIK_FULL or FEVSTUNIK_OUT_OF_MEMORY if the request can't be
+ * Returns FEVSTUNIK_OK, FEVSTUNIK_GO_ON or FEVSTUNIK_ASK_STORE; a cause from FEVSTUNIK_MESSAGE_TYPE
+ * to FEVSTUNIK_CHANNEL_BINDINGS; FEVSTUNIK_FULL or FEVSTUNIK_OUT_OF_MEMORY if the request can't be
  * remembered or answered; FEVSTUNIK_NEGOTIATION_OVER or one of the codes from FEVSTUNIK_NOT_A_TOKEN
  * to FEVSTUNIK_NESTED_NEGOTIATION if the bytes hold no request; or FEVSTUNIK_SHORT_BUFFER. Or
  * decides nothing, leaves the service and the negotiation unchanged, and returns the first that
@@ -1165,25 +1284,82 @@ fevstunik_answer fevstunik_service_answer(fevstunik_acceptor *service, fevstunik
                                           const fevstunik_time *now, const uint8_t *random, size_t random_size, uint8_t *out,
                                           size_t out_size);
 
-/* Returns what the last fevstunik_service_answer with this login decided, and writes the bytes that
- * go back to the client: with a long enough buffer, the code and the bytes are those of that call.
- * It decides nothing, and may be repeated. The login is unchanged.
+/* Returns what the last fevstunik_service_answer or fevstunik_login_settle with this login decided,
+ * and writes the bytes that go back to the client: with a long enough buffer, the code and the
+ * bytes are those of that call. It decides nothing, and may be repeated. The login is unchanged.
  *
  * Returns FEVSTUNIK_SHORT_BUFFER; FEVSTUNIK_EMPTY_HANDLE; FEVSTUNIK_NOTHING_THERE if nothing was
- * decided by that call; or the code that was decided: FEVSTUNIK_OK, FEVSTUNIK_GO_ON, a cause from
- * FEVSTUNIK_MESSAGE_TYPE to FEVSTUNIK_CHANNEL_BINDINGS, FEVSTUNIK_FULL, FEVSTUNIK_OUT_OF_MEMORY,
- * FEVSTUNIK_NEGOTIATION_OVER or one of the codes from FEVSTUNIK_NOT_A_TOKEN to
- * FEVSTUNIK_NESTED_NEGOTIATION.
+ * decided by that call, or the login waits for a store; or the code that was decided: FEVSTUNIK_OK,
+ * FEVSTUNIK_GO_ON, a cause from FEVSTUNIK_MESSAGE_TYPE to FEVSTUNIK_CHANNEL_BINDINGS,
+ * FEVSTUNIK_STORE_FAILED, FEVSTUNIK_FULL, FEVSTUNIK_OUT_OF_MEMORY, FEVSTUNIK_NEGOTIATION_OVER or
+ * one of the codes from FEVSTUNIK_NOT_A_TOKEN to FEVSTUNIK_NESTED_NEGOTIATION.
  *
  *     if (answer.code == FEVSTUNIK_SHORT_BUFFER)
  *         answer = fevstunik_login_answer(&login, longer, answer.size);
  */
 fevstunik_answer fevstunik_login_answer(fevstunik_login *login, uint8_t *out, size_t out_size);
 
-/* Reads what the request asked for that the last fevstunik_service_answer with this login refused,
- * as far as it could be read, for a log. Writes the service's text to the buffer, and its place and
- * the numbers to `asked`. `asked` is written even if the buffer is too short. The login is
- * unchanged.
+/* Returns what to ask the store of stamps for a login that waits for it: fevstunik_service_answer
+ * returned FEVSTUNIK_ASK_STORE. Writes the stamp of the request to the buffer: the service, the
+ * client and the client's time as one string of bytes. Requests have the same stamp if and only if
+ * they are of the same service, client and time. `keep_until` is the client's time plus twice the
+ * service's skew, the last moment at which the store must still have the stamp. It is written even
+ * if the buffer is too short. If another service with a larger skew uses the store, keep the stamp
+ * longer, by twice the difference.
+ *
+ * The store adds the stamp unless it has it, in one step, and says whether it was new. If this call
+ * fails, settle with FEVSTUNIK_SAID_FAILED. The login is unchanged. Nothing of the service is used:
+ * if threads share it, this call needs no lock.
+ *
+ * Returns FEVSTUNIK_OK or FEVSTUNIK_SHORT_BUFFER; or writes nothing and returns
+ * FEVSTUNIK_EMPTY_HANDLE; FEVSTUNIK_NOT_WAITING if the login doesn't wait for a store;
+ * FEVSTUNIK_BAD_MOMENT (`keep_until` would be after the year 9999); or FEVSTUNIK_OUT_OF_MEMORY.
+ *
+ *     fevstunik_time keep_until;
+ *     uint8_t stamp[1024];
+ *     if (answer.code == FEVSTUNIK_ASK_STORE)
+ *         answer = fevstunik_login_stamp(&login, &keep_until, stamp, sizeof stamp);
+ */
+fevstunik_answer fevstunik_login_stamp(fevstunik_login *login, fevstunik_time *keep_until, uint8_t *buffer, size_t buffer_size);
+
+/* Decides about a login that waits for a store of stamps, by what the store said of its stamp, and
+ * writes what goes back to the client to `out`, wrapped as the client wrapped its request. `said`
+ * is a fevstunik_said. `now` is the service's clock, read after the store has answered: not the
+ * moment that fevstunik_service_answer was given. A login is settled once.
+ *  - FEVSTUNIK_OK: the stamp is new, and the request isn't too late. The client is let in, as by
+ *    fevstunik_service_answer.
+ *  - FEVSTUNIK_SKEW: the stamp is new, but `now` is later than the client's time by more than the
+ *    skew.
+ *  - FEVSTUNIK_REPEAT: the store has had the stamp before.
+ *  - FEVSTUNIK_STORE_FAILED: the store has failed. Say so if it doesn't answer in time, and never
+ *    use an answer that comes later. The client may try again with a new request.
+ * Unless the code is FEVSTUNIK_SHORT_BUFFER, send the `size` bytes, whatever the code is; if there
+ * are none, nothing goes back. If the buffer is too short, all is decided, as for
+ * fevstunik_service_answer: fevstunik_login_answer returns the code and the bytes with a longer
+ * buffer. The reply is made with the random bytes that fevstunik_service_answer was given.
+ *
+ * If the code is FEVSTUNIK_OUT_OF_MEMORY, the login may still wait: then fevstunik_login_answer
+ * returns FEVSTUNIK_NOTHING_THERE, and the call may be repeated with the same `said`. Don't ask the
+ * store again: it would say that it knows the stamp.
+ *
+ * Nothing of the service is used: if threads share it, this call needs no lock, and the service may
+ * be freed meanwhile.
+ *
+ * Returns FEVSTUNIK_OK, FEVSTUNIK_SKEW, FEVSTUNIK_REPEAT or FEVSTUNIK_STORE_FAILED;
+ * FEVSTUNIK_OUT_OF_MEMORY if the reply can't be made; or FEVSTUNIK_SHORT_BUFFER. Or decides
+ * nothing, leaves the login as it was, and returns the first that applies: FEVSTUNIK_BAD_SAID;
+ * FEVSTUNIK_BAD_MOMENT; FEVSTUNIK_EMPTY_HANDLE; FEVSTUNIK_NOT_WAITING if the login doesn't wait for
+ * a store, for example because it is settled; FEVSTUNIK_OUT_OF_MEMORY.
+ *
+ *     fevstunik_time after_the_answer = clock_now();
+ *     answer = fevstunik_login_settle(&login, is_new ? FEVSTUNIK_SAID_NEW : FEVSTUNIK_SAID_KNOWN, &after_the_answer, out, sizeof out);
+ */
+fevstunik_answer fevstunik_login_settle(fevstunik_login *login, uint32_t said, const fevstunik_time *now, uint8_t *out, size_t out_size);
+
+/* Reads what the request asked for that the last fevstunik_service_answer or fevstunik_login_settle
+ * with this login refused, as far as it could be read, for a log. Writes the service's text to the
+ * buffer, and its place and the numbers to `asked`. `asked` is written even if the buffer is too
+ * short. The login is unchanged.
  *
  * Returns FEVSTUNIK_OK or FEVSTUNIK_SHORT_BUFFER; or writes nothing and returns
  * FEVSTUNIK_EMPTY_HANDLE; FEVSTUNIK_NOTHING_THERE if no request was refused, or what it asked for
@@ -1438,7 +1614,8 @@ fevstunik_answer fevstunik_negotiation_take(fevstunik_negotiation *negotiation, 
  * the buffer. `found` is filled on FEVSTUNIK_OK and FEVSTUNIK_SHORT_BUFFER: on the latter the
  * places lie in the longer buffer that you need. Nobody has signed a KRB-ERROR: what it says may be
  * forged. If the code is 37 (KRB_AP_ERR_SKEW), `stime` less the client's clock is by how much the
- * clocks differ.
+ * clocks differ. If that is less than the skew, the service has just started, or its clock was
+ * ahead before.
  *
  * Returns FEVSTUNIK_OK or FEVSTUNIK_SHORT_BUFFER; or writes nothing and returns
  * FEVSTUNIK_ERROR_MALFORMED or FEVSTUNIK_OUT_OF_MEMORY.
@@ -1489,6 +1666,133 @@ fevstunik_answer fevstunik_verdict_read(const uint8_t *token, size_t token_size,
  */
 fevstunik_answer fevstunik_context_read(const uint8_t *checksum, size_t checksum_size, fevstunik_context *context, uint8_t *buffer,
                                         size_t buffer_size);
+
+/* Returns the hash of a channel's bindings (RFC 4121, section 4.1.1.2): 16 bytes, for the field
+ * `bindings_hash` of a service's options, for fevstunik_acceptor_replace_bindings, and for the
+ * field `bindings` of a client's choice. `bindings` has the application's data. For a TLS channel
+ * these are `tls-server-end-point:` and then the hash of the server's certificate (RFC 5929,
+ * section 4.1): its SHA-256, unless it is signed with SHA-384 or SHA-512: then that hash. The
+ * bindings have no addresses. The call allocates no memory.
+ *
+ * Returns FEVSTUNIK_OK or FEVSTUNIK_SHORT_BUFFER; or writes nothing and returns FEVSTUNIK_TOO_LONG
+ * if the data have 4,294,967,296 bytes or more.
+ *
+ *     answer = fevstunik_bindings_hash(bindings, bindings_size, options.bindings_hash, sizeof options.bindings_hash);
+ */
+fevstunik_answer fevstunik_bindings_hash(const uint8_t *bindings, size_t bindings_size, uint8_t *buffer, size_t buffer_size);
+
+/* ---- messages after a login ---- */
+
+/* Begins the messages of one side after a login: MIC and Wrap tokens of the GSS-API (RFC 4121,
+ * section 4.2). They are protected by the service's subkey if it has one, else by the client's if
+ * it has one, else by the session key. A subkey whose type is 0 is none, and its bytes aren't read.
+ * What the handle held is freed. Begin the messages of a login once: others of the same login begin
+ * again at the first numbers, and take what was taken before.
+ *
+ * Returns FEVSTUNIK_OK; or leaves the handle unchanged and returns the first that applies:
+ * FEVSTUNIK_BAD_ROLE; for the session key, the client's subkey and the service's, in this order,
+ * FEVSTUNIK_KEY_TYPE or FEVSTUNIK_KEY_LENGTH; FEVSTUNIK_OUT_OF_MEMORY.
+ *
+ *     fevstunik_messages messages = FEVSTUNIK_MESSAGES_INIT;
+ *     fevstunik_message_options agreed = {.role = FEVSTUNIK_ROLE_CLIENT, .session_type = both.session_type,
+ *         .client_subkey_type = choice.subkey_type, .client_seq = choice.seq,
+ *         .service_subkey_type = both.service_subkey_type, .service_seq = both.service_seq};
+ *     answer = fevstunik_messages_new(&messages, &agreed, bytes + both.session_key.at, both.session_key.size, subkey, subkey_size,
+ *         bytes + both.service_subkey.at, both.service_subkey.size);
+ */
+fevstunik_answer fevstunik_messages_new(fevstunik_messages *messages, const fevstunik_message_options *options, const uint8_t *session_key,
+                                        size_t session_key_size, const uint8_t *client_subkey, size_t client_subkey_size,
+                                        const uint8_t *service_subkey, size_t service_subkey_size);
+
+/* Begins the service's messages to a client that was let in, as fevstunik_messages_new does.
+ * `choice` and `subkey` are what the reply has: those of fevstunik_accepted_reply; or, after
+ * fevstunik_service_answer, a choice with the type of the service's subkeys, and the random bytes
+ * after the first 16 of the last fevstunik_service_answer with this login: keep them until then,
+ * also over fevstunik_login_settle. They don't count if the client asked for no reply: then both
+ * sides count from the client's first number, as MIT krb5 does. With `any_order` repeats are
+ * refused still. `accepted` is unchanged. Begin the messages of a login once.
+ *
+ * Returns FEVSTUNIK_OK; or leaves the handle unchanged and returns the first that applies:
+ * FEVSTUNIK_EMPTY_HANDLE or FEVSTUNIK_NOTHING_THERE (of `accepted`); for the client's subkey and
+ * the service's, in this order, FEVSTUNIK_KEY_TYPE or FEVSTUNIK_KEY_LENGTH;
+ * FEVSTUNIK_OUT_OF_MEMORY.
+ *
+ *     fevstunik_choice choice = {.subkey_type = 20};
+ *     answer = fevstunik_messages_of_accepted(&messages, &login.accepted, &choice, random + 16, 32, false);
+ */
+fevstunik_answer fevstunik_messages_of_accepted(fevstunik_messages *messages, fevstunik_accepted *accepted, const fevstunik_choice *choice,
+                                                const uint8_t *subkey, size_t subkey_size, bool any_order);
+
+/* Writes the MIC token of a text to the buffer, with this side's next number: 32 bytes (type 19) or
+ * 40 (type 20). The other side checks with it that the text is unchanged. The text is sent beside
+ * it. The call allocates no memory.
+ *
+ * Returns FEVSTUNIK_OK; or changes nothing and returns the first that applies:
+ * FEVSTUNIK_EMPTY_HANDLE, FEVSTUNIK_NUMBERS_USED_UP or FEVSTUNIK_SHORT_BUFFER.
+ *
+ *     answer = fevstunik_messages_mic(&messages, text, text_size, token, sizeof token);
+ */
+fevstunik_answer fevstunik_messages_mic(fevstunik_messages *messages, const uint8_t *text, size_t text_size, uint8_t *buffer,
+                                        size_t buffer_size);
+
+/* Checks that a token is the other side's MIC token of a text, and takes it. `order` says how it
+ * stands to those before it. The call allocates no memory.
+ *
+ * Returns FEVSTUNIK_OK; or changes nothing and returns the first that applies:
+ * FEVSTUNIK_EMPTY_HANDLE, FEVSTUNIK_MESSAGE_DEFECTIVE, _MESSAGE_DIRECTION, _MESSAGE_OTHER_KEY,
+ * _MESSAGE_INTEGRITY, FEVSTUNIK_MESSAGE_GAP (without `any_order`), or, unless both `any_order` and
+ * `repeats` are true, FEVSTUNIK_MESSAGE_REPEAT or _MESSAGE_OLD.
+ *
+ *     answer = fevstunik_messages_verify(&messages, text, text_size, token, token_size, &received);
+ */
+fevstunik_answer fevstunik_messages_verify(fevstunik_messages *messages, const uint8_t *text, size_t text_size, const uint8_t *token,
+                                           size_t token_size, fevstunik_received *received);
+
+/* Writes the Wrap token of a text to the buffer, with this side's next number. Sealed it has 64
+ * bytes (type 19) or 72 (type 20) more than the text, and otherwise the text in plain and 32 or 40
+ * bytes more. The confounder is 16 random bytes, new for each call; a message in plain doesn't
+ * contain it, and the call wants it all the same. The call allocates no memory.
+ *
+ * Returns FEVSTUNIK_OK; or changes nothing and returns the first that applies:
+ * FEVSTUNIK_BAD_CONFOUNDER, FEVSTUNIK_EMPTY_HANDLE, FEVSTUNIK_NUMBERS_USED_UP or
+ * FEVSTUNIK_SHORT_BUFFER.
+ *
+ *     answer = fevstunik_messages_wrap(&messages, true, random, 16, text, text_size, buffer, sizeof buffer);
+ */
+fevstunik_answer fevstunik_messages_wrap(fevstunik_messages *messages, bool sealed, const uint8_t *confounder, size_t confounder_size,
+                                         const uint8_t *text, size_t text_size, uint8_t *buffer, size_t buffer_size);
+
+/* Opens a Wrap token of the other side in place, and takes it. `order` says how it stands to those
+ * before it. The token's first 16 bytes stay. What stands around the text after them is
+ * unspecified. The call allocates no memory.
+ *
+ * Returns FEVSTUNIK_OK; or leaves the handle and `received` unchanged and returns the first that
+ * applies: FEVSTUNIK_EMPTY_HANDLE, FEVSTUNIK_MESSAGE_DEFECTIVE, _MESSAGE_DIRECTION,
+ * _MESSAGE_OTHER_KEY, _MESSAGE_INTEGRITY, FEVSTUNIK_MESSAGE_GAP (without `any_order`), or, unless
+ * both `any_order` and `repeats` are true, FEVSTUNIK_MESSAGE_REPEAT or _MESSAGE_OLD. The last four
+ * leave zeros after the token's first 16 bytes, and the others leave the token unchanged.
+ *
+ *     answer = fevstunik_messages_unwrap(&messages, token, token_size, &received);
+ *     if (answer.code == FEVSTUNIK_OK) fwrite(token + received.text.at, 1, received.text.size, stdout);
+ */
+fevstunik_answer fevstunik_messages_unwrap(fevstunik_messages *messages, uint8_t *token, size_t token_size, fevstunik_received *received);
+
+/* Returns in `size` how long a text may be at the most so that its Wrap token has at most so many
+ * bytes. The handle is unchanged.
+ *
+ * Returns FEVSTUNIK_OK, FEVSTUNIK_EMPTY_HANDLE, or FEVSTUNIK_TOO_LONG if even the token of an empty
+ * text is longer.
+ *
+ *     size_t longest = fevstunik_messages_limit(&messages, true, 65536).size;
+ */
+fevstunik_answer fevstunik_messages_limit(fevstunik_messages *messages, bool sealed, size_t size);
+
+/* Frees what the handle holds. The handle is empty then, and may be used again. Calling it with an
+ * empty handle has no effect. It can't fail.
+ *
+ *     fevstunik_messages_free(&messages);
+ */
+void fevstunik_messages_free(fevstunik_messages *messages);
 
 #ifdef __cplusplus
 }

@@ -18,16 +18,18 @@ int main(int count, char **words)
     fevstunik_time at;
     int times, peer;
 
-    if (count != 5 && count != 6)
+    if (count != 5 && count != 6) {
+        fputs("usage: client CACHE NAME PORT TEXT [twice]\n", stderr);
         return 2;
+    }
     read_file(words[1], &file);
     at = clock_now();
     draw(confounder, sizeof confounder);
     draw(subkey, sizeof subkey);
     answer = fevstunik_cache_new(&cache, file.at, file.size);
     if (answer.code == FEVSTUNIK_OK)
-        answer = fevstunik_request(&cache, &pending, (const uint8_t *)words[2], strlen(words[2]), &at, confounder, sizeof confounder, &choice,
-                                   subkey, sizeof subkey, request.at, sizeof request.at);
+        answer = fevstunik_request(&cache, &pending, (const uint8_t *)words[2], strlen(words[2]), &at, confounder,
+                                   sizeof confounder, &choice, subkey, sizeof subkey, request.at, sizeof request.at);
     fevstunik_cache_free(&cache);
     if (answer.code != FEVSTUNIK_OK) {
         fprintf(stderr, "client: no request: %s\n", fevstunik_code_text(answer.code));

@@ -1,15 +1,22 @@
 /* A service over TCP on the loopback, for several clients at once. A client that is let in sends a text under the key of the service's reply,
  * and gets a receipt. It has ten seconds for all of that. At SIGHUP the service reads its keytab again.
  *
- *     service KEYTAB NAME COUNT [first]      NAME as host/web@EX; it ends after so many connections
+ *     service KEYTAB NAME COUNT [first] [STORE [SECONDS]]      NAME as host/web@EX; it ends after so many connections
  *
- * `first` says that every key of the keytab is new; else logins are refused at first: docs/OPERATING.md, "Restarts", says why. It prints its
- * port, and then a line for each connection: `CLIENT: TEXT`, or `refused CODE`. */
+ * STORE is what all processes of the service share, as sqlite:/run/web/stamps or redis:/run/redis/redis.sock: store.h says more. Without one,
+ * logins are refused at first, after each start; with one, only after the store was made. It has so many seconds to answer, 2 if they are left
+ * out. `first` says that every key of the keytab is new: then there is no pause. docs/OPERATING.md, "Restarts", says why there is one.
+ *
+ * It prints its port, and then a line for each connection: `CLIENT: TEXT`, or `refused CODE`. */
+#include "store.h"
 #include "text.h"
 #include "threads.h"
 
+#define SKEW 300
+
 static fevstunik_acceptor service = FEVSTUNIK_ACCEPTOR_INIT;
-static fevstunik_acceptor_options options = {.size = sizeof options, .skew = 300, .subkey_type = SUBKEY_TYPE};
+static fevstunik_acceptor_options options = {.size = sizeof options, .skew = SKEW, .subkey_type = SUBKEY_TYPE};
+static struct store store;
 static char **given;
 
 /* Makes the service, or gives it the keytab as it is now. */
@@ -21,8 +28,9 @@ static void load(void)
     if (keytab == NULL)
         perror(given[1]);
     else {
-        fevstunik_answer answer = service.opaque == NULL ? fevstunik_acceptor_new(&service, keytab, size, name, length, &options)
-                                                         : fevstunik_acceptor_replace_keytab(&service, keytab, size, name, length, false);
+        fevstunik_answer answer = service.opaque == NULL
+                                      ? fevstunik_acceptor_new(&service, keytab, size, name, length, &options)
+                                      : fevstunik_acceptor_replace_keytab(&service, keytab, size, name, length, false);
 
         fprintf(stderr, "keytab: %s\n", fevstunik_code_text(answer.code));
         explicit_bzero(keytab, size);
@@ -32,13 +40,35 @@ static void load(void)
         exit(2);
 }
 
+/* Asks the store about a client that the service would let in. No lock is held meanwhile, and nothing of the client can be read. */
+static fevstunik_said ask(fevstunik_login *login)
+{
+    uint8_t stamp[MOST];
+    fevstunik_time keep_until;
+    fevstunik_answer answer = fevstunik_login_stamp(login, &keep_until, stamp, sizeof stamp);
+
+    if (answer.code != FEVSTUNIK_OK)
+        return FEVSTUNIK_SAID_FAILED;
+    keep_until.seconds += 2 * (store.made.largest_skew - SKEW);
+    return store_add(&store, stamp, answer.size, keep_until);
+}
+
 /* Decides about what a client sent, and sends what goes back. */
-static fevstunik_answer decide(int peer, fevstunik_login *login, const struct bytes *input, const uint8_t *random, size_t random_size)
+static fevstunik_answer decide(int peer, fevstunik_login *login, const struct bytes *input, const uint8_t *random,
+                               size_t random_size)
 {
     lock();
     fevstunik_time now = clock_now();
-    fevstunik_answer answer = fevstunik_service_answer(&service, login, input->at, input->size, &now, random, random_size, NULL, 0);
+    fevstunik_answer answer =
+        fevstunik_service_answer(&service, login, input->at, input->size, &now, random, random_size, NULL, 0);
     unlock();
+    if (answer.code == FEVSTUNIK_ASK_STORE) {
+        fevstunik_said said = ask(login);
+
+        /* (it may be too late by now) */
+        now = clock_now();
+        answer = fevstunik_login_settle(login, said, &now, NULL, 0);
+    }
     if (answer.code != FEVSTUNIK_SHORT_BUFFER)
         return answer;
     uint8_t *out = malloc(answer.size);
@@ -69,15 +99,39 @@ static void serve(int peer)
     fevstunik_login_free(&login);
 }
 
+/* Takes the options after COUNT, and returns whether they are right. The start over a store is the moment at which it was made. */
+static int take_options(char **words, int count)
+{
+    int is_first = count > 0 && strcmp(words[0], "first") == 0, at = is_first;
+
+    options.started = clock_now();
+    options.restarts = is_first ? FEVSTUNIK_RESTART_FIRST_LIFE : FEVSTUNIK_RESTART_STARTED;
+    if (at == count)
+        return 1;
+    if (count > at + 2 || !store_open(&store, words[at], count > at + 1 ? atoi(words[at + 1]) : 2) ||
+        store.made.largest_skew < SKEW)
+        return 0;
+    options.restarts = FEVSTUNIK_RESTART_SHARED;
+    options.any_start = is_first;
+    options.started = (fevstunik_time){0, 0};
+    if (!is_first)
+        options.started = (fevstunik_time){store.made.at / 1000000 + store.made.largest_skew - SKEW,
+                                           (uint32_t)(store.made.at % 1000000)};
+    return 1;
+}
+
 int main(int count, char **words)
 {
-    if (count != 4 && (count != 5 || strcmp(words[4], "first") != 0))
-        return 2;
+    /* A peer or a store that hangs up doesn't end the service. */
+    signal(SIGPIPE, SIG_IGN);
     given = words;
-    options.started = clock_now();
-    options.restarts = count == 5 ? FEVSTUNIK_RESTART_FIRST_LIFE : FEVSTUNIK_RESTART_STARTED;
+    if (count < 4 || !take_options(words + 4, count - 4)) {
+        fputs("usage: service KEYTAB NAME COUNT [first] [sqlite:FILE | redis:SOCKET [SECONDS]]\n", stderr);
+        return 2;
+    }
     load();
     serve_each(atoi(words[3]), serve, load);
     fevstunik_acceptor_free(&service);
+    store_close(&store);
     return 0;
 }

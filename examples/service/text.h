@@ -9,19 +9,22 @@
 #define SUBKEY_SIZE 32
 
 /* Sends a text under the key that the service chose; returns whether the receipt is the text's under ours. */
-static inline int say(int peer, const char *text, const fevstunik_agreement *agreement, const uint8_t *bytes, const uint8_t *subkey)
+static inline int say(int peer, const char *text, const fevstunik_agreement *agreement, const uint8_t *bytes,
+                      const uint8_t *subkey)
 {
     static struct bytes receipt;
     uint8_t confounder[16], sealed[4096];
     fevstunik_answer answer;
 
     draw(confounder, sizeof confounder);
-    answer = fevstunik_seal(agreement->service_subkey_type, bytes + agreement->service_subkey.at, agreement->service_subkey.size, TEXT_USAGE,
-                            confounder, sizeof confounder, (const uint8_t *)text, strlen(text), sealed, sizeof sealed);
+    answer = fevstunik_seal(agreement->service_subkey_type, bytes + agreement->service_subkey.at,
+                            agreement->service_subkey.size, TEXT_USAGE, confounder, sizeof confounder,
+                            (const uint8_t *)text, strlen(text), sealed, sizeof sealed);
     if (answer.code != FEVSTUNIK_OK || !transmit(peer, sealed, answer.size) || !receive(peer, &receipt))
         return 0;
-    return fevstunik_checksum_check(SUBKEY_TYPE, subkey, SUBKEY_SIZE, RECEIPT_USAGE, (const uint8_t *)text, strlen(text), receipt.at,
-                                    receipt.size).code == FEVSTUNIK_OK;
+    return fevstunik_checksum_check(SUBKEY_TYPE, subkey, SUBKEY_SIZE, RECEIPT_USAGE, (const uint8_t *)text,
+                                    strlen(text), receipt.at, receipt.size)
+               .code == FEVSTUNIK_OK;
 }
 
 /* Reads a text under the subkey of the reply, and sends its checksum under the client's subkey, or under the session key if it chose none. */
@@ -38,7 +41,8 @@ static inline void take_text(int peer, const fevstunik_known *known, const uint8
     opened = fevstunik_open(SUBKEY_TYPE, subkey, SUBKEY_SIZE, TEXT_USAGE, text.at, text.size, plain, sizeof plain);
     answer = fevstunik_checksum(type, bytes + key.at, key.size, RECEIPT_USAGE, plain, opened.size, tag, sizeof tag);
     if (opened.code == FEVSTUNIK_OK && answer.code == FEVSTUNIK_OK && transmit(peer, tag, answer.size))
-        printf("%.*s: %.*s\n", (int)known->client.size, (const char *)bytes + known->client.at, (int)opened.size, (const char *)plain);
+        printf("%.*s: %.*s\n", (int)known->client.size, (const char *)bytes + known->client.at, (int)opened.size,
+               (const char *)plain);
     else
         printf("a damaged text\n");
 }

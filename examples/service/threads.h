@@ -12,7 +12,9 @@
 #define SECONDS 10
 #endif
 
-static pthread_mutex_t one_at_a_time = PTHREAD_MUTEX_INITIALIZER;
+static pthread_mutex_t one_at_a_time = PTHREAD_MUTEX_INITIALIZER, counting = PTHREAD_MUTEX_INITIALIZER;
+static pthread_cond_t counted = PTHREAD_COND_INITIALIZER;
+static int running;
 static void (*serve_peer)(int), (*at_hangup)(void);
 
 static inline void lock(void)
@@ -25,12 +27,22 @@ static inline void unlock(void)
     pthread_mutex_unlock(&one_at_a_time);
 }
 
+/* Counts the threads that serve a peer. */
+static inline void count_threads(int more)
+{
+    pthread_mutex_lock(&counting);
+    running += more;
+    pthread_cond_signal(&counted);
+    pthread_mutex_unlock(&counting);
+}
+
 static inline void *serve_one(void *peer)
 {
     limit_time(SECONDS);
     serve_peer((int)(intptr_t)peer);
     fflush(stdout);
     close((int)(intptr_t)peer);
+    count_threads(-1);
     return NULL;
 }
 
@@ -51,28 +63,29 @@ static inline void *wait_for_hangups(void *hangup)
 static inline void serve_each(int count, void (*serve)(int), void (*hung_up)(void))
 {
     static sigset_t hangup;
-    pthread_t waiting, *threads = calloc((size_t)count + 1, sizeof *threads);
+    pthread_t waiting, serving;
     int at, peer, listener;
 
-    /* A peer that hangs up doesn't end the service. */
-    signal(SIGPIPE, SIG_IGN);
     serve_peer = serve;
     at_hangup = hung_up;
     sigemptyset(&hangup);
     sigaddset(&hangup, SIGHUP);
-    if (threads == NULL || pthread_sigmask(SIG_BLOCK, &hangup, NULL) != 0 || pthread_create(&waiting, NULL, wait_for_hangups, &hangup) != 0)
+    if (pthread_sigmask(SIG_BLOCK, &hangup, NULL) != 0 ||
+        pthread_create(&waiting, NULL, wait_for_hangups, &hangup) != 0)
         give_up("threads");
     listener = listen_on_any();
     for (at = 0; at < count; at++) {
         peer = accept_from(listener);
-        if (pthread_create(&threads[at], NULL, serve_one, (void *)(intptr_t)peer) != 0)
+        count_threads(1);
+        if (pthread_create(&serving, NULL, serve_one, (void *)(intptr_t)peer) != 0 || pthread_detach(serving) != 0)
             give_up("thread");
     }
-    for (at = 0; at < count; at++)
-        pthread_join(threads[at], NULL);
+    pthread_mutex_lock(&counting);
+    while (running > 0)
+        pthread_cond_wait(&counted, &counting);
+    pthread_mutex_unlock(&counting);
     pthread_cancel(waiting);
     pthread_join(waiting, NULL);
-    free(threads);
 }
 
 #endif

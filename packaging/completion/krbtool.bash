@@ -7,7 +7,7 @@ _krbtool() {
         return
     fi
     case $before in
-        --confounder | --file | --kvno | --now | --only | --out | --reply | --service | --skew | --started | --time | --token | --usec) return ;;
+        --at | --confounder | --file | --keytab | --kvno | --now | --only | --out | --reply | --service | --skew | --started | --time | --token | --usec) return ;;
     esac
     case ${COMP_WORDS[1]} in
         list-keytab) options='--readable --help' ;;
@@ -22,7 +22,7 @@ _krbtool() {
         request) options='--time --usec --confounder --mutual --token --help' ;;
         accept) options='--skew --started --service --only --tokens --help' ;;
         finish) options='--time --usec --reply --help' ;;
-        explain) options='--file --help' ;;
+        explain) options='--file --keytab --at --skew --only --help' ;;
         help) options='list-keytab list-ccache check-keytab check-ccache convert-keytab convert-ccache pick-key remove-key add-keys request accept finish explain' ;;
         *) return ;;
     esac

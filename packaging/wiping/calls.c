@@ -346,6 +346,24 @@ fevstunik_answer fevstunik_login_answer(fevstunik_login *login, uint8_t *out, si
     return answer;
 }
 
+fevstunik_answer proved_login_stamp(fevstunik_login *login, fevstunik_time *keep_until, uint8_t *buffer, size_t buffer_size);
+fevstunik_answer fevstunik_login_stamp(fevstunik_login *login, fevstunik_time *keep_until, uint8_t *buffer, size_t buffer_size)
+{
+    fevstunik_answer answer = proved_login_stamp(login, keep_until, buffer, buffer_size);
+
+    wipe_below(DEPTH_OF_LOGIN_STAMP);
+    return answer;
+}
+
+fevstunik_answer proved_login_settle(fevstunik_login *login, uint32_t said, const fevstunik_time *now, uint8_t *out, size_t out_size);
+fevstunik_answer fevstunik_login_settle(fevstunik_login *login, uint32_t said, const fevstunik_time *now, uint8_t *out, size_t out_size)
+{
+    fevstunik_answer answer = proved_login_settle(login, said, now, out, out_size);
+
+    wipe_below(DEPTH_OF_LOGIN_SETTLE);
+    return answer;
+}
+
 fevstunik_answer proved_login_asked(fevstunik_login *login, fevstunik_asked *asked, uint8_t *buffer, size_t buffer_size);
 fevstunik_answer fevstunik_login_asked(fevstunik_login *login, fevstunik_asked *asked, uint8_t *buffer, size_t buffer_size)
 {
@@ -569,4 +587,96 @@ fevstunik_answer fevstunik_context_read(const uint8_t *checksum, size_t checksum
 
     wipe_below(DEPTH_OF_CONTEXT_READ);
     return answer;
+}
+
+fevstunik_answer proved_bindings_hash(const uint8_t *bindings, size_t bindings_size, uint8_t *buffer, size_t buffer_size);
+fevstunik_answer fevstunik_bindings_hash(const uint8_t *bindings, size_t bindings_size, uint8_t *buffer, size_t buffer_size)
+{
+    fevstunik_answer answer = proved_bindings_hash(bindings, bindings_size, buffer, buffer_size);
+
+    wipe_below(DEPTH_OF_BINDINGS_HASH);
+    return answer;
+}
+
+fevstunik_answer proved_messages_new(fevstunik_messages *messages, const fevstunik_message_options *options, const uint8_t *session_key,
+                                     size_t session_key_size, const uint8_t *client_subkey, size_t client_subkey_size,
+                                     const uint8_t *service_subkey, size_t service_subkey_size);
+fevstunik_answer fevstunik_messages_new(fevstunik_messages *messages, const fevstunik_message_options *options, const uint8_t *session_key,
+                                        size_t session_key_size, const uint8_t *client_subkey, size_t client_subkey_size,
+                                        const uint8_t *service_subkey, size_t service_subkey_size)
+{
+    fevstunik_answer answer = proved_messages_new(messages, options, session_key, session_key_size, client_subkey, client_subkey_size,
+                                                  service_subkey, service_subkey_size);
+
+    wipe_below(DEPTH_OF_MESSAGES_NEW);
+    return answer;
+}
+
+fevstunik_answer proved_messages_of_accepted(fevstunik_messages *messages, fevstunik_accepted *accepted, const fevstunik_choice *choice,
+                                             const uint8_t *subkey, size_t subkey_size, bool any_order);
+fevstunik_answer fevstunik_messages_of_accepted(fevstunik_messages *messages, fevstunik_accepted *accepted, const fevstunik_choice *choice,
+                                                const uint8_t *subkey, size_t subkey_size, bool any_order)
+{
+    fevstunik_answer answer = proved_messages_of_accepted(messages, accepted, choice, subkey, subkey_size, any_order);
+
+    wipe_below(DEPTH_OF_MESSAGES_OF_ACCEPTED);
+    return answer;
+}
+
+fevstunik_answer proved_messages_mic(fevstunik_messages *messages, const uint8_t *text, size_t text_size, uint8_t *buffer,
+                                     size_t buffer_size);
+fevstunik_answer fevstunik_messages_mic(fevstunik_messages *messages, const uint8_t *text, size_t text_size, uint8_t *buffer,
+                                        size_t buffer_size)
+{
+    fevstunik_answer answer = proved_messages_mic(messages, text, text_size, buffer, buffer_size);
+
+    wipe_below(DEPTH_OF_MESSAGES_MIC);
+    return answer;
+}
+
+fevstunik_answer proved_messages_verify(fevstunik_messages *messages, const uint8_t *text, size_t text_size, const uint8_t *token,
+                                        size_t token_size, fevstunik_received *received);
+fevstunik_answer fevstunik_messages_verify(fevstunik_messages *messages, const uint8_t *text, size_t text_size, const uint8_t *token,
+                                           size_t token_size, fevstunik_received *received)
+{
+    fevstunik_answer answer = proved_messages_verify(messages, text, text_size, token, token_size, received);
+
+    wipe_below(DEPTH_OF_MESSAGES_VERIFY);
+    return answer;
+}
+
+fevstunik_answer proved_messages_wrap(fevstunik_messages *messages, bool sealed, const uint8_t *confounder, size_t confounder_size,
+                                      const uint8_t *text, size_t text_size, uint8_t *buffer, size_t buffer_size);
+fevstunik_answer fevstunik_messages_wrap(fevstunik_messages *messages, bool sealed, const uint8_t *confounder, size_t confounder_size,
+                                         const uint8_t *text, size_t text_size, uint8_t *buffer, size_t buffer_size)
+{
+    fevstunik_answer answer = proved_messages_wrap(messages, sealed, confounder, confounder_size, text, text_size, buffer, buffer_size);
+
+    wipe_below(DEPTH_OF_MESSAGES_WRAP);
+    return answer;
+}
+
+fevstunik_answer proved_messages_unwrap(fevstunik_messages *messages, uint8_t *token, size_t token_size, fevstunik_received *received);
+fevstunik_answer fevstunik_messages_unwrap(fevstunik_messages *messages, uint8_t *token, size_t token_size, fevstunik_received *received)
+{
+    fevstunik_answer answer = proved_messages_unwrap(messages, token, token_size, received);
+
+    wipe_below(DEPTH_OF_MESSAGES_UNWRAP);
+    return answer;
+}
+
+fevstunik_answer proved_messages_limit(fevstunik_messages *messages, bool sealed, size_t size);
+fevstunik_answer fevstunik_messages_limit(fevstunik_messages *messages, bool sealed, size_t size)
+{
+    fevstunik_answer answer = proved_messages_limit(messages, sealed, size);
+
+    wipe_below(DEPTH_OF_MESSAGES_LIMIT);
+    return answer;
+}
+
+void proved_messages_free(fevstunik_messages *messages);
+void fevstunik_messages_free(fevstunik_messages *messages)
+{
+    proved_messages_free(messages);
+    wipe_below(DEPTH_OF_MESSAGES_FREE);
 }

@@ -23,6 +23,9 @@ struct tried rattle_alloc(size_t size, size_t alignment);
 struct tried rattle_realloc(uint8_t *block, size_t kept, size_t size, size_t alignment);
 void rattle_dealloc(uint8_t *block);
 
+/* A block of up to so many bytes is overwritten here, since calling memset would take longer than that. */
+#define SMALL 128
+
 static uint8_t nothing;
 
 static size_t *size_of(uint8_t *block)
@@ -30,11 +33,23 @@ static size_t *size_of(uint8_t *block)
     return (size_t *)(void *)(block - HEAD);
 }
 
+/* Overwrites a block that is freed. The last step of a small one may take some of what stands before it, which isn't needed any more. */
+static void wipe_block(uint8_t *block, size_t room)
+{
+    if (room > SMALL) {
+        wipe(block, room);
+        return;
+    }
+    for (size_t at = 0; at + HEAD <= room; at += HEAD)
+        wipe(block + at, HEAD);
+    wipe(block + room - HEAD, HEAD);
+}
+
 struct tried rattle_alloc(size_t size, size_t alignment)
 {
     struct tried tried = {false, &nothing};
     size_t room = size > 0 ? size : alignment;
-    uint8_t *start = malloc(HEAD + room);
+    uint8_t *start = room <= SIZE_MAX - HEAD ? malloc(HEAD + room) : NULL;
 
     if (start != NULL) {
         tried.ok = true;
@@ -46,7 +61,7 @@ struct tried rattle_alloc(size_t size, size_t alignment)
 
 void rattle_dealloc(uint8_t *block)
 {
-    wipe(block, *size_of(block));
+    wipe_block(block, *size_of(block));
     free(block - HEAD);
 }
 

@@ -35,6 +35,7 @@ from ._errors import Error, Fault, LibraryError
 from ._files import Credential, CredentialCache, Keytab, KeytabEntry, Owner
 from ._library import load, version
 from ._login import Asked, Connection, Login, Service
+from ._messages import Message, Messages, Order, Side
 from ._service import Acceptor, Refused, Usage
 from ._tokens import (
     Context, ContextFlags, GoOn, KrbError, Mechanism, Negotiation, Says, Token, TokenAnswer, Verdict, open_answer, read_verdict,
@@ -44,8 +45,8 @@ from ._values import Key, Moment, TicketFlags, TypedData, When, check_name
 __all__ = [
     "CacheError", "CacheTrouble",
     "Accepted", "Acceptor", "Agreed", "Asked", "Client", "Code", "Connection", "Context", "ContextFlags", "Credential", "CredentialCache", "Error", "Fault", "GoOn",
-    "Key", "Keytab", "KeytabEntry", "KrbError", "LibraryError", "Login", "Mechanism", "Moment", "Negotiation", "Owner", "Pending", "Refused",
-    "Says", "Service", "ServiceError", "Stamp", "TicketFlags", "Token", "TokenAnswer", "TypedData", "Usage", "Verdict", "When", "check_name", "load",
+    "Key", "Keytab", "KeytabEntry", "KrbError", "LibraryError", "Login", "Mechanism", "Message", "Messages", "Moment", "Negotiation", "Order", "Owner", "Pending", "Refused",
+    "Says", "Service", "ServiceError", "Side", "Stamp", "TicketFlags", "Token", "TokenAnswer", "TypedData", "Usage", "Verdict", "When", "check_name", "load",
     "login", "make_request", "open_answer", "read_verdict", "tls_server_end_point", "version", "wrap_request",
 ]
 for _name in __all__:

@@ -5,14 +5,15 @@ import enum
 import os
 from ctypes import byref, c_int32
 from dataclasses import dataclass, field
+from functools import lru_cache
 from types import TracebackType
-from typing import Any, Self
+from typing import Any, Self, TypeVar
 
 from . import _interface
 from ._codes import Code
 from ._library import Handle, Secret, Shown, done, filled, fitting, read
 from ._tokens import CHECKSUM, Context
-from ._values import CONFOUNDER, Key, Moment, TicketFlags, TypedData, chosen
+from ._values import CONFOUNDER, Key, Moment, TicketFlags, TypedData, chosen, moment_of
 
 
 class _List(enum.IntEnum):
@@ -222,22 +223,44 @@ class Accepted(Known):
         return filled(lambda *into: self._handle.call("accepted_reply", confounder, CONFOUNDER, *choice, *into))
 
 
-def known_by(handle: Handle, skew: int) -> dict[str, Any]:
-    """What the handle holds, as the values of Known."""
-    known, data = read(_interface.Known, lambda *words: handle.call("accepted_known", *words))
+_Known = TypeVar("_Known", bound=Known)
+
+
+def known_by(kind: type[_Known], handle: Handle, skew: int, **more: Any) -> _Known:
+    """What the handle holds, as an object of this kind, which has more fields. The caller has the handle's lock, or has made it. (To set the
+    fields of a frozen dataclass one by one takes five times as long.)"""
+    made = object.__new__(kind)
+    made.__dict__.update(_read(handle), _handle=handle, _skew=skew, _lists={}, **more)
+    return made
+
+
+def _read(handle: Handle) -> dict[str, Any]:
+    known, data = read(_interface.Known, lambda *words: handle.inside("accepted_known", *words))
     return dict(
-        client=known.client.text(data), service=known.service.text(data), time=Moment(known.ctime, known.cusec),
-        authtime=known.authtime, starttime=_start(handle), endtime=known.endtime, flags=TicketFlags(known.flags),
+        client=known.client.text(data), service=known.service.text(data), time=moment_of(known.ctime, known.cusec),
+        authtime=known.authtime, starttime=_start(handle), endtime=known.endtime, flags=_flags(known.flags),
         session_key=Key(known.session_type, known.session_key.of(data)),
         subkey=Key(known.subkey_type, known.subkey.of(data)) if known.has_subkey else None,
         seq=known.seq if known.has_seq else None, wants_reply=known.wants_reply,
-        client_type=known.name_type, service_type=known.service_type, _handle=handle, _skew=skew)
+        client_type=known.name_type, service_type=known.service_type)
+
+
+# (a member of an enumeration is found more slowly)
+_NOTHING = Code.NOTHING_THERE.value
+
+
+@lru_cache(maxsize=256)
+def _flags(flags: int) -> TicketFlags:
+    return TicketFlags(flags)
 
 
 def _start(handle: Handle) -> int | None:
     start = _interface.Time()
-    answer = handle.call("accepted_start", byref(start))
-    return None if answer.code == Code.NOTHING_THERE else (done(answer), start.seconds)[1]
+    answer = handle.inside("accepted_start", byref(start))
+    if answer.code == _NOTHING:
+        return None
+    done(answer)
+    return start.seconds
 
 
 def _items(handle: Handle, which: _List) -> tuple[TypedData, ...]:

@@ -3,13 +3,14 @@ from __future__ import annotations
 
 import os
 from ctypes import byref, c_uint8
-from dataclasses import dataclass
+from dataclasses import dataclass, field
 from types import TracebackType
 from typing import Callable
 
 from . import _interface
 from ._files import CredentialCache
 from ._library import Bytes, Handle, Secret, filled, octets, read, text_of
+from ._messages import Messages, Side
 from ._shown import fit_for_a_line
 from ._tokens import ContextFlags, KrbError, Says, bindings_of, open_answer, read_verdict, wrap_request
 from ._values import CONFOUNDER, Key, Moment, When, chosen, clock_of_request
@@ -24,6 +25,8 @@ class Agreed(Secret):
     service_subkey  the key that the service chose, or None; of any type and length
     service_seq     the service's first sequence number, or None
     client_type     the type of the client's name
+    subkey          the key that the client chose, or None
+    seq             the client's first sequence number, or None
 
     >>> Agreed("alice@EX", Key(19, bytes(16)), None, 7, 1)
     Agreed(client='alice@EX', session_key=Key(kind=19), service_subkey=None, service_seq=7, client_type=1)
@@ -34,6 +37,26 @@ class Agreed(Secret):
     service_subkey: Key | None
     service_seq: int | None
     client_type: int
+    subkey: Key | None = field(default=None, repr=False)
+    seq: int | None = field(default=None, repr=False)
+
+    def messages(self, *, any_order: bool = False, repeats: bool = False) -> Messages:
+        """Begin the client's messages to the service: MIC and Wrap tokens of the GSS-API.
+
+        any_order, repeats  as of Messages
+
+        Call it once for each login: other messages of the same login begin again at the first numbers, and take what was taken before.
+
+        >>> from fevstunik import Client, CredentialCache, Keytab, Service
+        >>> service = Service(Keytab.read("examples/service.keytab"), "host/web@EX", first_life=True)
+        >>> client = Client(CredentialCache.read("examples/client.ccache"), "host/web@EX")
+        >>> login = service.answer(client.first(now=1_700_000_100), now=1_700_000_100)
+        >>> token = client.finish(login.reply).messages().wrap(b"hello")
+        >>> login.messages().unwrap(token).text
+        b'hello'
+        """
+        return Messages(Side.CLIENT, self.session_key, client_subkey=self.subkey, service_subkey=self.service_subkey,
+                        client_seq=self.seq or 0, service_seq=self.service_seq or 0, any_order=any_order, repeats=repeats)
 
 
 class Pending(Secret):
@@ -48,8 +71,8 @@ class Pending(Secret):
     >>> pending.close()
     """
 
-    def __init__(self, handle: Handle) -> None:
-        self._handle = handle
+    def __init__(self, handle: Handle, subkey: Key | None = None, seq: int | None = None) -> None:
+        self._handle, self._subkey, self._seq = handle, subkey, seq
 
     def finish(self, reply: Bytes) -> Agreed:
         """Read the bytes of the reply. A wrong reply raises Fault, and the right one may still be read afterwards.
@@ -67,7 +90,7 @@ class Pending(Secret):
         return Agreed(
             found.client.text(data), Key(found.session_type, found.session_key.of(data)),
             Key(found.service_subkey_type, found.service_subkey.of(data)) if found.has_service_subkey else None,
-            found.service_seq if found.has_service_seq else None, found.name_type)
+            found.service_seq if found.has_service_seq else None, found.name_type, self._subkey, self._seq)
 
     def close(self) -> None:
         """Free what the library holds. A second call does nothing.
@@ -117,7 +140,7 @@ def make_request(cache: CredentialCache, service: str, *, now: When | None = Non
     pending = Handle("pending")
     request = filled(lambda *into: cache._handle.call(
         call, pending.pointer, name, len(name), byref(at), confounder, CONFOUNDER, *choice, *more, *into))
-    return request, Pending(pending)
+    return request, Pending(pending, subkey, seq)
 
 
 # KRB_AP_ERR_SKEW (RFC 4120, section 7.5.9)

@@ -18,6 +18,7 @@ class Code(enum.IntEnum):
 
     OK = 0
     GO_ON = 1
+    ASK_STORE = 2
     MESSAGE_TYPE = 100
     MALFORMED = 110
     USER_TO_USER = 120
@@ -58,6 +59,9 @@ class Code(enum.IntEnum):
     EARLY_START = 419
     BAD_BINDINGS = 420
     BAD_RANDOM = 421
+    BAD_SAID = 422
+    NOT_WAITING = 423
+    SHARED = 424
     FILE_VERSION = 500
     FILE_HEADER = 501
     FILE_TRUNCATED = 502
@@ -94,6 +98,15 @@ class Code(enum.IntEnum):
     CONTEXT_TRUNCATED = 930
     CONTEXT_BINDINGS = 931
     CONTEXT_DELEGATION = 932
+    MESSAGE_DEFECTIVE = 940
+    MESSAGE_DIRECTION = 941
+    MESSAGE_OTHER_KEY = 942
+    MESSAGE_INTEGRITY = 943
+    MESSAGE_GAP = 944
+    MESSAGE_REPEAT = 946
+    MESSAGE_OLD = 947
+    NUMBERS_USED_UP = 948
+    BAD_ROLE = 949
 
     @classmethod
     def _missing_(cls, value: object) -> Code | None:
@@ -116,6 +129,7 @@ class Code(enum.IntEnum):
 _TEXTS = {
     Code.OK: "success",
     Code.GO_ON: "the login goes on with the client's next token",
+    Code.ASK_STORE: "the store of stamps decides whether the request is a repeat",
     Code.MESSAGE_TYPE: "the first byte isn't that of a request",
     Code.MALFORMED: "the bytes aren't a request",
     Code.USER_TO_USER: "the option use-session-key is set",
@@ -142,7 +156,7 @@ _TEXTS = {
     Code.SHORT_BUFFER: "the buffer is too short",
     Code.EMPTY_HANDLE: "the handle is empty",
     Code.NOTHING_THERE: "the handle has no accepted request, no refusal, or no such moment",
-    Code.TOO_LONG: "a file, a request, an error, a token, a name or a key is longer than its limit",
+    Code.TOO_LONG: "a file, a request, an error, a token, a name, a key or bindings are longer than their limit",
     Code.FULL: "the service remembers as many requests as it may, of all clients or of this one",
     Code.BAD_SKEW: "the skew is more than 86,400 seconds",
     Code.BAD_MOMENT: "the moment is outside the years 0000 to 9999, or has 1,000,000 microseconds or more",
@@ -156,6 +170,9 @@ _TEXTS = {
     Code.EARLY_START: "the start is before the year 2020",
     Code.BAD_BINDINGS: "there is no such rule for channel bindings, or it has no bindings to compare with",
     Code.BAD_RANDOM: "there are fewer or more random bytes than the service needs",
+    Code.BAD_SAID: "the number isn't one of what a store of stamps says",
+    Code.NOT_WAITING: "the login doesn't wait for a store of stamps",
+    Code.SHARED: "the service shares a store of stamps, which this call doesn't ask",
     Code.FILE_VERSION: "the file doesn't begin with 05 02 (a keytab), or with 05 03 or 05 04 (a cache)",
     Code.FILE_HEADER: "the header of the cache is malformed",
     Code.FILE_TRUNCATED: "the keytab ends within a record",
@@ -192,4 +209,13 @@ _TEXTS = {
     Code.CONTEXT_TRUNCATED: "the checksum of type 0x8003 is cut off",
     Code.CONTEXT_BINDINGS: "the length of the bindings in the checksum of type 0x8003 isn't 16",
     Code.CONTEXT_DELEGATION: "the delegation option in the checksum of type 0x8003 isn't 1",
+    Code.MESSAGE_DEFECTIVE: "the bytes aren't a message of this kind",
+    Code.MESSAGE_DIRECTION: "the message was sent back: it is one of the side that reads it",
+    Code.MESSAGE_OTHER_KEY: "the message is under another key",
+    Code.MESSAGE_INTEGRITY: "the message or its text was changed",
+    Code.MESSAGE_GAP: "messages before this one are missing",
+    Code.MESSAGE_REPEAT: "the message was taken before",
+    Code.MESSAGE_OLD: "the message is too old to know whether it was taken before",
+    Code.NUMBERS_USED_UP: "the message with the last number was sent",
+    Code.BAD_ROLE: "the number isn't that of a side",
 }

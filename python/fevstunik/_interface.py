@@ -3,11 +3,11 @@
 from __future__ import annotations
 
 import ctypes
-from ctypes import POINTER, c_bool, c_char_p, c_int16, c_int32, c_int64, c_size_t, c_uint8, c_uint32, c_void_p
+from ctypes import POINTER, c_bool, c_char_p, c_int16, c_int32, c_int64, c_size_t, c_uint8, c_uint16, c_uint32, c_uint64, c_void_p
 from typing import Any
 
 # The version of the library that this is for.
-VERSION = (0, 1, 0)
+VERSION = (0, 2, 0)
 
 
 class Opaque(ctypes.Structure):
@@ -352,6 +352,42 @@ class Usage(ctypes.Structure):
     full: int
 
 
+class MessageOptions(ctypes.Structure):
+    _fields_ = [
+        ("role", c_uint32),
+        ("session_type", c_int32),
+        ("client_subkey_type", c_int32),
+        ("service_subkey_type", c_int32),
+        ("client_seq", c_uint32),
+        ("service_seq", c_uint32),
+        ("rotation", c_uint16),
+        ("any_order", c_bool),
+        ("repeats", c_bool),
+    ]
+    role: int
+    session_type: int
+    client_subkey_type: int
+    service_subkey_type: int
+    client_seq: int
+    service_seq: int
+    rotation: int
+    any_order: bool
+    repeats: bool
+
+
+class Received(ctypes.Structure):
+    _fields_ = [
+        ("number", c_uint64),
+        ("text", Span),
+        ("order", c_uint32),
+        ("sealed", c_bool),
+    ]
+    number: int
+    text: Span
+    order: int
+    sealed: bool
+
+
 HANDLE, DATA, INTO = POINTER(Opaque), (c_char_p, c_size_t), (c_void_p, c_size_t)
 # What each function returns and takes, by its name without ``fevstunik_``; after it, what of the package calls it.
 FUNCTIONS: dict[str, tuple[Any, tuple[Any, ...]]] = {
@@ -389,6 +425,8 @@ FUNCTIONS: dict[str, tuple[Any, tuple[Any, ...]]] = {
     "acceptor_free": (None, (HANDLE,)),  # Acceptor.close
     "service_answer": (Answer, (HANDLE, POINTER(LoginHandle), *DATA, POINTER(Time), *DATA, *INTO)),  # Service.answer
     "login_answer": (Answer, (POINTER(LoginHandle), *INTO)),  # Service.answer
+    "login_stamp": (Answer, (POINTER(LoginHandle), POINTER(Time), *INTO)),  # Service.answer
+    "login_settle": (Answer, (POINTER(LoginHandle), c_uint32, POINTER(Time), *INTO)),  # Service.answer
     "login_asked": (Answer, (POINTER(LoginHandle), POINTER(Asked), *INTO)),  # Refused.asked
     "login_free": (None, (POINTER(LoginHandle),)),  # Service.answer
     "request_asks": (Answer, (*DATA, POINTER(Asked), *INTO)),  # asked_by
@@ -410,4 +448,11 @@ FUNCTIONS: dict[str, tuple[Any, tuple[Any, ...]]] = {
     "verdict_token": (Answer, (POINTER(Verdict), *INTO)),  # Verdict.token
     "verdict_read": (Answer, (*DATA, POINTER(Verdict))),  # read_verdict
     "context_read": (Answer, (*DATA, POINTER(Context), *INTO)),  # Context.read
+    "messages_new": (Answer, (HANDLE, POINTER(MessageOptions), *DATA, *DATA, *DATA)),  # Messages
+    "messages_mic": (Answer, (HANDLE, *DATA, *INTO)),  # Messages.mic
+    "messages_verify": (Answer, (HANDLE, *DATA, *DATA, POINTER(Received))),  # Messages.verify_mic
+    "messages_wrap": (Answer, (HANDLE, c_bool, *DATA, *DATA, *INTO)),  # Messages.wrap
+    "messages_unwrap": (Answer, (HANDLE, *INTO, POINTER(Received))),  # Messages.unwrap
+    "messages_limit": (Answer, (HANDLE, c_bool, c_size_t)),  # Messages.limit
+    "messages_free": (None, (HANDLE,)),  # Messages.close
 }

@@ -1,11 +1,11 @@
 """The shared library, by ctypes: its functions, and its handles with their locks."""
 from __future__ import annotations
 
+import atexit
 import ctypes
 import operator
 import os
 import threading
-import weakref
 from collections.abc import Callable
 from ctypes import byref
 from dataclasses import fields
@@ -72,7 +72,7 @@ def load(path: str | os.PathLike[str] | None = None) -> None:
     >>> import fevstunik
     >>> fevstunik.load()
     >>> fevstunik.version()
-    (0, 1, 0)
+    (0, 2, 0)
     """
     global _loaded
     _loaded = Library(os.fspath(path) if path is not None else os.environ.get(VARIABLE) or DEFAULT)
@@ -89,7 +89,7 @@ def version() -> tuple[int, int, int]:
     """Return the version of the shared library: its major, minor and patch number.
 
     >>> import fevstunik
-    >>> fevstunik.version() >= (0, 1, 0)
+    >>> fevstunik.version() >= (0, 2, 0)
     True
     """
     return library().version
@@ -101,21 +101,36 @@ def fault_of(answer: Answer) -> Error | MemoryError:
     return Fault(answer.code, answer.kerberos, answer.at)
 
 
+# (a member of an enumeration is found more slowly)
+_OK, _SHORT = Code.OK.value, Code.SHORT_BUFFER.value
+
+
 def done(answer: Answer) -> Answer:
     """The answer, if it is success."""
-    if answer.code != Code.OK:
+    if answer.code != _OK:
         raise fault_of(answer)
     return answer
 
 
-def filled(call: Callable[[Any, int], Answer], room: int = 1024) -> bytes:
+# The room of a first buffer: enough, but for long names and data. (create_string_buffer takes four times as long.)
+ROOM = 1024
+Buffer = ctypes.c_char * ROOM
+
+
+def filled(call: Callable[[Any, int], Answer], room: int = ROOM) -> bytes:
     """The bytes that a call with a buffer returns. The first buffer has this room; a call that needs more is made again."""
-    while True:
+    buffer: Any = Buffer() if room == ROOM else ctypes.create_string_buffer(room)
+    answer = call(buffer, room)
+    while answer.code == _SHORT:
+        room = answer.size
         buffer = ctypes.create_string_buffer(room)
         answer = call(buffer, room)
-        if answer.code != Code.SHORT_BUFFER:
-            return ctypes.string_at(buffer, done(answer).size)
-        room = answer.size
+    return bytes_of(buffer, done(answer).size)
+
+
+def bytes_of(buffer: Any, size: int) -> bytes:
+    """The first bytes of a buffer. (To copy all of a small one is faster than ctypes.string_at.)"""
+    return bytes(buffer.raw[:size])
 
 
 def octets(data: Bytes) -> bytes:
@@ -199,20 +214,24 @@ os.register_at_fork(after_in_child=_begin_life)
 class Handle(Secret):
     """A handle of the library, of the kind whose function ``KIND_free`` frees it. One call at a time uses it."""
 
+    _made_in: tuple[object, int] | None = None
+    # At the end of the process, when other threads may be in a call still, nothing is freed.
+    _is_over = False
+
     def __init__(self, kind: str, opaque: type[ctypes.Structure] = Opaque) -> None:
         self.library = library()
-        self._made_in = here()
         # (a signal handler may make a call while its thread has the lock)
         self._lock = threading.RLock()
         self._opaque: Any = opaque()
         self._kind = kind
-        # (at the end of the process, when other threads may be in a call still, nothing is freed)
-        weakref.finalize(self, _free, self.library, kind, self._opaque, self._made_in).atexit = False
+        # The pointer to it, for a call that has the lock, or for the thread that made it.
+        self.pointer: Any = byref(self._opaque)
+        self._made_in = here()
 
-    @property
-    def pointer(self) -> Any:
-        """The pointer to it, for a call that has the lock, or for the thread that made it."""
-        return byref(self._opaque)
+    def __del__(self) -> None:
+        # (weakref.finalize takes seven times as long)
+        if not self._is_over and self._made_in == here():
+            self.library.call(f"{self._kind}_free", self.pointer)
 
     def locked(self) -> threading._RLock:
         """The lock, to be entered for a call."""
@@ -224,17 +243,24 @@ class Handle(Secret):
     def call(self, name: str, *words: Any) -> Any:
         """Call a function whose first argument is this handle."""
         with self.locked():
-            return self.library.call(name, self.pointer, *words)
+            return self.inside(name, *words)
+
+    def inside(self, name: str, *words: Any) -> Any:
+        """The same for a call that has the lock, or for the thread that made it."""
+        return self.library.call(name, self.pointer, *words)
 
     def close(self) -> None:
         self.call(f"{self._kind}_free")
+
+    @classmethod
+    def end(cls) -> None:
+        """The process ends."""
+        cls._is_over = True
+
+
+atexit.register(Handle.end)
 
 
 def here() -> tuple[object, int]:
     """This process: no other is equal, also if something has forked it without Python's knowledge."""
     return _life, os.getpid()
-
-
-def _free(library: Library, kind: str, opaque: ctypes.Structure, made_in: tuple[object, int]) -> None:
-    if made_in == here():
-        library.call(f"{kind}_free", byref(opaque))

@@ -2,6 +2,7 @@
 from __future__ import annotations
 
 import ctypes
+import enum
 import os
 import time
 from collections.abc import Callable, Iterable
@@ -15,10 +16,12 @@ from ._codes import Code
 from ._errors import Fault, StoreFailed
 from ._files import Keytab, kvnos_of
 from ._interface import Answer
-from ._library import Bytes, Handle, Secret, done, fault_of, fitting, library, octets, read, text_of
+from ._library import (
+    ROOM, Buffer, Bytes, Handle, Secret, bytes_of, done, fault_of, filled, fitting, library, octets, read, text_of)
+from ._messages import Messages, Side
 from ._service import Refused, Serving, options_of
 from ._shown import fit_for_a_line
-from ._tokens import GoOn, Negotiation, Token, bindings_of
+from ._tokens import GoOn, bindings_of
 from ._values import CONFOUNDER, LAST_SECOND, Key, Moment, When, clock
 
 if TYPE_CHECKING:
@@ -27,16 +30,18 @@ if TYPE_CHECKING:
 _IGNORED, _IF_SENT, _REQUIRED = range(3)
 # How many bytes of a key each type has.
 _KEYS = {None: 0, 19: 16, 20: 32}
-# The buffer for an answer: enough, but for very long names.
-_ROOM = 1024
-# The first byte of a request that comes without a token.
-_REQUEST = b"\x6e"
-# The code of RFC 4120, section 7.5.9, that belongs to what is decided after the store has spoken.
-_KERBEROS = {Code.REPEAT: 34, Code.SKEW: 37, Code.STORE_FAILED: 60}
 # The largest skew for which the file of a store is made, unless its service has a larger one.
 _SKEW = 300
 # The call wasn't made as it should be, so nothing was decided.
-_MISUSE = (Code.EMPTY_HANDLE, Code.BAD_MOMENT, Code.BAD_RANDOM)
+_MISUSE = (Code.EMPTY_HANDLE, Code.BAD_MOMENT, Code.BAD_RANDOM, Code.NOT_WAITING)
+
+
+class _Said(enum.IntEnum):
+    """What a store says of a stamp, as the library takes it."""
+
+    NEW = 1
+    KNOWN = 2
+    FAILED = 3
 
 
 @dataclass(frozen=True)
@@ -118,6 +123,29 @@ class Login(Known):
     reply: bytes = field(repr=False)
     service_subkey: Key | None
 
+    def messages(self, *, any_order: bool = False, repeats: bool = False) -> Messages:
+        """Begin the service's messages to this client: MIC and Wrap tokens of the GSS-API. Send `reply` first.
+
+        any_order, repeats  as of Messages
+
+        Call it once for each login: other messages of the same login begin again at the first numbers, and take what was taken before.
+
+        If the client asked for no reply, both sides count from its own number, as MIT krb5 does.
+
+        >>> from fevstunik import Client, CredentialCache, Keytab, Service
+        >>> service = Service(Keytab.read("examples/service.keytab"), "host/web@EX", first_life=True, subkey=20)
+        >>> client = Client(CredentialCache.read("examples/client.ccache"), "host/web@EX")
+        >>> login = service.answer(client.first(now=1_700_000_100), now=1_700_000_100)
+        >>> token = login.messages().mic(b"hello")
+        >>> client.finish(login.reply).messages().verify_mic(b"hello", token).name
+        'NEXT'
+        """
+        first = self.seq or 0
+        # (the client's subkey doesn't count then, and may be of any type)
+        subkey = self.subkey if self.service_subkey is None else None
+        return Messages(Side.SERVICE, self.session_key, client_subkey=subkey, service_subkey=self.service_subkey, client_seq=first,
+                        service_seq=0 if self.wants_reply else first, any_order=any_order, repeats=repeats)
+
 
 class Connection(Secret):
     """A client's login over its rounds, as Service.login returns it. Each client has one of its own.
@@ -130,7 +158,6 @@ class Connection(Secret):
 
     def __init__(self, service: Service) -> None:
         self._service, self._handle, self._over = service, _LoginHandle(), False
-        self._negotiation = Negotiation()
 
     def answer(self, data: Bytes, now: When | None = None) -> Login | GoOn | Refused:
         """Answer the client's next bytes, as Service.answer does. After GoOn, call it again with the client's next token.
@@ -180,45 +207,52 @@ class Connection(Secret):
         began, random = _ticks(), os.urandom(CONFOUNDER + _KEYS[self._service._subkey])
         answer, reply = self._answer(data, now, random)
         self._over = answer.code != Code.GO_ON
-        if answer.code not in (Code.OK, Code.GO_ON):
-            asked, held = self._for_a_log(answer.code)
-            self._handle.close()
-            return Refused(answer.code, answer.kerberos, answer.at, reply=reply, asked=asked, held=held)
-        store = self._service._store
-        if store is None:
-            return GoOn(reply) if answer.code == Code.GO_ON else self._let_in(self._known(), reply, random)
-        carried = self._carried(data)
         if answer.code == Code.GO_ON:
             return GoOn(reply)
-        return _Waiting(self, store, carried, lambda known: self._let_in(known, reply, random), lambda: _later(now, began))
+        if answer.code == Code.ASK_STORE:
+            return _Waiting(self, random, lambda: _later(now, began))
+        return self._outcome(answer, reply, random)
+
+    def _outcome(self, answer: Answer, reply: bytes, random: bytes) -> Login | Refused:
+        """What comes of a login that is decided."""
+        if answer.code == Code.OK:
+            return self._let_in(reply, random)
+        asked, held = self._for_a_log(answer.code)
+        self._handle.close()
+        return Refused(answer.code, answer.kerberos, answer.at, reply=reply, asked=asked, held=held)
 
     def _answer(self, data: bytes, now: When | None, random: bytes) -> tuple[Answer, bytes]:
         """What the service decides, and the bytes that go back."""
-        buffer, serving = ctypes.create_string_buffer(_ROOM), self._service._handle
+        buffer, serving = Buffer(), self._service._handle
         with serving.locked():
             # (the clock is read with the lock: otherwise an earlier moment could come after a later one)
             at = clock(now)
-            answer = serving.call(
-                "service_answer", self._handle.pointer, data, len(data), byref(at), random, len(random), buffer, _ROOM)
+            answer = serving.inside(
+                "service_answer", self._handle.pointer, data, len(data), byref(at), random, len(random), buffer, ROOM)
+        return self._whole(answer, buffer)
+
+    def _whole(self, answer: Answer, buffer: Any) -> tuple[Answer, bytes]:
+        """What was decided, and the bytes that go back, for which this buffer may be too short."""
         if answer.code == Code.SHORT_BUFFER:
             buffer = ctypes.create_string_buffer(answer.size)
             answer = self._handle.call("login_answer", buffer, answer.size)
         if answer.code in _MISUSE:
             raise fault_of(answer)
-        return answer, ctypes.string_at(buffer, answer.size)
+        return answer, bytes_of(buffer, answer.size)
 
-    def _carried(self, data: bytes) -> _Carried:
-        """The request of bytes that the service has taken, and what it came in."""
-        found = None if data.startswith(_REQUEST) else self._negotiation.take(data)
-        return _Carried(found.request, found) if isinstance(found, Token) else _Carried(data, None)
+    def _settled(self, said: _Said, at: Moment, random: bytes) -> Login | Refused:
+        """What is decided after the store has spoken."""
+        buffer, looked = Buffer(), _interface.Time(at.seconds, at.micros)
+        with self._handle.locked():
+            answer, reply = self._whole(self._handle.inside("login_settle", said, byref(looked), buffer, ROOM), buffer)
+            return self._outcome(answer, reply, random)
 
-    def _known(self) -> dict[str, Any]:
-        return known_by(self._handle, self._service._skew)
-
-    def _let_in(self, known: dict[str, Any], reply: bytes, random: bytes) -> Login:
+    def _let_in(self, reply: bytes, random: bytes) -> Login:
         kind = self._service._subkey
-        sent = None if kind is None or not known["wants_reply"] else Key(kind, random[CONFOUNDER:])
-        return Login(**known, reply=reply, service_subkey=sent)
+        login = known_by(Login, self._handle, self._service._skew, reply=reply, service_subkey=None)
+        if kind is not None and login.wants_reply:
+            object.__setattr__(login, "service_subkey", Key(kind, random[CONFOUNDER:]))
+        return login
 
     def _out_of_memory(self) -> Refused:
         self._over = True
@@ -234,47 +268,18 @@ class Connection(Secret):
             return None, ()
 
 
-@dataclass(frozen=True)
-class _Carried:
-    """A request, and the token that it came in, if any."""
-
-    request: bytes
-    token: Token | None
-
-    def refusal(self, known: Known, code: Code, at: Moment) -> bytes:
-        """What goes back to a client that is refused: an error if it asked for a reply, else a negotiation's reject. If it can't be made,
-        nothing."""
-        try:
-            if not known.wants_reply:
-                return b"" if self.token is None else self.token.rejected()
-            error = Refused(code).error(known.service, now=at, name_type=known.service_type)
-            return error if self.token is None else self.token.error(error)
-        except (Fault, MemoryError):
-            return b""
-
-    def asked(self) -> Asked | None:
-        try:
-            return Asked.read(self.request)
-        except MemoryError:
-            return None
-
-
 class _Waiting:
-    """A request that the service has accepted, before its store has spoken. There is no Login yet, and nobody can read the request."""
+    """A login that waits for the store. Until it is settled, the library lets nobody read the request."""
 
-    def __init__(self, connection: Connection, store: Store, carried: _Carried, let_in: Callable[[dict[str, Any]], Login],
-                 later: Callable[[], Moment]) -> None:
-        self._connection, self._store, self._carried, self._let_in, self._later = connection, store, carried, let_in, later
-        self._known = connection._known()
-        self._said: Code = Code.STORE_FAILED
+    def __init__(self, connection: Connection, random: bytes, later: Callable[[], Moment]) -> None:
+        self._connection, self._random, self._later = connection, random, later
+        self._said = _Said.FAILED
         self._fault: Exception | None = None
 
     def ask(self) -> None:
         """Ask the store, which may take long. No lock is held."""
         try:
-            # (after the year 9999 there is no moment until which to keep it)
-            stamp = Known(**self._known).stamp(self._store.largest_skew)
-            is_new = self._store.add(stamp.data, stamp.keep_until)
+            is_new = self._add()
         except (StoreFailed, Fault, MemoryError) as fault:
             self._fault = fault
             return
@@ -282,7 +287,17 @@ class _Waiting:
             self._connection._handle.close()
             raise
         # (what a store returns that isn't a bool lets nobody in)
-        self._said = Code.OK if is_new is True else Code.REPEAT if is_new is False else Code.STORE_FAILED
+        self._said = _Said.NEW if is_new is True else _Said.KNOWN if is_new is False else _Said.FAILED
+
+    def _add(self) -> object:
+        connection, until = self._connection, _interface.Time()
+        service, store = connection._service, connection._service._store
+        assert store is not None
+        stamp = filled(lambda *into: connection._handle.call("login_stamp", byref(until), *into))
+        last = until.seconds + 2 * (store.largest_skew - service._skew)
+        if last > LAST_SECOND:
+            raise Fault(Code.BAD_MOMENT)
+        return store.add(stamp, Moment(last, until.micros))
 
     def settled(self) -> Login | Refused:
         """What comes of it."""
@@ -290,25 +305,12 @@ class _Waiting:
         try:
             if isinstance(self._fault, MemoryError):
                 raise self._fault
-            code, reply = _settle(Known(**self._known), self._carried, self._said, self._later(), connection._service._skew)
-            if code == Code.OK:
-                return self._let_in(self._known)
-            refused = Refused(code, _KERBEROS[code], reply=reply, asked=self._carried.asked())
-            refused.__cause__ = self._fault
+            decision = connection._settled(self._said, self._later(), self._random)
         except MemoryError:
             return connection._out_of_memory()
-        connection._handle.close()
-        return refused
-
-
-def _settle(known: Known, carried: _Carried, said: Code, at: Moment, skew: int) -> tuple[Code, bytes]:
-    """The last step of a login over a store: what is decided after the store has spoken, and the bytes for a client that is refused.
-
-    The service's clock is read again: of a request that is too late now, the store may have forgotten the stamp before it was asked.
-    """
-    is_late = at > Moment(known.time.seconds + skew, known.time.micros)
-    code = Code.SKEW if said == Code.OK and is_late else said
-    return code, b"" if code == Code.OK else carried.refusal(known, code, at)
+        if isinstance(decision, Refused):
+            decision.__cause__ = self._fault
+        return decision
 
 
 def _ticks() -> float:
@@ -330,11 +332,11 @@ class _LoginHandle(Handle):
 
     def __init__(self) -> None:
         super().__init__("login", _interface.LoginHandle)
+        self._accepted = byref(self._opaque.accepted)
 
-    def call(self, name: str, *words: Any) -> Any:
-        with self.locked():
-            first = byref(self._opaque.accepted) if name.startswith("accepted_") else self.pointer
-            return self.library.call(name, first, *words)
+    def inside(self, name: str, *words: Any) -> Any:
+        first = self._accepted if name.startswith("accepted_") else self.pointer
+        return self.library.call(name, first, *words)
 
 
 class Service(Serving):
@@ -382,7 +384,7 @@ class Service(Serving):
         asked = None if store is None else _store_of(store, fitting(skew, 32))
         if asked is not None and not first_life:
             started = _start_over(asked, skew, started)
-        options = options_of(service, skew, started, first_life, (limit, limit_for_client))
+        options = options_of(service, skew, started, first_life, (limit, limit_for_client), asked is not None)
         options.bindings, bound = _bound(bindings, _flag("bindings_required", bindings_required))
         options.bindings_hash = type(options.bindings_hash)(*bound)
         if subkey not in _KEYS or isinstance(subkey, bool):

@@ -101,6 +101,7 @@ class Refused(Error):
 class _Restart(enum.IntEnum):
     STARTED = 1
     FIRST_LIFE = 2
+    SHARED = 3
 
 
 @dataclass(frozen=True)
@@ -263,7 +264,7 @@ class Acceptor(Serving):
             at = clock(now)
             answer = self._handle.call("acceptor_accept", accepted.pointer, request, len(request), byref(at))
         _decided(answer)
-        return Accepted(**known_by(accepted, self._skew))
+        return known_by(Accepted, accepted, self._skew)
 
 
 def _wanted(service: str | None) -> bytes:
@@ -272,19 +273,20 @@ def _wanted(service: str | None) -> bytes:
     return b"" if service is None else text_of(service)
 
 
-def options_of(service: str | None, skew: int, started: When | None, first_life: bool,
-               limits: tuple[int | None, int | None]) -> _interface.AcceptorOptions:
-    """What a service is made with, as the library takes it."""
+def options_of(service: str | None, skew: int, started: When | None, first_life: bool, limits: tuple[int | None, int | None],
+               is_shared: bool = False) -> _interface.AcceptorOptions:
+    """What a service is made with, as the library takes it. One that shares a store has a start in its first life, too: long ago."""
     if any(limit is not None and limit < 1 for limit in limits):
         raise ValueError("a limit is at least 1")
     if not isinstance(first_life, bool):
         raise TypeError(f"first_life is a bool, not {first_life!r}")
     if first_life == (started is not None):
         raise TypeError("pass either started, the clock of this start, or first_life=True, if every key of the keytab is new")
-    restarts = _Restart.FIRST_LIFE if started is None else _Restart.STARTED
+    restarts = _Restart.SHARED if is_shared else _Restart.FIRST_LIFE if started is None else _Restart.STARTED
     size, at = ctypes.sizeof(_interface.AcceptorOptions), _interface.Time() if started is None else clock(started)
     all_clients, one_client = (fitting(limit or 0, 64) for limit in limits)
-    return _interface.AcceptorOptions(size, at, fitting(skew, 32), restarts, service is None, False, all_clients, one_client)
+    is_long_ago = is_shared and started is None
+    return _interface.AcceptorOptions(size, at, fitting(skew, 32), restarts, service is None, is_long_ago, all_clients, one_client)
 
 
 def _decided(answer: Answer) -> None:

@@ -49,7 +49,7 @@ class Moment:
         >>> Moment.now() > Moment(1_700_000_000)
         True
         """
-        return cls(*divmod(time.time_ns() // 1000, 1_000_000))
+        return moment_of(*_clock())
 
     @classmethod
     def of(cls, when: When) -> Moment:
@@ -73,9 +73,22 @@ class Moment:
 When = Union[Moment, int, float]
 
 
+def moment_of(seconds: int, micros: int) -> Moment:
+    """The moment of numbers that needn't be checked."""
+    made = object.__new__(Moment)
+    object.__setattr__(made, "seconds", seconds)
+    object.__setattr__(made, "micros", micros)
+    return made
+
+
+def _clock() -> tuple[int, int]:
+    """The machine's clock."""
+    return divmod(time.time_ns() // 1000, 1_000_000)
+
+
 def clock(when: When | None) -> _interface.Time:
     """The moment as the library takes it: the machine's clock by default."""
-    return _taken(Moment.now() if when is None else Moment.of(when))
+    return _interface.Time(*_clock()) if when is None else _taken(Moment.of(when))
 
 
 def _taken(moment: Moment) -> _interface.Time:

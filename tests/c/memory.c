@@ -57,6 +57,7 @@ static fevstunik_accepted accepted;
 static fevstunik_cache credentials;
 static fevstunik_keytab keys;
 static fevstunik_pending pending;
+static fevstunik_messages messages;
 
 static fevstunik_answer making(void)
 {
@@ -125,6 +126,18 @@ static fevstunik_answer asking_in_context(void)
 
     return fevstunik_context_request(&credentials, &pending, service_name, 11, &now, cache.at, 16, &keyed, cache.at, 16, &context, buffer,
                                      sizeof buffer);
+}
+
+static fevstunik_answer beginning(void)
+{
+    static const fevstunik_message_options options = {.role = FEVSTUNIK_ROLE_CLIENT, .session_type = 19};
+
+    return fevstunik_messages_new(&messages, &options, cache.at, 16, NULL, 0, NULL, 0);
+}
+
+static fevstunik_answer beginning_for(void)
+{
+    return fevstunik_messages_of_accepted(&messages, &accepted, &keyed, cache.at, 16, false);
 }
 
 static fevstunik_answer reading_cache(void)
@@ -416,6 +429,84 @@ static void logins(void)
     fevstunik_login_free(&login);
 }
 
+static fevstunik_answer sharing(void)
+{
+    fevstunik_acceptor_options options = {.size = sizeof options, .started = {1600000000, 0}, .skew = 300, .restarts = FEVSTUNIK_RESTART_SHARED};
+
+    return fevstunik_acceptor_new(&service, keytab.at, keytab.size, service_name, 11, &options);
+}
+
+static fevstunik_answer asking_the_store(void)
+{
+    fevstunik_time until;
+
+    return fevstunik_login_stamp(&login, &until, buffer, sizeof buffer);
+}
+
+static fevstunik_answer settling(uint32_t said)
+{
+    return fevstunik_login_settle(&login, said, &now, buffer, sizeof buffer);
+}
+
+static int is_known(void)
+{
+    fevstunik_known known;
+
+    return fevstunik_accepted_known(&login.accepted, &known, buffer, sizeof buffer).code == FEVSTUNIK_OK;
+}
+
+/* A service whose store isn't asked since memory ran out lets nobody in. */
+static void questions(void)
+{
+    long at;
+    fevstunik_answer answer;
+
+    for (at = 0; at < 1000; at++) {
+        is_at("service that shares a store", at, sharing().code, FEVSTUNIK_OK);
+        left = at;
+        answer = logging_in();
+        if (left >= 0)
+            break;
+        is_at("the store isn't asked", at, answer.code, FEVSTUNIK_OUT_OF_MEMORY);
+        is_at("it can't be settled", at, settling(FEVSTUNIK_SAID_NEW).code != FEVSTUNIK_OK, 1);
+        is_at("its client", at, is_known(), 0);
+        fevstunik_login_free(&login);
+    }
+    left = -1;
+    is_at("allocations of a question", at, at > 10 && at < 1000, 1);
+    is_at("the store is asked", at, answer.code, FEVSTUNIK_ASK_STORE);
+    is_told("question", asking_the_store);
+    fevstunik_login_free(&login);
+}
+
+/* A login isn't settled, or is settled as out of memory; a refusal is said even if its error can't be made. */
+static void settlings(uint32_t said, unsigned code)
+{
+    long at, waits = 0;
+    fevstunik_answer answer;
+
+    for (at = 0; at < 1000; at++) {
+        is_at("service again", at, sharing().code, FEVSTUNIK_OK);
+        is_at("asked", at, logging_in().code, FEVSTUNIK_ASK_STORE);
+        left = at;
+        answer = settling(said);
+        if (left >= 0)
+            break;
+        left = -1;
+        is_at("settled", at, answer.code == FEVSTUNIK_OUT_OF_MEMORY || (answer.code == code && code != FEVSTUNIK_OK), 1);
+        is_at("nothing is sent", at, (long long)answer.size, 0);
+        is_at("nobody is let in", at, is_known(), 0);
+        answer = settling(said);
+        is_at("once", at, answer.code == FEVSTUNIK_NOT_WAITING || (answer.code == code && ++waits > 0), 1);
+        fevstunik_login_free(&login);
+    }
+    left = -1;
+    is_at("it may have waited on", at, waits > 0, 1);
+    is_at("allocations to settle", at, at > 1 && at < 1000, 1);
+    is_at("settled at last", at, answer.code, code);
+    fevstunik_login_free(&login);
+}
+
 static fevstunik_answer reading_asked(void)
 {
     fevstunik_asked asked;
@@ -608,6 +699,8 @@ int main(int count, char **words)
     is_told("stamp", stamping);
     is_told("new keytab", renewing);
     is_told("reply", replying);
+    is_told("messages of what was accepted", beginning_for);
+    fevstunik_messages_free(&messages);
     is_at("a repeat", 0, accepting().code, FEVSTUNIK_REPEAT);
     is_told("error", refusing);
     is_told("error by code", refusing_by_code);
@@ -636,6 +729,9 @@ int main(int count, char **words)
     is_told("token of a reply", wrapping_reply);
     is_told("token of an error", wrapping_error);
     is_told("context", reading_context);
+    is_told("messages", beginning);
+    is_told("messages again", beginning);
+    fevstunik_messages_free(&messages);
     is_told("negotiation", taking);
     is_told("verdict", saying);
     logins();
@@ -644,6 +740,10 @@ int main(int count, char **words)
     is_told("what a request asks", reading_request);
     is_told("a realm", adding_realm);
     fevstunik_login_free(&login);
+    questions();
+    settlings(FEVSTUNIK_SAID_NEW, FEVSTUNIK_OK);
+    settlings(FEVSTUNIK_SAID_KNOWN, FEVSTUNIK_REPEAT);
+    settlings(FEVSTUNIK_SAID_FAILED, FEVSTUNIK_STORE_FAILED);
     is_told("an error that is read", reading_error);
     is_told("keytab check", checking);
     is_told("cache check", checking_cache);

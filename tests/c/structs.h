@@ -1,9 +1,11 @@
 /* Made from crates/krb_c/interface.toml by `make generate`. Don't edit this file. */
-/* Structs that the library fills in, compared field by field. */
+/* Structs that the library fills in, compared field by field, and how large the library takes the options to be. */
 #ifndef STRUCTS_H
 #define STRUCTS_H
 
 #include "checks.h"
+
+#define OPTIONS_SIZE 88
 
 static inline void is_field(const char *what, const char *field, long long found, long long wanted)
 {
@@ -94,6 +96,14 @@ static inline void is_asked(const char *what, const fevstunik_asked *found, cons
     SAME(service_type);
     SAME(has_kvno);
     SAME(wants_reply);
+}
+
+static inline void is_received(const char *what, const fevstunik_received *found, const fevstunik_received *wanted)
+{
+    SAME(number);
+    SAME_SPAN(text);
+    SAME(order);
+    SAME(sealed);
 }
 
 #endif

@@ -4,7 +4,7 @@ import functools
 
 import pytest
 
-from support import c_cases, c_header, c_programs, c_tokens, fixture, gss_rules
+from support import c_cases, c_header, c_programs, c_tokens, der, fixture, gss_rules
 from support.c_programs import CACHE, KEYED, KEYTAB, VALGRIND, linked, message, of_tests, run
 
 # Of a large keytab and a large cache.
@@ -41,6 +41,12 @@ class Programs:
         program = self.built("memory", "-Wl,--wrap=malloc", "-Wl,--wrap=realloc", "-Wl,--wrap=free")
         return run(program, KEYTAB, CACHE, message(KEYED), message("reply"), message("error"))
 
+    def messages(self):
+        """The messages of both sides after a login."""
+        unknown = fixture.request(subkey=der.key(18, bytes(32)))
+        given = [message("request"), message(KEYED), unknown.hex()]
+        return run(*VALGRIND, self.built("messages"), KEYTAB, *given)
+
     def limits(self):
         """What a service remembers at most."""
         return run(*VALGRIND, self.built("limits"), KEYTAB, CACHE, self.cache_of("carol"))
@@ -52,6 +58,13 @@ class Programs:
         tokens = gss_rules.negotiation([name], None), gss_rules.going_on(gss_rules.kerberos(name, request))
         return run(*VALGRIND, self.built("logins"), KEYTAB, CACHE, *(it.hex() for it in tokens), input=text)
 
+    def settled(self):
+        """A login that waits for a store of stamps."""
+        name, request = gss_rules.KERBEROS, fixture.request()
+        tokens = gss_rules.negotiation([name], None), gss_rules.going_on(gss_rules.kerberos(name, request))
+        inputs = [it.hex() for it in (*tokens, c_cases.at_the_end())]
+        return run(*VALGRIND, self.built("settled"), KEYTAB, CACHE, *inputs)
+
     def cache_of(self, client):
         """The file of another client's cache."""
         path = self.room / f"{client}.ccache"
@@ -62,7 +75,9 @@ class Programs:
         return getattr(self, name)()
 
 
-NAMES = ("exchange", "faults", "tokens", "memory", "limits", "logins")
+NAMES = ("exchange", "faults", "tokens", "memory", "messages", "limits", "logins", "settled")
+# What no test can wait for: a side's numbers are used up after 2^64 messages.
+UNSEEN = {"fevstunik_messages_mic": {"NUMBERS_USED_UP"}, "fevstunik_messages_wrap": {"NUMBERS_USED_UP"}}
 
 
 def messages():
@@ -90,7 +105,7 @@ def test_codes(programs, checks):
     for name in NAMES:
         programs.answered.read(programs.ran(name).stdout)
     for function, codes in sorted(c_header.documented().items()):
-        checks.equal(function, programs.answered.codes.get(function, set()), codes)
+        checks.equal(function, programs.answered.codes.get(function, set()), codes - UNSEEN.get(function, set()))
 
 
 def test_what_requests_take(archive, tmp_path, checks):
@@ -151,5 +166,7 @@ def test_threads(archive, tmp_path, checks):
 
 def test_readers(archive, tmp_path, checks):
     """Threads that share what calls only read, under helgrind, which ends with 9 if one of them writes to it."""
+    for function in c_header.reading():
+        checks.equal(f"{function} is called", f"{function}(" in of_tests("readers").read_text(), True)
     program = linked(archive, tmp_path / "readers", "-pthread", of_tests("readers"))
     c_programs.counted(checks, run("valgrind", "-q", "--tool=helgrind", "--error-exitcode=9", program, KEYTAB, CACHE))

@@ -21,9 +21,11 @@ def room(archive, tmp_path_factory):
     """A folder with both programs, and a cache with a ticket that is valid now."""
     folder = tmp_path_factory.mktemp("service")
     words = "-D_DEFAULT_SOURCE", "-pthread"
-    for name in ("service", "client"):
-        linked(archive, folder / name, *words, TOP / f"examples/service/{name}.c")
-    linked(archive, folder / "hasty", *words, f"-DSECONDS={HASTE}", TOP / "examples/service/service.c")
+    service = [TOP / f"examples/service/{it}.c" for it in ("service", "store", "sqlite_store", "redis_store")]
+    libraries = "-lsqlite3", "-lhiredis"
+    linked(archive, folder / "client", *words, TOP / "examples/service/client.c")
+    linked(archive, folder / "service", *words, *service, *libraries)
+    linked(archive, folder / "hasty", *words, f"-DSECONDS={HASTE}", *service, *libraries)
     (folder / "cache").write_bytes(c_programs.current_cache(int(time.time()) - 60))
     return folder
 

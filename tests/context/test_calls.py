@@ -1,4 +1,4 @@
-"""Calls of per-message tokens: stored tokens of MIT krb5, and those that a model draws."""
+"""Calls of per-message tokens: stored tokens of MIT krb5 and Heimdal, and those that a model draws."""
 import pytest
 
 from support import calls, context

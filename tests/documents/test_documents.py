@@ -2,6 +2,8 @@
 these names, and their files exist. mandoc finds nothing wrong with the manual pages. (test_tables.py compares what
 is made of tables.)
 """
+import ast
+import os
 import re
 import subprocess
 import textwrap
@@ -15,7 +17,7 @@ EXAMPLE = TOP / "crates/krb_example"
 LINES = 200
 # Those whose lines are laid out, and whose commands are run.
 LAID_OUT = ("README.md", "CONTRIBUTING.md", "CHANGELOG.md", "SECURITY.md", "docs/KRBTOOL.md", "docs/LIBRARY.md",
-            "docs/OPERATING.md", "docs/PROOFS.md", "docs/WEB.md")
+            "docs/OPERATING.md", "docs/PROOFS.md", "docs/PYTHON.md", "docs/WEB.md")
 OF_THE_EXAMPLE = ("README.md", "docs/LIBRARY.md")
 OF_THE_PROGRAM = ("README.md", "docs/KRBTOOL.md")
 # All that link to files.
@@ -85,11 +87,17 @@ def test_c_code():
         assert ran.returncode == 0, ran.stderr
 
 
-def test_python_code():
-    """Each block of Python of README is Python."""
-    assert blocks("README.md", "python")
-    for block in blocks("README.md", "python"):
-        compile(block, "README.md", "exec")
+@pytest.mark.parametrize("name", ("README.md", "docs/PYTHON.md", "docs/WEB.md"))
+def test_python_code(name):
+    """Each block of Python is Python, and what it imports of the package is there."""
+    assert blocks(name, "python")
+    for block in blocks(name, "python"):
+        tree = ast.parse(block, name)
+        found = [it for it in ast.walk(tree) if isinstance(it, ast.ImportFrom) and it.module.startswith("fevstunik")]
+        for it in found:
+            known = (TOP / "python" / it.module.replace(".", "/")).with_suffix(".py")
+            text = (known if known.exists() else known.with_suffix("") / "__init__.py").read_text()
+            assert [name for name in (one.name for one in it.names) if name not in text] == []
 
 
 # ---------------------------------------------------------------- commands
@@ -139,7 +147,7 @@ def test_mandoc(path):
     assert [it for it in said if "referenced manual not found" not in it] == []
 
 
-def told(block):
+def commands_of(block):
     """The commands of a block, each with what it says. A line that ends in a backslash or a pipe goes on in the
     next."""
     for part in re.split(r"^\$ ", block, flags=re.M)[1:]:
@@ -155,7 +163,7 @@ def test_commands(program, tmp_path, checks, name):
     """Each command of a document says what stands below it."""
     (tmp_path / "krbtool").symlink_to(program)
     (tmp_path / "examples").symlink_to(TOP / "examples")
-    for command, wanted in (it for block in blocks(name, "console") for it in told(block)):
+    for command, wanted in (it for block in blocks(name, "console") for it in commands_of(block)):
         ran = subprocess.run(["sh", "-c", command], cwd=tmp_path, stdout=subprocess.PIPE, stderr=subprocess.STDOUT,
                              timeout=60, text=True)
         checks.equal(command, ran.stdout, wanted)
@@ -243,3 +251,9 @@ def test_toolchain():
     text = " ".join(text_of("README.md").split())
     assert logic and f"`{logic}`" in text
     assert f"`{kit}`" in text or f"`-{kit.rpartition('-')[2]}`" in text
+
+
+def test_examples_are_commands():
+    """Each example that names its interpreter can be run as documents run it."""
+    files = [it for it in (TOP / "examples").rglob("*") if it.is_file() and it.read_bytes()[:2] == b"#!"]
+    assert len(files) >= 4 and [it for it in files if not os.access(it, os.X_OK)] == []

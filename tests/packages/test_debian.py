@@ -29,7 +29,8 @@ DEPENDS = {
 # What proofs, builds, packing and tests may leave in a folder of the sources.
 LEFT = ["crates/krb_aes/out/rlib/kept", "crates/krbtool/out/krbtool", "crates/krb_calls_wire/stdin", ".build-1/crates.txt", "build/kept",
         "build/x86-64/kept", ".pybuild/kept", "python/build/kept", "python/fevstunik.egg-info/kept", "python/fevstunik/__pycache__/kept.pyc",
-        "tests/__pycache__/kept.pyc"]
+        "tests/__pycache__/kept.pyc", "debian/.debhelper/kept", "debian/debhelper-build-stamp", "debian/krbtool.substvars",
+        *(f"debian/{it}/kept" for it in ("tmp", *PACKAGES))]
 
 
 def with_leavings(room):
@@ -90,6 +91,21 @@ def test_source_package_has_the_sources_alone(tmp_path):
 
 def test_names(debs):
     assert set(debs) == set(PACKAGES)
+
+
+@pytest.mark.slow
+def test_what_has_changed_is_packed_again(debs, tmp_path):
+    """In the folder where packages were made before, also of Python's sources, which `make` doesn't build."""
+    room = tmp_path / "source"
+    shutil.copytree(next(iter(debs.values())).parent / "source", room, symlinks=True)
+    changed = room / "python/fevstunik/_shown.py"
+    changed.write_text(f"{changed.read_text()}# changed\n")
+    well("dpkg-buildpackage", "-b", "-nc", "-us", "-uc", cwd=room, env=WITHOUT_RATTLE)
+    package, = tmp_path.glob("python3-fevstunik_*.deb")
+    well("dpkg-deb", "-x", package, tmp_path / "root")
+    there = tmp_path / "root/usr/lib/python3/dist-packages/fevstunik"
+    assert (there / "_shown.py").read_text() == changed.read_text()
+    assert files_below(there) == files_below(room / "python/fevstunik")
 
 
 def test_lintian(debs, source):

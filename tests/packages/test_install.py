@@ -15,7 +15,7 @@ PLACES = [
 # The folders that stay: any system has them.
 STAY = {"bin", "include", "lib", "lib64", "x86_64-linux-gnu", "share", "man"}
 # The libraries of the toolchain that are linked, and have notices.
-NOTICED = ["arrayvec", "base64", "byteorder", "clap", "hex", "jiff_core", "memchr", "sha2", "smallvec", "strsim", "thiserror"]
+NOTICED = ["arrayvec", "base64", "byteorder", "clap", "hex", "jiff_core", "md5", "memchr", "sha2", "smallvec", "strsim", "thiserror"]
 
 
 @pytest.mark.parametrize("words, libraries, prefix", PLACES, ids=["debian", "local", "opt", "without DESTDIR"])
@@ -73,7 +73,7 @@ def test_what_manual_pages_name_is_installed(staged):
 
 def test_installed_examples_are_the_programs_that_documents_run(staged):
     room = staged.root / "usr/share/doc/fevstunik/examples"
-    assert {it.name for it in room.rglob("*") if it.is_file() and it.stat().st_mode & 0o111} == {"serve.py", "shared.py"}
+    assert {it.name for it in room.rglob("*") if it.is_file() and it.stat().st_mode & 0o111} == {"serve.py", "shared.py", "sign.py"}
 
 
 def test_notices_of_the_toolchains_libraries(built):

@@ -65,7 +65,7 @@ def from_c(root):
 
 
 def from_python(root):
-    assert root.shell("python3 -c 'import fevstunik; print(fevstunik.version())'").stdout == "(0, 1, 0)\n"
+    assert root.shell("python3 -c 'import fevstunik; print(fevstunik.version())'").stdout == "(0, 2, 0)\n"
     for service, answer in ANSWERS.items():
         assert root.shell(f"python3 accept.py service.keytab {service} {REQUEST}").stdout == f"{answer}\n"
     example = f"echo {REQUEST} | python3 /usr/share/doc/fevstunik/examples/serve.py service.keytab host/web@EX --first --at 1700000100"

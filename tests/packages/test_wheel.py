@@ -32,7 +32,7 @@ print(*sorted({line.split()[-1] for line in open("/proc/self/maps") if "libfevst
 
 
 def logged_in(version):
-    return f"{version} (0, 1, 0) alice@EX alice@EX\nREPEAT\n"
+    return f"{version} (0, 2, 0) alice@EX alice@EX\nREPEAT\n"
 
 
 def contents(wheel):

@@ -105,7 +105,7 @@ def test_finish(checks, world, peers, ticket):
 # ---------------------------------------------------------------- pick-key
 
 USABLE = (NUMBERS[AES128], NUMBERS[AES256])
-# A type that is listed and never picked, and a name and a version number that no keytab has.
+# A type that isn't usable, and a name and a version number that no keytab has.
 UNUSABLE, NOBODY, NEVER = 18, "host/nobody.example@ELSE.TEST", 99
 
 
@@ -128,7 +128,7 @@ def chosen(lines, name, etype, kvno):
     """The line that a ticket's key is in: the first of those with the highest number, or with the wanted one; or why
     there is none."""
     of_name = [line for line in lines if line[2] == name]
-    of_key = [line for line in of_name if line[1] == str(etype) and etype in USABLE]
+    of_key = [line for line in of_name if line[1] == str(etype)]
     fitting = [line for line in of_key if kvno in (None, int(line[0]))]
     if fitting:
         return max(fitting, key=lambda line: int(line[0]))
@@ -138,7 +138,8 @@ def chosen(lines, name, etype, kvno):
 def picked(peers, path, name, etype, kvno):
     """What `pick-key` says: the words of its line in the order of `chosen`, or the name of the fault alone."""
     out, said, status = peers.tried("pick-key", path, name, etype, *([] if kvno is None else ["--kvno", kvno]))
-    if (said, status) == ("", 0) and out.count("\n") == 1 and len(out.split()) == 4:
+    note = ("", 0) if etype in USABLE else ("krbtool: pick-key: UnusableType\n", 1)
+    if (said, status) == note and out.count("\n") == 1 and len(out.split()) == 4:
         kvno, etype, moment, name = out.split()
         return kvno, etype, name, moment
     named = not out and status == 1 and said.startswith("krbtool: pick-key: ")
@@ -179,9 +180,9 @@ def test_pick_key(checks, world, peers, keytab):
     shortened = {it: answer[:3] if isinstance(answer, tuple) else answer for it, answer in found.items()}
     checks.equal(f"{label}, by Heimdal's ktutil", shortened, {it: chosen(short, *it) for it in asked})
     for library in LIBRARIES:
-        usable = [it for it in asked if it[1] in USABLE and (library != "MIT" or is_clear(lines, *it))]
-        ours = [f"{it[0]} {it[1]} {it[3]}" if isinstance(it, tuple) else "none" for it in map(found.get, usable)]
-        checks.equal(f"{label}, by {library}'s krb5_kt_get_entry", ours, picked_by(peers, realm, library, path, usable))
+        clear = [it for it in asked if library != "MIT" or is_clear(lines, *it)]
+        ours = [f"{it[0]} {it[1]} {it[3]}" if isinstance(it, tuple) else "none" for it in map(found.get, clear)]
+        checks.equal(f"{label}, by {library}'s krb5_kt_get_entry", ours, picked_by(peers, realm, library, path, clear))
 
 
 # ---------------------------------------------------------------- add-keys

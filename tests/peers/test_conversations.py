@@ -2,7 +2,7 @@
 (tests/support/conversations.py)."""
 import pytest
 
-from support import TOP, conversations
+from support import conversations
 from support.c_programs import linked
 
 pytestmark = [pytest.mark.packages, pytest.mark.xdist_group("conversations")]
@@ -12,9 +12,9 @@ pytestmark = [pytest.mark.packages, pytest.mark.xdist_group("conversations")]
 def folder(library, tmp_path_factory):
     made = tmp_path_factory.mktemp("conversations")
     conversations.built(made)
-    for name in ("service", "client"):
-        source = TOP / f"examples/service/{name}.c"
-        linked(library.parent / "libfevstunik.a", made / name, "-D_DEFAULT_SOURCE", "-pthread", source)
+    for name, sources in conversations.SOURCES.items():
+        words = "-D_DEFAULT_SOURCE", "-pthread", *sources, *conversations.LIBRARIES
+        linked(library.parent / "libfevstunik.a", made / name, *words)
     return made
 
 

@@ -38,9 +38,9 @@ def installed(folder, lock):
 @pytest.fixture(scope="module")
 def realm(world, installed, folder):
     """The realm with tickets for two services, of type 19 and 20, and the programs that talk."""
-    for name in ("service", "client"):
-        source = packing.ROOT / f"examples/service/{name}.c"
-        assert packing.wrong(installed.compiled(source, folder / name, "-D_DEFAULT_SOURCE", "-pthread")) is None
+    for name, (first, *more) in conversations.SOURCES.items():
+        words = "-D_DEFAULT_SOURCE", "-pthread", *more, *conversations.LIBRARIES
+        assert packing.wrong(installed.compiled(first, folder / name, *words)) is None
     conversations.built(folder)
     realm = world.mit
     assert world.tickets

@@ -54,6 +54,7 @@ static fevstunik_login login;
 static fevstunik_keytab keytab;
 static fevstunik_cache cache;
 static fevstunik_pending pending;
+static fevstunik_messages mine, theirs;
 static fevstunik_known known;
 static fevstunik_agreement agreement;
 static const fevstunik_time now = {1700000100, 19};
@@ -174,6 +175,15 @@ static fevstunik_answer making_service(void)
 {
     fevstunik_acceptor_options options = {
         .size = sizeof options, .skew = 300, .restarts = FEVSTUNIK_RESTART_FIRST_LIFE};
+
+    options.subkey_type = (uint32_t)type();
+    return fevstunik_acceptor_new(&service, files[KEYTAB].at, files[KEYTAB].size, WEB, &options);
+}
+
+static fevstunik_answer making_sharing_service(void)
+{
+    fevstunik_acceptor_options options = {
+        .size = sizeof options, .started = {1600000000, 0}, .skew = 300, .restarts = FEVSTUNIK_RESTART_SHARED};
 
     options.subkey_type = (uint32_t)type();
     return fevstunik_acceptor_new(&service, files[KEYTAB].at, files[KEYTAB].size, WEB, &options);
@@ -361,6 +371,28 @@ static fevstunik_answer knowing_who_is_let_in(void)
     return fevstunik_accepted_known(&login.accepted, &known, buffer, sizeof buffer);
 }
 
+static fevstunik_answer asking_the_store(void)
+{
+    fevstunik_time until;
+
+    return fevstunik_login_stamp(&login, &until, buffer, sizeof buffer);
+}
+
+static fevstunik_answer settling(uint32_t said)
+{
+    return fevstunik_login_settle(&login, said, &now, buffer, sizeof buffer);
+}
+
+static fevstunik_answer settling_as_new(void)
+{
+    return settling(FEVSTUNIK_SAID_NEW);
+}
+
+static fevstunik_answer settling_as_known(void)
+{
+    return settling(FEVSTUNIK_SAID_KNOWN);
+}
+
 static fevstunik_answer freeing_login(void)
 {
     fevstunik_login_free(&login);
@@ -450,6 +482,105 @@ static fevstunik_answer checking_changed_sum(void)
     return checking_sum();
 }
 
+/* A token of this side, and its MIC. */
+static uint8_t token[ROOM], mic[64];
+static size_t token_size, mic_size;
+
+static fevstunik_answer begin(fevstunik_messages *side, uint32_t role)
+{
+    fevstunik_message_options options = {.role = role};
+
+    options.session_type = type();
+    return fevstunik_messages_new(side, &options, file(CHOSEN)->at, file(CHOSEN)->size, NULL, 0, NULL, 0);
+}
+
+static fevstunik_answer beginning_mine(void)
+{
+    return begin(&mine, FEVSTUNIK_ROLE_CLIENT);
+}
+
+static fevstunik_answer beginning_theirs(void)
+{
+    return begin(&theirs, FEVSTUNIK_ROLE_SERVICE);
+}
+
+static fevstunik_answer beginning_for_who_is_let_in(void)
+{
+    fevstunik_choice choice = {0, 0, false, false};
+
+    choice.subkey_type = type();
+    return fevstunik_messages_of_accepted(&theirs, &login.accepted, &choice, file(SUBKEY)->at, file(SUBKEY)->size, false);
+}
+
+static fevstunik_answer wrapping(void)
+{
+    fevstunik_answer answer = fevstunik_messages_wrap(&mine, true, confounder, sizeof confounder, file(PLAIN)->at,
+                                                      file(PLAIN)->size, token, sizeof token);
+
+    token_size = answer.size;
+    answer.size = 0;
+    return answer;
+}
+
+static fevstunik_answer unwrapping_changed(void)
+{
+    static uint8_t changed[ROOM];
+    fevstunik_received received;
+
+    memcpy(changed, token, token_size);
+    changed[token_size - 1] ^= 1;
+    return fevstunik_messages_unwrap(&theirs, changed, token_size, &received);
+}
+
+static fevstunik_answer unwrapping(void)
+{
+    fevstunik_received received;
+    fevstunik_answer answer = fevstunik_messages_unwrap(&theirs, token, token_size, &received);
+
+    memset(token, 0, sizeof token);
+    return answer;
+}
+
+static fevstunik_answer signing(void)
+{
+    fevstunik_answer answer = fevstunik_messages_mic(&mine, file(PLAIN)->at, file(PLAIN)->size, mic, sizeof mic);
+
+    mic_size = answer.size;
+    answer.size = 0;
+    return answer;
+}
+
+static fevstunik_answer verifying_half(void)
+{
+    fevstunik_received received;
+
+    return fevstunik_messages_verify(&theirs, file(PLAIN)->at, file(PLAIN)->size / 2, mic, mic_size, &received);
+}
+
+static fevstunik_answer verifying(void)
+{
+    fevstunik_received received;
+
+    return fevstunik_messages_verify(&theirs, file(PLAIN)->at, file(PLAIN)->size, mic, mic_size, &received);
+}
+
+static fevstunik_answer limiting(void)
+{
+    return fevstunik_messages_limit(&mine, true, ROOM);
+}
+
+static fevstunik_answer freeing_mine(void)
+{
+    fevstunik_messages_free(&mine);
+    return done;
+}
+
+static fevstunik_answer freeing_theirs(void)
+{
+    fevstunik_messages_free(&theirs);
+    return done;
+}
+
 /* ---- the steps ---- */
 
 struct step {
@@ -501,10 +632,26 @@ static const struct step steps[] = {
     {"service_answer", letting_in, FEVSTUNIK_OK},
     {"login_answer", sending_again, FEVSTUNIK_OK},
     {"accepted_known of a login", knowing_who_is_let_in, FEVSTUNIK_OK},
+    {"messages_of_accepted", beginning_for_who_is_let_in, FEVSTUNIK_OK},
+    {"messages_free of a login", freeing_theirs, FEVSTUNIK_OK},
     {"login_free of a login", freeing_login, FEVSTUNIK_OK},
     {"service_answer to a repeat", letting_in, FEVSTUNIK_REPEAT},
     {"login_free of a repeat", freeing_login, FEVSTUNIK_OK},
     {"acceptor_free after logins", freeing_service, FEVSTUNIK_OK},
+    {"acceptor_new for a store", making_sharing_service, FEVSTUNIK_OK},
+    {"service_answer before the store", letting_in, FEVSTUNIK_ASK_STORE},
+    {"login_stamp", asking_the_store, FEVSTUNIK_OK},
+    {"login_settle", settling_as_new, FEVSTUNIK_OK},
+    {"login_stamp afterwards", asking_the_store, FEVSTUNIK_NOT_WAITING},
+    {"login_free after the store", freeing_login, FEVSTUNIK_OK},
+    {"acceptor_new for a store again", making_sharing_service, FEVSTUNIK_OK},
+    {"service_answer before the store again", letting_in, FEVSTUNIK_ASK_STORE},
+    {"login_settle as a repeat", settling_as_known, FEVSTUNIK_REPEAT},
+    {"login_free of what is settled", freeing_login, FEVSTUNIK_OK},
+    {"acceptor_new for a store once more", making_sharing_service, FEVSTUNIK_OK},
+    {"service_answer that isn't settled", letting_in, FEVSTUNIK_ASK_STORE},
+    {"login_free of what waits", freeing_login, FEVSTUNIK_OK},
+    {"acceptor_free after the store", freeing_service, FEVSTUNIK_OK},
     {"cache_check", checking_cache, FEVSTUNIK_OK},
     {"cache_new", reading_cache, FEVSTUNIK_OK},
     {"cache_credential", reading_credential, FEVSTUNIK_OK},
@@ -522,6 +669,17 @@ static const struct step steps[] = {
     {"checksum", summing, FEVSTUNIK_OK},
     {"checksum_check", checking_sum, FEVSTUNIK_OK},
     {"checksum_check of another tag", checking_changed_sum, FEVSTUNIK_TEXT_INTEGRITY},
+    {"messages_new", beginning_mine, FEVSTUNIK_OK},
+    {"messages_new of the other side", beginning_theirs, FEVSTUNIK_OK},
+    {"messages_wrap", wrapping, FEVSTUNIK_OK},
+    {"messages_unwrap of another text", unwrapping_changed, FEVSTUNIK_MESSAGE_INTEGRITY},
+    {"messages_unwrap", unwrapping, FEVSTUNIK_OK},
+    {"messages_mic", signing, FEVSTUNIK_OK},
+    {"messages_verify of another text", verifying_half, FEVSTUNIK_MESSAGE_INTEGRITY},
+    {"messages_verify", verifying, FEVSTUNIK_OK},
+    {"messages_limit", limiting, FEVSTUNIK_OK},
+    {"messages_free", freeing_mine, FEVSTUNIK_OK},
+    {"messages_free of the other side", freeing_theirs, FEVSTUNIK_OK},
 };
 #define STEPS (sizeof steps / sizeof steps[0])
 

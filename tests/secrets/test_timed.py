@@ -21,12 +21,13 @@ JUMPS = {
 TABLES = {
     "krb_aes::expansion::sub_word",
     "krb_aes::lanes::decrypt_four_blocks",
+    "krb_aes::lanes::decrypt_two_blocks",
     "krb_aes::schedule::KeySchedule::decrypt_block",
     "krb_aes::schedule::KeySchedule::encrypt_block",
-    "krb_cts::after_first::decrypt_two_after",
-    "krb_enc::key::Key::for_usage",
+    "krb_enc::usage_key::UsageKey::new_19",
+    "krb_enc::usage_key::UsageKey::new_20",
 }
-STEPS = 44
+STEPS = 62
 
 
 def dependences(build, room, over=None):

@@ -124,6 +124,11 @@ static const struct step watched[] = {
     {"login_answer", sending_again, FEVSTUNIK_OK},
     {"login_free", freeing_login, FEVSTUNIK_OK},
     {"acceptor_free after logins", freeing_service, FEVSTUNIK_OK},
+    {"acceptor_new for a store", making_sharing_service, FEVSTUNIK_OK},
+    {"service_answer before the store", letting_in, FEVSTUNIK_ASK_STORE},
+    {"login_settle", settling_as_new, FEVSTUNIK_OK},
+    {"login_free after the store", freeing_login, FEVSTUNIK_OK},
+    {"acceptor_free after the store", freeing_service, FEVSTUNIK_OK},
     {"cache_new", reading_cache, FEVSTUNIK_OK},
     {"request", asking, FEVSTUNIK_OK},
     {"request with a kept key", asking, FEVSTUNIK_OK},
@@ -134,6 +139,10 @@ static const struct step watched[] = {
     {"open", opening, FEVSTUNIK_OK},
     {"checksum", summing, FEVSTUNIK_OK},
     {"checksum_check", checking_sum, FEVSTUNIK_OK},
+    {"messages_new", beginning_mine, FEVSTUNIK_OK},
+    {"messages_wrap", wrapping, FEVSTUNIK_OK},
+    {"messages_mic", signing, FEVSTUNIK_OK},
+    {"messages_free", freeing_mine, FEVSTUNIK_OK},
 };
 
 int main(int count, char **words)

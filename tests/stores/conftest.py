@@ -4,7 +4,7 @@ import contextlib
 import fevstunik
 import pytest
 
-from support import TOP, store_servers
+from support import TOP, c_programs, store_servers
 
 
 @pytest.fixture(scope="session")
@@ -18,6 +18,16 @@ def at_the_top(library, loaded, monkeypatch):
     monkeypatch.setenv("FEVSTUNIK_LIBRARY", str(library))
     monkeypatch.setenv("PYTHONPATH", str(TOP / "python"))
     monkeypatch.chdir(TOP)
+
+
+@pytest.fixture(scope="session")
+def service_in_c(library, tmp_path_factory):
+    """examples/service/service and its stores. A client has two minutes, and an environment variable names the file
+    that names the boot."""
+    program = tmp_path_factory.mktemp("service") / "service"
+    sources = [TOP / f"examples/service/{it}.c" for it in ("service", "store", "sqlite_store", "redis_store")]
+    words = "-D_DEFAULT_SOURCE", "-pthread", "-DSECONDS=120", '-DBOOT_FILE=getenv("BOOT_FILE")'
+    return c_programs.linked(library.parent / "libfevstunik.a", program, *words, *sources, "-lsqlite3", "-lhiredis")
 
 
 def started(kind):

@@ -1,5 +1,8 @@
-"""Four workers of gunicorn over each store: each recorded request is sent to them again and again while workers are
-killed, and is let in once."""
+"""Four workers of gunicorn over each store: each request of a client of MIT krb5 is sent to them again and again while
+workers are killed, or the store is, and is let in once, or not at all; nor is it after another boot. The environment
+variable STORES_REQUESTS says how many requests there are. They are made and sent in portions, so that none grows too
+old.
+"""
 import contextlib
 import http.client
 import os
@@ -14,11 +17,12 @@ from concurrent.futures import ThreadPoolExecutor
 import pytest
 
 from support import TOP, c_programs, store_servers
-from support.instances import PYTHON, made_requests
+from support.instances import PYTHON, real_requests
 
 pytestmark = [pytest.mark.packages, pytest.mark.slow]
-# How many requests there are, how often each is sent, by how many threads, and how often a worker is killed.
-REQUESTS, TIMES, THREADS, KILLS = int(os.environ.get("STORES_REQUESTS", "200")), 4, 8, 8
+# How many requests there are while workers are killed, how many in a portion, and how many for the rest; how often each
+# is sent, by how many threads; and how often a worker is killed, or once in each portion.
+REQUESTS, PORTION, MORE, TIMES, THREADS, KILLS = int(os.environ.get("STORES_REQUESTS", "200")), 200, 120, 4, 8, 8
 APPLICATION = """
 import os
 from fevstunik import Keytab, Service
@@ -28,7 +32,8 @@ service = Service(Keytab.read("{top}/examples/service.keytab"), "host/web@EX", s
 
 def application(environ, start_response):
     it = service.answer(bytes.fromhex(environ["HTTP_TOKEN"]))
-    start_response("200 OK" if it else "401 Unauthorized", [("Worker", str(os.getpid())), ("Content-Length", "0")])
+    headers = [("Worker", str(os.getpid())), ("Said", "OK" if it else it.cause.name), ("Content-Length", "0")]
+    start_response("200 OK" if it else "401 Unauthorized", headers)
     return []
 """
 
@@ -45,12 +50,12 @@ class Connection(http.client.HTTPConnection):
 
 
 def sent(path, token):
-    """The status of a request, and the worker that answered it; None if it was killed."""
+    """What is said of a request, and the worker that says it; None if it was killed."""
     try:
         with contextlib.closing(Connection(path)) as connection:
             connection.request("GET", "/", headers={"Token": token})
             answer = connection.getresponse()
-            return answer.status, int(answer.headers["Worker"])
+            return answer.headers["Said"], int(answer.headers["Worker"])
     except (OSError, http.client.HTTPException):
         return None
 
@@ -72,36 +77,97 @@ def gunicorn(folder, store):
 def named(store):
     """The store, as the application makes it."""
     if store.name == "SQLite":
-        return f"SQLite({str(store.path)!r}, boot='boot-1', seconds=20)"
+        return f"SQLite({str(store.path)!r}, boot=open({str(store.boot_file)!r}).read().strip(), seconds=20)"
     return f"{store.name}({store.where!r}, seconds=20)"
+
+
+class Sender:
+    """Sends requests to workers, each some times, near to each other, and counts how often each is let in."""
+
+    def __init__(self, pool):
+        self.pool, self.rng, self.let_in = pool, random.Random(2808), Counter()
+
+    def send(self, path, tokens, kills=0, midway=lambda: None):
+        """Returns what was said, how often; which workers said it; and which requests had no answer. At some answers
+        the worker that gave it is killed, and halfway `midway` is called."""
+        order = [it for it in tokens for _ in range(TIMES)]
+        near = [order[at] for at in sorted(range(len(order)), key=lambda it: it + self.rng.uniform(0, 40))]
+        killed_at = set(self.rng.sample(range(len(near)), kills))
+
+        def one(number):
+            if number == len(near) // 2:
+                midway()
+            found = sent(path, near[number])
+            if found and number in killed_at:
+                with contextlib.suppress(ProcessLookupError):
+                    os.kill(found[1], signal.SIGKILL)
+            return near[number], found
+
+        found = list(self.pool.map(one, range(len(near))))
+        self.let_in.update(token for token, it in found if it and it[0] == "OK")
+        return (Counter(it[0] for _, it in found if it), {it[1] for _, it in found if it},
+                {token for token, it in found if not it})
+
+    def each_once(self, path, tokens):
+        said, _, _ = self.send(path, tokens)
+        assert said == {"OK": len(tokens), "REPEAT": (TIMES - 1) * len(tokens)}
+
+    def none(self, path, tokens, *wanted):
+        said, _, _ = self.send(path, tokens)
+        assert set(said) == set(wanted)
+
+
+def while_workers_are_killed(sender, path, cache):
+    """Returns the last requests."""
+    answered, kills = set(), max(1, KILLS * PORTION // REQUESTS)
+    for at in range(0, REQUESTS, PORTION):
+        tokens = real_requests(cache, min(PORTION, REQUESTS - at))
+        _, workers, lost = sender.send(path, tokens, kills=kills)
+        refused = {it for it in tokens if not sender.let_in[it]}
+        assert refused <= lost, "one wasn't let in, and no worker was killed over it"
+        answered |= workers
+    assert len(answered) > 4, f"{answered} answered"
+    return tokens
+
+
+def wait_for_workers(path):
+    """Waits until all of them answer. (gunicorn ends if one can't start, which is so while the store is down.)"""
+    seen = set()
+    store_servers.wait_for(lambda: seen.add(sent(path, "00")) or len(seen - {None}) == 4, "a worker isn't there")
+
+
+def while_the_store_is_killed(sender, path, tokens, store):
+    broken, down, back = tokens[::3], tokens[1::3], tokens[2::3]
+    wait_for_workers(path)
+    sender.send(path, broken, midway=store.kill)
+    # (a worker knows again what it has accepted itself)
+    sender.none(path, down, "STORE_FAILED", "REPEAT")
+    store.start()
+    sender.each_once(path, back)
+
+
+def after_another_boot(sender, folder, store, old, cache):
+    store.boot()
+    with gunicorn(folder, named(store)) as path:
+        sender.none(path, old, "JUST_STARTED")
+    store.age()
+    with gunicorn(folder, named(store)) as path:
+        sender.each_once(path, real_requests(cache, MORE))
 
 
 @pytest.mark.parametrize("kind", [store_servers.File, store_servers.Redis, store_servers.Postgres],
                          ids=lambda it: it.name)
-def test_workers(at_the_top, library, tmp_path, kind):
+def test_workers(at_the_top, tmp_path, kind):
     cache = tmp_path / "cache"
     cache.write_bytes(c_programs.current_cache(int(time.time()) - 60))
-    tokens = made_requests(cache, REQUESTS, library)
-    rng = random.Random(2808)
-    order = [it for it in tokens for _ in range(TIMES)]
-    near = [order[at] for at in sorted(range(len(order)), key=lambda it: it + rng.uniform(0, 40))]
-    with contextlib.closing(kind()) as store:
+    with contextlib.closing(kind()) as store, ThreadPoolExecutor(THREADS) as pool:
+        sender = Sender(pool)
         store.start()
         store.age()
-        with gunicorn(tmp_path, named(store)) as path, ThreadPoolExecutor(THREADS) as pool:
-            killed_at = set(rng.sample(range(len(near)), KILLS))
-
-            def one(number):
-                found = sent(path, near[number])
-                if found and number in killed_at:
-                    with contextlib.suppress(ProcessLookupError):
-                        os.kill(found[1], signal.SIGKILL)
-                return near[number], found
-
-            answers = list(pool.map(one, range(len(near))))
-    let_in = Counter(token for token, found in answers if found and found[0] == 200)
-    lost = {token for token, found in answers if found is None}
-    workers = {found[1] for _, found in answers if found}
-    assert set(let_in.values()) == {1}, "a request was let in twice"
-    assert set(tokens) - set(let_in) <= lost, "a request was never let in, though no worker was killed over it"
-    assert len(workers) > 4, f"{workers} answered"
+        with gunicorn(tmp_path, named(store)) as path:
+            last = while_workers_are_killed(sender, path, cache)
+            if kind is not store_servers.File:
+                while_the_store_is_killed(sender, path, real_requests(cache, MORE), store)
+        if kind is store_servers.File:
+            after_another_boot(sender, tmp_path, store, last, cache)
+    assert max(sender.let_in.values()) == 1, "a request was let in twice"

@@ -5,6 +5,7 @@ import itertools
 import os
 import threading
 import time
+from ctypes import byref
 
 import pytest
 
@@ -182,6 +183,8 @@ def test_nothing_can_be_read_before(cache):
             [service.answer(request(cache, 9), NOW), connection.answer(request(cache), NOW)]))
         other.start()
         other.join(20)
+        known = _interface.Known()
+        assert connection._handle.call("accepted_known", byref(known), None, 0).code == Code.NOTHING_THERE
         return True
 
     found, main, store = [], threading.current_thread(), Asked(said)
@@ -203,7 +206,7 @@ def test_a_store_with_a_fault_of_its_own(cache):
 
 
 def test_the_loop_goes_on(cache):
-    """Twenty clients over a store that takes half a second for each."""
+    """Twenty clients over a store that takes a second for each."""
     ticks = []
 
     async def ticking():
@@ -219,14 +222,14 @@ def test_the_loop_goes_on(cache):
         return found
 
     def said():
-        time.sleep(0.5)
+        time.sleep(1)
         return True
 
     began = time.monotonic()
     *found, repeat, asks = asyncio.run(answer_all(serving(Asked(said))))
     assert [it.client for it in found] == ["alice@EX"] * 20
     assert repeat.cause == Code.REPEAT and isinstance(asks, GoOn)
-    assert time.monotonic() - began < 9 and max(later - it for it, later in zip(ticks, ticks[1:])) < 0.4
+    assert time.monotonic() - began < 15 and max(later - it for it, later in zip(ticks, ticks[1:])) < 0.8
 
 
 def test_a_task_that_is_cancelled(cache):
@@ -245,25 +248,29 @@ def test_a_task_that_is_cancelled(cache):
 # ---------------------------------------------------------------- memory
 
 
-@pytest.mark.parametrize(
-    "name", ["service_answer", "accepted_known", "accepted_start", "accepted_stamp", "negotiation_take"])
+@pytest.mark.parametrize("name", ["service_answer", "login_stamp", "login_settle", "accepted_known", "accepted_start"])
 def test_memory_runs_out(cache, monkeypatch, name):
     """Nobody is let in."""
-    service, token, store = serving(Asked(True)), wrap_request(request(cache)), []
+    store = Asked(True)
+    service, token = serving(store), wrap_request(request(cache))
     call, none = _library.Library.call, _interface.Answer(Code.OUT_OF_MEMORY)
     with monkeypatch.context() as now:
         now.setattr(_library.Library, "call",
                     lambda self, called, *words: none if called == name else call(self, called, *words))
         refused = service.answer(token, NOW)
-    assert isinstance(refused, Refused) and (refused.cause, store) == (Code.OUT_OF_MEMORY, [])
+    assert isinstance(refused, Refused) and refused.cause == Code.OUT_OF_MEMORY
+    assert bool(store.asked) == (name not in ("service_answer", "login_stamp"))
 
 
 def test_no_moment_until_which_to_keep_a_stamp(cache, monkeypatch):
-    """The service is asked in the year 9999."""
+    """The service is asked in the year 9999, or another one has a skew of ten thousand years."""
+    token, far = request(cache), Asked(True, largest_skew=2**38)
+    refused = serving(far, first_life=True).answer(token, NOW)
+    assert (refused.cause, far.asked) == (Code.STORE_FAILED, []) and refused.__cause__.code == Code.BAD_MOMENT
     call, none, store = _library.Library.call, _interface.Answer(Code.BAD_MOMENT), Asked(True)
     monkeypatch.setattr(_library.Library, "call", lambda self, called, *words: (
-        none if called == "accepted_stamp" else call(self, called, *words)))
-    refused = serving(store).answer(request(cache), NOW)
+        none if called == "login_stamp" else call(self, called, *words)))
+    refused = serving(store).answer(token, NOW)
     assert (refused.cause, store.asked) == (Code.STORE_FAILED, []) and refused.__cause__.code == Code.BAD_MOMENT
 
 
@@ -272,8 +279,8 @@ def no_memory(*_):
 
 
 @pytest.mark.parametrize("module, name", [
-    (os, "urandom"), (_login.ctypes, "create_string_buffer"), (_login.ctypes, "string_at"), (_login, "octets"),
-    (_login, "_LoginHandle"), (_login, "_later"), (_login.Asked, "read")])
+    (os, "urandom"), (_login, "Buffer"), (_login, "bytes_of"), (_library, "bytes_of"), (_login, "octets"),
+    (_login, "_LoginHandle"), (_login, "_later")])
 @pytest.mark.parametrize("store", [None, Asked(True), Asked(False), Asked(MemoryError())])
 @pytest.mark.parametrize("is_async", [False, True])
 def test_pythons_memory_runs_out(cache, monkeypatch, module, name, store, is_async):
@@ -284,19 +291,17 @@ def test_pythons_memory_runs_out(cache, monkeypatch, module, name, store, is_asy
     if isinstance(decision, Refused):
         assert decision.cause in (Code.OUT_OF_MEMORY, Code.REPEAT)
     else:
-        assert name in ("_later", "read") and (store is None or name == "read")
+        assert name == "_later" and store is None
 
 
-@pytest.mark.parametrize("name", ["request_asks", "error"])
-def test_memory_runs_out_for_a_refusal(cache, monkeypatch, name):
+def test_memory_runs_out_for_a_refusal(cache, monkeypatch):
     """The cause stays."""
     call, none = _library.Library.call, _interface.Answer(Code.OUT_OF_MEMORY)
     token = wrap_request(request(cache))
     monkeypatch.setattr(_library.Library, "call",
-                        lambda self, called, *words: none if called == name else call(self, called, *words))
+                        lambda self, called, *words: none if called == "login_asked" else call(self, called, *words))
     refused = serving(Asked(False)).answer(token, NOW)
-    assert refused.cause == Code.REPEAT
-    assert (refused.asked is None, refused.reply == b"") == (name == "request_asks", name == "error")
+    assert refused.cause == Code.REPEAT and refused.asked is None and refused.reply
 
 
 # ---------------------------------------------------------------- the start

@@ -1,11 +1,11 @@
-"""Processes of a service that share a store: examples/shared.py over each store, and examples/service/shared.c over
-Redis.
+"""Processes of a service that share a store: examples/shared.py and examples/service/service.c, over each store.
 
-Each request is delivered to four processes at the same time, in random order: it is let in exactly once. Meanwhile
-processes are killed and started again, or the store is: then none is let in twice, and none while the store is down. A
-store that doesn't answer in time lets nobody in, nor does a process that gets the answer too late. With the file of
-another boot, nothing that was let in before is let in again. The environment variable STORES_REQUESTS says how many
-requests there are in each phase: 2,000 is the whole, and less a share of it.
+Each request, which a client of MIT krb5 has made, is delivered to four processes at the same time, in random order: it
+is let in exactly once. Meanwhile processes are killed and started again, or the store is: then none is let in twice,
+and none while the store is down. A store that doesn't answer in time lets nobody in, nor does a process that gets the
+answer too late. With the file of another boot, nothing that was let in before is let in again. The environment variable
+STORES_REQUESTS says how many requests there are in each phase: 2,000 is the whole, and less a share of it. They are
+made and delivered in portions, so that none grows too old on a slow machine.
 """
 import contextlib
 import itertools
@@ -20,17 +20,18 @@ from concurrent.futures import ThreadPoolExecutor
 import pytest
 
 from support import TESTS, TOP, c_programs, store_servers
-from support.instances import ACCEPTED, BATCH, PYTHON, REPEAT, SERVICE, STORE, Instance, made_requests
+from support.instances import ACCEPTED, BATCH, EARLY, PYTHON, REPEAT, SERVICE, STORE, Instance, Served, real_requests
 
 pytestmark = [pytest.mark.packages, pytest.mark.slow]
-# How many requests there are in each phase, and more for what comes after the phases.
-REQUESTS, MORE = int(os.environ.get("STORES_REQUESTS", "240")), 20
-# How often each process is killed in the second phase.
+# How many requests there are in each phase, at most how many in a portion, and more for what comes after the phases.
+REQUESTS, PORTION, MORE = int(os.environ.get("STORES_REQUESTS", "240")), 240, 12
+# How often each process is killed in the second phase, or once in each portion.
 KILLS = 4
-# How long a process waits for the store while both run on a busy machine, and where that is tested; how long a phase
-# may take; and how long a process that is started again, which on a machine that does nothing else is below a second.
-PATIENT, IMPATIENT, SECONDS, STARTING = 20, 1, 120, 5
-JUST_STARTED, SKEW = ("refused", "JUST_STARTED"), ("refused", "SKEW")
+# How long a process waits for the store while both run on a busy machine, and where that is tested; how long a portion
+# may take; and how long a process in C and one in Python that is started again, which on a machine that does nothing
+# else takes less than a second, too.
+PATIENT, IMPATIENT, SECONDS, STARTING = 20, 1, 120, {Served: 1, Instance: 5}
+SKEW = ("refused", "SKEW")
 # Runs a program over the package whose boot is named by a file.
 WITH_BOOT = """
 import runpy, sys
@@ -78,16 +79,20 @@ class Delivery:
             one.send(self.requests[at] for at in batch)
             if number in killed_at:
                 answers = one.killed(len(batch), min(before, len(batch)))
-                left = batch[len(answers):]
-                self.killed_over.update(left[:1])
+                left = [at for at, answer in zip(batch, answers) if answer is None]
+                self.killed_over.update(left[:one.at_once])
                 order = left + order
             else:
                 if len(order) < len(self.requests) // 2:
                     self.meet()
                 answers = one.answers(len(batch))
-                if len(answers) < len(batch):
-                    raise OSError(f"an instance ended, or had no time, after {answers[-1:]}")
-            self.note(zip(batch, answers))
+                if None in answers:
+                    raise OSError("an instance ended, or had no time")
+            self.note((at, answer) for at, answer in zip(batch, answers) if answer)
+
+    def lost(self):
+        """Which weren't let in."""
+        return {at for at, each in enumerate(self.answers) if ACCEPTED not in each}
 
     def meet(self):
         with self.lock:
@@ -102,19 +107,29 @@ class Delivery:
                 self.count[answer] += 1
 
 
+def portions(requests):
+    return [requests[at:at + PORTION] for at in range(0, len(requests), PORTION)]
+
+
 def is_it(found, wanted):
     return None if found == wanted else f"{found!r}, not {wanted!r}"
 
 
 class Phases:
-    """What happens to instances over a store; each phase gives checks."""
+    """What happens to instances over a store; each phase gives checks.
 
-    def __init__(self, store, instances, plain, killed, last):
-        self.rng, self.store, self.instances = random.Random(4120), store, instances
-        self.plain, self.killed = plain, killed
-        self.broken, self.down, self.back = last[::2], last[1::4], last[3::4]
-        # How often each request was let in so far.
-        self.let_in = Counter()
+    cache  from which a client makes requests
+    """
+
+    def __init__(self, store, instances, cache):
+        self.rng, self.store, self.instances, self.cache = random.Random(4120), store, instances, cache
+        # How often each request was let in so far; and of those that were refused while the store was down, the last.
+        self.let_in, self.down = Counter(), []
+
+    def new(self, count):
+        """Portions of requests, each of which is made when it is needed."""
+        for at in range(0, count, PORTION):
+            yield real_requests(self.cache, min(PORTION, count - at))
 
     def delivered(self, requests, **more):
         found = Delivery(self.rng, self.instances, requests, **more)
@@ -125,41 +140,53 @@ class Phases:
         twice = [request for request, count in self.let_in.items() if count > 1]
         return f"{len(twice)} are, of {len(self.let_in)}" if twice else None
 
-    def each_once(self, requests):
-        """What comes of requests that are new."""
-        return is_it(self.delivered(requests).count,
-                     Counter({ACCEPTED: len(requests), REPEAT: len(requests) * (len(self.instances) - 1)}))
+    def each_once(self, count):
+        """What comes of so many new requests."""
+        found = sum((self.delivered(it).count for it in self.new(count)), Counter())
+        return is_it(found, Counter({ACCEPTED: count, REPEAT: count * (len(self.instances) - 1)}))
 
     def once(self):
-        what = f"{len(self.plain)} requests to {len(self.instances)} instances"
-        yield f"{what}: each is let in exactly once", self.each_once(self.plain)
+        what = f"{REQUESTS} requests to {len(self.instances)} instances"
+        yield f"{what}: each is let in exactly once", self.each_once(REQUESTS)
 
     def instances_killed(self):
-        found = self.delivered(self.killed, kills=KILLS)
+        kills = max(1, KILLS * PORTION // REQUESTS)
+        found = [self.delivered(it, kills=kills) for it in self.new(REQUESTS)]
         yield "while instances are killed, none is let in twice", self.none_twice()
-        lost = {at for at, each in enumerate(found.answers) if ACCEPTED not in each}
-        yield "each is let in, unless an instance was killed over it", is_it(lost - found.killed_over, set())
-        yield "all else is a repeat", is_it(set(found.count), {ACCEPTED, REPEAT})
-        yield "instances were killed in their work", None if found.killed_over else "none was"
+        lost = {at for each in found for at in each.lost() - each.killed_over}
+        yield "each is let in, unless an instance was killed over it", is_it(lost, set())
+        yield "all else is a repeat", is_it({answer for each in found for answer in each.count}, {ACCEPTED, REPEAT})
+        yield "instances were killed in their work", None if any(it.killed_over for it in found) else "none was"
 
     def store_killed(self):
-        found = self.delivered(self.broken, midway=self.store.kill)
+        found = []
+        for requests in self.new(REQUESTS // 2):
+            if found:
+                self.store.start()
+            found.append(self.delivered(requests, midway=self.store.kill))
         yield "while the store is killed, none is let in twice", self.none_twice()
-        yield "the store was killed in its work", is_it(set(found.count), {ACCEPTED, REPEAT, STORE})
-        down = self.delivered(self.down).count
-        refused = Counter({STORE: len(self.down) * len(self.instances)})
-        yield "while the store is down, none is let in", is_it(down, refused)
+        yield "the store was killed in its work", is_it(
+            {answer for each in found for answer in each.count}, {ACCEPTED, REPEAT, STORE})
+        count, refused = REQUESTS // 4, Counter()
+        for requests in self.new(count):
+            refused += self.delivered(requests).count
+            self.down = requests
+        wanted = Counter({STORE: count * len(self.instances)})
+        yield "while the store is down, none is let in", is_it(refused, wanted)
         self.store.start()
-        yield "each is let in exactly once when the store is back", self.each_once(self.back)
+        yield "each is let in exactly once when the store is back", self.each_once(min(count, PORTION))
 
     def all_again(self):
-        """Instances that have forgotten all get what they got before."""
+        """Instances that have forgotten all get what they got before: first what isn't old yet."""
         self.start_again()
-        let_in = [it for part in (self.plain, self.killed, self.broken, self.back) for it in part[:250]]
-        self.delivered([*let_in, *self.down])
+        let_in = [request for request, count in self.let_in.items() if count]
+        self.delivered(self.down)
+        for it in portions(self.rng.sample(let_in, min(len(let_in), 4 * PORTION))):
+            self.delivered(it)
         yield "what was let in before isn't let in again by instances that have forgotten it", self.none_twice()
         down = Counter(self.let_in[it] for it in self.down)
         yield "what wasn't let in because the store was down is let in once", is_it(down, Counter({1: len(self.down)}))
+        yield "each new one is let in exactly once", self.each_once(REQUESTS // 4)
 
     def another_boot(self):
         """The machine is started again, and what was written before a power failure may be lost."""
@@ -167,13 +194,15 @@ class Phases:
             one.kill()
         self.store.boot()
         self.start_again()
-        requests = [*self.plain, *self.killed]
-        refused = Counter({JUST_STARTED: len(requests) * len(self.instances)})
-        yield "after another boot, all that may have been let in before it is refused", is_it(
-            self.delivered(requests).count, refused)
+        *older, last = portions(list(self.let_in))
+        refused = Counter({EARLY: len(last) * len(self.instances)})
+        yield "after another boot, what may have been let in before it is refused", is_it(
+            self.delivered(last).count, refused)
+        found = {answer for it in older for answer in self.delivered(it).count}
+        yield "so is what is older", is_it(found - {EARLY, SKEW}, set())
         self.store.age()
         self.start_again()
-        yield "after the pause, each is let in exactly once", self.each_once([*self.broken, *self.down, *self.back])
+        yield "after the pause, each is let in exactly once", self.each_once(REQUESTS)
 
     def start_again(self):
         for one in self.instances:
@@ -203,38 +232,38 @@ def too_late(store, instance, ahead, request):
     ahead.write_text("302")
     store.signalled(signal.SIGCONT)
     found, = instance.answers(1)
-    yield "an answer that comes too late", None if found in (STORE, SKEW) else f"{found!r}"
+    yield "an answer that comes too late", None if found in (STORE, SKEW, EARLY) else f"{found!r}"
 
 
 def started_again(instance, request):
     """How long it takes until a process that was killed lets a new request in."""
+    instance.kill()
     instance.close()
     began = time.monotonic()
     instance.start()
     yield "a process that is started again lets a new request in", is_it(instance.asked(request), ACCEPTED)
     took = time.monotonic() - began
     print(f"started again, and a request let in: {took:.2f} seconds")
-    yield "and at once", None if took < STARTING else f"after {took} seconds"
+    yield "and at once", None if took < STARTING[type(instance)] else f"after {took} seconds"
 
 
 def over(store, kinds, folder, library):
-    """`kinds` has a function for each instance, which gives its words for a store and how long it waits for it."""
+    """`kinds` has a function for each instance, which starts it over a store, for which it waits so long."""
     store.start()
     store.age()
-    started, ahead = [], folder / "ahead"
+    started, ahead = [], folder / f"ahead-{store.folder.name}"
 
     def instance(kind, wait, **more):
-        started.append(Instance(kind(store, wait), FEVSTUNIK_LIBRARY=str(library), **more))
+        started.append(kind(folder, store, wait, FEVSTUNIK_LIBRARY=str(library), **more))
         return started[-1]
 
     try:
-        given = iter(made_requests(folder / "cache", 3 * REQUESTS + MORE, library))
-        parts = [list(itertools.islice(given, REQUESTS)) for _ in range(3)]
-        phases = Phases(store, [instance(it, PATIENT) for it in kinds], *parts)
+        phases = Phases(store, [instance(it, PATIENT) for it in kinds], folder / "cache")
         more = [phases.another_boot] if store.name == "SQLite" else [phases.store_killed, phases.all_again]
         for checks in (phases.once, phases.instances_killed, *more):
             yield from checks()
         for kind in dict.fromkeys(kinds):
+            given = iter(real_requests(folder / "cache", MORE))
             yield from started_again(instance(kind, PATIENT), next(given))
             if store.name == "SQLite":
                 continue
@@ -252,43 +281,35 @@ def over(store, kinds, folder, library):
 
 
 @pytest.fixture(scope="module")
-def folder(library, tmp_path_factory):
+def folder(library, service_in_c, tmp_path_factory):
     """A folder with another clock, the service in C, and a cache that has a ticket for host/web@EX that is valid
     now."""
     made = tmp_path_factory.mktemp("stores")
     c_programs.well(c_programs.run("gcc", "-shared", "-fPIC", *c_programs.STRICT[:3], TESTS / "support/clock.c", "-o",
                                    made / "clock.so"))
-    source = TOP / "examples/service/shared.c"
-    c_programs.linked(library.parent / "libfevstunik.a", made / "shared", "-D_DEFAULT_SOURCE", source, "-lhiredis")
+    (made / "service").symlink_to(service_in_c)
     (made / "cache").write_bytes(c_programs.current_cache(int(time.time()) - 60))
     return made
 
 
-def in_python(store, wait):
-    return [PYTHON, "-B", TOP / "examples/shared.py", *SERVICE, store.where, "--wait", wait]
+def in_python(folder, store, wait, **more):
+    if store.name != "SQLite":
+        return Instance([PYTHON, "-B", TOP / "examples/shared.py", *SERVICE, store.where, "--wait", wait], **more)
+    words = PYTHON, "-B", "-c", WITH_BOOT, store.boot_file, TOP / "examples/shared.py"
+    return Instance([*words, *SERVICE, store.path, "--wait", wait], **more)
 
 
-def over_a_file(store, wait):
-    return [PYTHON, "-B", "-c", WITH_BOOT, store.boot_file, TOP / "examples/shared.py", *SERVICE, store.path, "--wait",
-            wait]
+def in_c(folder, store, wait, **more):
+    return Served([folder / "service", *SERVICE, store.in_c, wait], **store.env, **more)
 
 
-def test_sqlite(folder, library, checks):
-    """Four processes in Python."""
-    with contextlib.closing(store_servers.File()) as store:
-        checks.all(over(store, [over_a_file] * 4, folder, library))
+ALL_IN_PYTHON, ALL_IN_C, OF_BOTH = [in_python] * 4, [in_c] * 4, [in_c, in_c, in_python, in_python]
 
 
-def test_redis(folder, library, checks):
-    """Two processes in C and two in Python."""
-    def in_c(store, wait):
-        return [folder / "shared", *SERVICE, store.socket, wait]
-
-    with contextlib.closing(store_servers.Redis()) as store:
-        checks.all(over(store, [in_c, in_c, in_python, in_python], folder, library))
-
-
-def test_postgresql(folder, library, checks):
-    """Four processes in Python."""
-    with contextlib.closing(store_servers.Postgres()) as store:
-        checks.all(over(store, [in_python] * 4, folder, library))
+@pytest.mark.parametrize("kind, kinds", [
+    (store_servers.File, ALL_IN_PYTHON), (store_servers.File, ALL_IN_C), (store_servers.File, OF_BOTH),
+    (store_servers.Redis, ALL_IN_C), (store_servers.Redis, OF_BOTH), (store_servers.Postgres, ALL_IN_PYTHON)],
+    ids=["SQLite-Python", "SQLite-C", "SQLite-both", "Redis-C", "Redis-both", "PostgreSQL-Python"])
+def test_four_processes(folder, library, checks, kind, kinds):
+    with contextlib.closing(kind()) as store:
+        checks.all(over(store, kinds, folder, library))

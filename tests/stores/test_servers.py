@@ -1,7 +1,5 @@
 """Stores in servers, Redis and PostgreSQL: what they keep, what is refused by name, and answers that come too late."""
 import os
-import socket
-import threading
 import time
 import uuid
 from concurrent.futures import ThreadPoolExecutor
@@ -14,6 +12,7 @@ from fevstunik import Moment
 from fevstunik.stores import PostgreSQL, Redis, Store, StoreFailed, UnsafeStore, _redis
 
 from support import store_servers
+from support.store_servers import Proxy
 
 pytestmark = pytest.mark.packages
 LATER, PAST = Moment(int(time.time()) + 3600, 7), Moment(int(time.time()) - 1)
@@ -27,36 +26,6 @@ def opened(server, *words, where=None, **more):
 def named():
     """A stamp that no store has."""
     return uuid.uuid4().bytes
-
-
-class Proxy:
-    """Hands on what a server says, after so many seconds."""
-
-    def __init__(self, server, folder):
-        name = server.socket.name if server.name == "Redis" else ".s.PGSQL.5432"
-        self.seconds, self.to = 0.0, str(server.folder / name)
-        self.where = server.where.replace(str(server.folder), str(folder))
-        self.listening = socket.socket(socket.AF_UNIX)
-        self.listening.bind(str(folder / name))
-        self.listening.listen()
-        threading.Thread(target=self.accept, daemon=True).start()
-
-    def accept(self):
-        while True:
-            client, server = self.listening.accept()[0], socket.socket(socket.AF_UNIX)
-            server.connect(self.to)
-            for words in ((client, server, lambda: 0.0), (server, client, lambda: self.seconds)):
-                threading.Thread(target=self.hand_on, args=words, daemon=True).start()
-
-    @staticmethod
-    def hand_on(source, to, seconds):
-        try:
-            while data := source.recv(65536):
-                time.sleep(seconds())
-                to.sendall(data)
-            to.shutdown(socket.SHUT_RDWR)
-        except OSError:
-            pass
 
 
 # ---------------------------------------------------------------- what is new
@@ -142,6 +111,7 @@ def test_a_server_that_ends(server):
 
 def set_redis(server, setting):
     server.said("config", "set", *setting.split())
+    server.wait_for_the_file()
 
 
 def set_role(server, setting):

@@ -15,7 +15,7 @@ import urllib.request
 
 from support.kdc import Trouble, free_port
 
-SECONDS = 60
+SECONDS = 180
 
 
 class Browser:
@@ -118,7 +118,7 @@ class Firefox(Browser):
                          {**env, "MOZ_DISABLE_CONTENT_SANDBOX": "1"})
         self.stream, self.numbers = self.connected(port), itertools.count(1)
         self.read()
-        self.ask("NewSession", {"capabilities": {"alwaysMatch": {"acceptInsecureCerts": True}}})
+        self.ask("NewSession", {"acceptInsecureCerts": True})
 
     def read(self):
         """A message: its length, a colon, and JSON."""

@@ -15,7 +15,15 @@ CRATE = TOP / "crates/krb_c"
 HEADER = TOP / "include/fevstunik.h"
 INTERFACE = Interface(tomllib.loads((TOP / TABLE).read_text()))
 # What the handles are called in the crate.
-HANDLES = {"ServiceHandle": "acceptor", "AcceptedHandle": "accepted", "Login": "login", "KeytabHandle": "keytab", "CacheHandle": "cache", "PendingHandle": "pending"}
+HANDLES = {
+    "ServiceHandle": "acceptor",
+    "AcceptedHandle": "accepted",
+    "Login": "login",
+    "KeytabHandle": "keytab",
+    "CacheHandle": "cache",
+    "PendingHandle": "pending",
+    "MessagesHandle": "messages",
+}
 # Functions that the header has whole.
 INLINE = {"fevstunik_code_name", "fevstunik_code_text"}
 
@@ -39,6 +47,11 @@ def documented():
     return {f"fevstunik_{it.name}": set(it.codes) for it in INTERFACE.functions if it.codes}
 
 
+def reading():
+    """The functions that take a struct as const."""
+    return sorted(f"fevstunik_{it.name}" for it in INTERFACE.functions if any(kind.startswith("in ") for _, kind in it.parts))
+
+
 def kerberos_codes():
     """The codes of RFC 4120 that stand beside those of the library."""
     return {it.name: it.kerberos for it in INTERFACE.codes if it.kerberos is not None}
@@ -51,8 +64,8 @@ def made():
 
 
 def lists():
-    """The numbers of lists, and of how repeats are refused across starts, are the crate's."""
-    table = {(one["name"].removeprefix("LIST_"), str(one["number"])) for it in INTERFACE.types if it.name in ("list", "restart") for one in it.numbers}
+    """The numbers of lists, of how repeats are refused across starts, and of what a store says, are the crate's."""
+    table = {(one["name"].removeprefix("LIST_"), str(one["number"])) for it in INTERFACE.types if it.name in ("list", "restart", "said") for one in it.numbers}
     return differs(table, set(re.findall(r"^const (\w+): u32 = (\d+);", crate_text(), re.M)))
 
 

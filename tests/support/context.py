@@ -12,6 +12,8 @@ SIGN, SEAL = {"acceptor": 23, "initiator": 25}, {"acceptor": 22, "initiator": 24
 DEFECTIVE, WRONG = "the bytes are no token of this kind", "the checksum is wrong"
 OTHER_SIDE, OTHER_KEY = "the token was sent back: it is of the side that reads it", "the token is under another key"
 NOT_NEXT, WINDOW = "the token isn't the next one", 64
+# The libraries whose tokens are stored, and how many of these tokens are bent.
+LIBRARIES, BENT = ("mit", "heimdal"), 50
 KEYS = [(19, bytes(range(16))), (20, bytes(range(100, 132)))]
 
 
@@ -105,9 +107,11 @@ class Window:
 class Side:
     """A side of a context: the session key, the subkeys (None if there is none) and the first numbers of both sides."""
 
-    def __init__(self, side, keys, numbers, rotation=0, in_order=False):
+    def __init__(self, side, keys, numbers, rotation=0, in_order=False, once=False):
         session, initiator, acceptor = keys
-        self.keys, self.numbers, self.side, self.rotation, self.in_order = keys, numbers, side, rotation, in_order
+        self.keys, self.numbers, self.side, self.rotation = keys, numbers, side, rotation
+        # Whether only the next token is taken, and whether repeats are refused.
+        self.in_order, self.once = in_order, once
         etype, key = acceptor or initiator or session
         other = next(it for it in SIGN if it != side)
         self.sent, self.peer = (Sender(etype, key, it, acceptor is not None) for it in (side, other))
@@ -116,7 +120,7 @@ class Side:
     def lines(self):
         keys = " ".join(f"{it[0]} {it[1].hex()}" if it else "0 -" for it in self.keys)
         return [f"agree {keys} {self.numbers['initiator']} {self.numbers['acceptor']}",
-                f"context {self.side} {self.rotation} {str(self.in_order).lower()}"]
+                f"context {self.side} {self.rotation} {str(self.in_order).lower()} {str(self.once).lower()}"]
 
     def overhead(self, is_sealed):
         return (48 if is_sealed else 16) + TYPES[self.sent.etype][2]
@@ -127,9 +131,9 @@ class Side:
         return self.sent.plain(self.number, text)
 
     def takes(self, number, more, refused=""):
-        """What is answered for a token with this number: with it and its order, or that it isn't the next one."""
+        """What is answered for a token with this number: it and its order, or that the options refuse it."""
         order = self.window.order(number)
-        if self.in_order and order != "Next":
+        if self.in_order and order != "Next" or self.once and order in ("Repeat", "Old"):
             return f"{NOT_NEXT} {order}{refused}"
         return f"{number} {self.window.take(number)}{more}"
 
@@ -247,8 +251,8 @@ def sides(drawn):
     some = [(etype, drawn.randbytes(TYPES[etype][1])) for etype in (20, 19, 20, 19)]
     for side, initiator, acceptor in itertools.product(SIGN, (None, *some[:2]), (None, *some[2:])):
         for session in KEYS:
-            rotation, in_order = drawn.choice([0, 28, 1, 65535]), drawn.random() < 0.5
-            yield Side(side, (session, initiator, acceptor), numbers, rotation, in_order)
+            rotation, in_order, once = drawn.choice([0, 28, 1, 65535]), drawn.random() < 0.3, drawn.random() < 0.5
+            yield Side(side, (session, initiator, acceptor), numbers, rotation, in_order, once)
 
 
 def sending(it, drawn):
@@ -284,11 +288,18 @@ def receiving(it, drawn):
     return lines, answers
 
 
-def from_mit():
+def of_libraries():
+    """The stored tokens of MIT krb5 and Heimdal: the name of each case, its lines and its answers."""
+    for _, name, lines, answers in calls.stored("context"):
+        if name.startswith(LIBRARIES):
+            yield name, lines, answers
+
+
+def from_libraries():
     """The stored tokens, as the other side takes them in order: under the session key, under a subkey of the initiator,
     or under the acceptor's."""
     other = (19, bytes(16))
-    for _, name, lines, answers in (it for it in calls.stored("context") if it[1].startswith("mit")):
+    for name, lines, answers in of_libraries():
         _, etype, key, side, subkey = lines[0].split()
         held, peer = (int(etype), bytes.fromhex(key)), next(it for it in SIGN if it != side)
         numbers = {it: int(answers[1].split()[0]) for it in SIGN}
@@ -297,6 +308,48 @@ def from_mit():
         for keys in [(other, other, held)] if subkey == "true" else [(held, None, None), (other, held, None)]:
             it = Side(peer, keys, numbers, in_order=True)
             yield PROGRAM, f"taken in order, {name}", it.lines() + taken, ["kept", "kept"] + right
+
+
+def read_as(it, line, answer):
+    """A stored line's token. The model of its sender gets the plain text of one that is sealed, and so can read it."""
+    token = bytes.fromhex(line.split()[-1])
+    if answer.split()[1:2] == ["true"]:
+        extra, rotation, number = struct.unpack(">HHQ", token[4:16])
+        text = calls.bytes_of(answer.split()[2])
+        it.bodies[rotated(token[16:], -rotation)] = text + it.header(True, extra, 0, number)
+    return token
+
+
+def turned(token):
+    """A Wrap token with each rotation from 0 to the length of what is behind its header: turned so, or only said so."""
+    extra, rotation = struct.unpack(">HH", token[4:8])
+    body = rotated(token[16:], -rotation)
+    for other in range(len(body) + 1):
+        header = token[:4] + struct.pack(">HH", extra, other) + token[8:16]
+        yield header + rotated(body, other)
+        yield header + token[16:]
+
+
+def bent_of_libraries(drawn):
+    """Stored tokens with each bit turned, cut after each byte, of each rotation, and as another side's or key's."""
+    found = [(name, lines[0], *it) for name, lines, right in of_libraries() for it in zip(lines[1:], right[1:])]
+    for name, key, line, answer in drawn.sample(found, BENT):
+        _, etype, key, side, subkey = key.split()
+        it = Sender(int(etype), bytes.fromhex(key), side, subkey == "true")
+        token, call = read_as(it, line, answer), line.rpartition(" ")[0]
+        made = [token, *bent(token, drawn), *(turned(token) if call == "unwrap" else ())]
+        lines, answers = [], []
+        for side, is_subkey in itertools.product(SIGN, (False, True)):
+            who = Sender(it.etype, it.key, side, is_subkey)
+            who.bodies = it.bodies
+            is_it = (side, is_subkey) == (it.side, it.subkey)
+            lines.append(who.line())
+            answers.append("kept")
+            for other in made if is_it else [token]:
+                lines.append(f"{call} {hexed(other)}")
+                text = None if call == "unwrap" else calls.bytes_of(call.split()[1])
+                answers.append(who.unwrapped(other) if text is None else who.verified(text, other))
+        yield PROGRAM, f"bent, {name}, {answer.split()[0]}", lines, answers
 
 
 def drawn(seed=1):
@@ -310,5 +363,6 @@ def drawn(seed=1):
     for it in sides(source):
         for make in (sending, receiving):
             yield PROGRAM, f"{make.__name__}, {' '.join(it.lines())}", *make(it, source)
-    yield from from_mit()
+    yield from from_libraries()
+    yield from bent_of_libraries(source)
     yield PROGRAM, "sides", ["peer initiator", "peer acceptor"], ["Acceptor", "Initiator"]

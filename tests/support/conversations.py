@@ -13,6 +13,11 @@ from support import TOP, kdc, reference, tickets
 REALM = "PEER.TEST"
 SERVICES = {19: "host/only19.example", 20: "host/web.example"}
 MIT = ["mit_client", "mit_service"]
+# Ours, by their names: their sources, and the libraries that they need.
+STORES = ("store", "sqlite_store", "redis_store")
+SOURCES = {"client": [TOP / "examples/service/client.c"],
+           "service": [TOP / f"examples/service/{it}.c" for it in ("service", *STORES)]}
+LIBRARIES = ("-lsqlite3", "-lhiredis")
 # What each side says of a repeat and of a ticket that the keytab doesn't open: our service its own code, the others RFC
 # 4120's.
 REPEAT, BENT_KEY = {"our": "FEVSTUNIK_REPEAT", "MIT's": 34}, {"our": "FEVSTUNIK_TICKET_INTEGRITY", "MIT's": 31}

@@ -85,12 +85,15 @@ class Made(Sent):
     # The type of the one element of authorization data of each.
     ticket_data: int = None
     data: int = None
+    # The realms that the ticket passed through, as TYPE/HEX.
+    transited: str = None
     # Whether ticket and authenticator carry all that they may.
     full: int = 0
     # The realm of the client's cache, where it isn't the ticket's.
     realm: bytes = None
-    # The channel bindings that a client of GSS-API sends.
+    # The channel bindings that a client of GSS-API sends, and its flags.
     bindings: bytes = None
+    context_flags: int = 0
 
 
 @dataclass(frozen=True)
@@ -162,7 +165,7 @@ HIGHEST = 2**32 - 1
 
 
 def chosen_key(text):
-    """A key that one side chose, from ETYPE/HEX."""
+    """A key that one side chose, from ETYPE/HEX; or realms, from TYPE/HEX."""
     return None if text is None else (int(text.partition("/")[0]), bytes_of(text.partition("/")[2]))
 
 
@@ -180,7 +183,7 @@ def lists_of(made):
 
 
 def transited_of(made):
-    return TRANSITED if made.full else NO_REALMS
+    return chosen_key(made.transited) or (TRANSITED if made.full else NO_REALMS)
 
 
 def ticket_part(made):
@@ -201,7 +204,7 @@ def authenticator(made):
     subkey = chosen_key(made.subkey)
     checksum = CHECKSUM if made.full else None
     if made.bindings is not None:
-        checksum = 0x8003, struct.pack("<I16sI", 16, made.bindings, 0)
+        checksum = 0x8003, struct.pack("<I16sI", 16, made.bindings, made.context_flags)
     return der.authenticator(
         realm, der.name(made.client_type, *components), made.micros, made.seconds,
         checksum=checksum and der.key(*checksum),

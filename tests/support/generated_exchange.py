@@ -21,13 +21,15 @@ def picking(name, data, whose, etype, kvno):
     """A case of pick-key. `whose` is a realm and the components."""
     words = [reference.principal_text(*whose), str(etype), *([] if kvno is None else [f"--kvno={kvno}"])]
     case = {"name": f"pick-key: {name}, {' '.join(words)}", "args": ["pick-key", "f", *words], "files": {"f": data}}
+    is_usable = etype in KEYS
     try:
-        entry = model.picked(reference.keytab(data), (whose[0], tuple(whose[1])), etype, kvno)
+        entry = model.picked(reference.keytab(data), (whose[0], tuple(whose[1])), etype, kvno, any_key=not is_usable)
     except model.Refused as refused:
         return {**case, "stderr": f"krbtool: pick-key: {WANTS[str(refused)]}\n", "status": 1}
     except reference.Fault as fault:
         return {**case, "stderr": f"krbtool: f: {fault}\n", "status": 1}
-    return {**case, "stdout": reference.keytab_line(entry)}
+    case["stdout"] = reference.keytab_line(entry)
+    return case if is_usable else {**case, "stderr": "krbtool: pick-key: UnusableType\n", "status": 1}
 
 
 def versions_of(entries):
@@ -58,6 +60,11 @@ def keytabs():
         entry(one, 6, 19, b""),
         entry(other, 5, 20, bytes(32)), entry(one, 1, 19, bytes(16)),
     ])
+    yield "types that aren't usable", keytab_of([
+        entry(one, 2, 18, bytes(32)), entry(one, 4, 18, b"\1" * 32), entry(one, 4, 18, b"\2" * 32),
+        entry(one, 3, 18, b""), entry(one, 1, 17, bytes(16)), entry(one, 0, 23, bytes(16)),
+        entry(other, 9, 18, bytes(32)), entry(one, 5, 0, b""), entry(one, 7, -18, bytes(32)),
+    ])
     yield "no entries", b"\x05\x02"
 
 
@@ -67,7 +74,7 @@ def pick_cases():
         names = {(it["realm"], tuple(it["components"]))
                  for it in entries if it["components"]} | {(b"EX", (b"nobody",)), (b"ex", (b"host", b"web"))}
         for whose in sorted(names):
-            for etype in (18, 19, 20):
+            for etype in (0, 17, 18, 19, 20, 23):
                 yield from (picking(name, data, whose, etype, kvno) for kvno in versions_of(entries))
     data = keytab_of([entry([b"host", b"web"], 3, 19, bytes(16))])
     for size in range(len(data) + 1):

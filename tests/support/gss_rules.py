@@ -1,7 +1,8 @@
-"""Tokens of GSS-API (RFC 2743, section 3.1; RFC 4121, section 4.1; RFC 4178, section 4.2), and which fault a token has.
+"""Tokens of GSS-API (RFC 2743, section 3.1; RFC 4121, section 4.1; RFC 4178, sections 4.1, 4.2 and 5), and which fault
+a token has.
 
-It draws tokens as clients send them and bends them in structure; `drawn` gives the
-cases. It also writes requests and answers in their wrapping, and checksums of authenticators (RFC 4121, section 4.1.1).
+It draws tokens as clients send them and bends them in structure; `drawn` gives the cases. It also writes requests and
+answers in their wrapping, answers with a mechListMIC, and checksums of authenticators (RFC 4121, section 4.1.1).
 """
 import hashlib
 import random
@@ -109,22 +110,29 @@ def held(token):
     return framed(token)
 
 
+def ends_of(fields):
+    """The mechToken or responseToken, and the mechListMIC; what is after them is passed over."""
+    token, mic = fields.optional(0xA2, 0x04), fields.optional(0xA3, 0x04)
+    fields.unknown()
+    return token, mic
+
+
 def token_of(fields):
     """The mechToken or responseToken; what is after it is passed over."""
-    token = fields.optional(0xA2, 0x04)
-    fields.optional(0xA3, 0x04)
-    fields.unknown()
-    return token
+    return ends_of(fields)[0]
 
 
 def init_of(part):
+    """Of a NegTokenInit (RFC 4178, section 4.2.1): mechTypes with its tag and length, the names in it, and the
+    mechToken."""
     fields = part.last(0xA0).last(0x30)
-    names = fields.enter(0xA0).last(0x30)
-    first = names.enter(0x06)
-    while names.left():
-        names.enter(0x06)
+    types = fields.enter(0xA0)
+    whole, inside = types.left(), types.last(0x30)
+    names = [inside.enter(0x06)]
+    while inside.left():
+        names.append(inside.enter(0x06))
     fields.optional(0xA1, 0x03)
-    return first, token_of(fields)
+    return whole, names, token_of(fields)
 
 
 def opened(text):
@@ -141,10 +149,10 @@ def opened(text):
     if oid.left() != SPNEGO:
         name, request = message_of(oid, inner)
         return f"bare {name}", request
-    first, token = init_of(inner)
-    listed = name_of(first)
+    _, names, token = init_of(inner)
+    listed = name_of(names[0])
     if token is None:
-        raise Fault(f"no token of the mechanism at {first.at}")
+        raise Fault(f"no token of the mechanism at {names[0].at}")
     name, request = message_of(*held(token))
     return f"negotiated {listed} {name}", request
 
@@ -185,23 +193,62 @@ def asking(text):
         oid, inner = framed(Reader(text, 0, len(text)))
         if oid.left() != SPNEGO or len(text) > LIMIT:
             return None
-        first, token = init_of(inner)
-        return None if token else NAMES.get(first.left())
+        _, names, token = init_of(inner)
+        return None if token else NAMES.get(names[0].left())
     except Fault:
         return None
 
 
-def later(text):
-    """The name and the request of a client's later token."""
+def listing(text):
+    """What `listing` answers: the first name of Kerberos after another mechanism, and the MechTypeList, which is what a
+    mechListMIC is over (RFC 4178, sections 4.1 and 5)."""
+    try:
+        oid, inner = framed(Reader(text, 0, len(text)))
+        if oid.left() != SPNEGO or len(text) > LIMIT:
+            return "none"
+        whole, names, _ = init_of(inner)
+    except Fault:
+        return "none"
+    first, *others = [NAMES.get(it.left()) for it in names]
+    known = [it for it in others if it]
+    return f"{known[0]} {whole.hex()}" if known and not first else "none"
+
+
+def later_parts(text):
+    """Of a client's later message, a NegTokenResp without a supportedMech (RFC 4178, section 4.2.2): where its fields
+    begin, its responseToken and its mechListMIC."""
     if len(text) > LIMIT:
         raise Fault("TooLong at 0")
     fields = Reader(text, 0, len(text)).last(0xA1).last(0x30)
     begin = fields.at
     fields.optional(0xA0, 0x0A)
-    token = token_of(fields)
+    return begin, *ends_of(fields)
+
+
+def later(text):
+    """The name and the request of a client's later token."""
+    begin, token, _ = later_parts(text)
     if token is None:
         raise Fault(f"no token of the mechanism at {begin}")
     return message_of(*held(token))
+
+
+def continued(text):
+    """What `continued` answers."""
+    try:
+        name, request = later(text)
+        return f"{name} {request.hex() or '-'}"
+    except Fault as fault:
+        return f"refused {fault}"
+
+
+def mic(text):
+    """What `mic` answers."""
+    try:
+        found = later_parts(text)[2]
+        return "none" if found is None else found.left().hex() or "-"
+    except Fault as fault:
+        return f"refused {fault}"
 
 
 SAID = {b"\0": "completed", b"\1": "incomplete", b"\2": "rejected"}
@@ -306,8 +353,19 @@ def straight_later(rng):
     message = b"\x6e" + rng.randbytes(rng.choice((0, 1, 120, 300)))
     token_id = rng.choice((b"\x01\x00",) * 5 + (b"\x02\x00",))
     inner = kerberos(rng.choice((KERBEROS, MICROSOFT, DRAFT, NTLM)), message, token_id)
-    token = rng.choice((inner,) * 6 + (None, message))
-    return going_on(token, rng.choice((None, None, b"\1", b"")), rng.choice((None, None, b"mic")), unknown_fields(rng))
+    token = rng.choice((inner,) * 5 + (None, None, message))
+    mic_is = rng.choice((None, None, b"", b"mic", rng.randbytes(28), rng.randbytes(200)))
+    return going_on(token, rng.choice((None, None, b"\1", b"")), mic_is, unknown_fields(rng))
+
+
+def straight_listing(rng):
+    """A client's first token, mostly one that names another mechanism first."""
+    first = rng.choice((NTLM,) * 6 + (IAKERB, SPNEGO, b"", rng.randbytes(4), KERBEROS, MICROSOFT))
+    others = (KERBEROS, MICROSOFT, DRAFT, NTLM, NTLM, IAKERB, KERBEROS[:-1], rng.randbytes(9))
+    names = [first, *(rng.choice(others) for _ in range(rng.choice((0, 1, 1, 2, 3, 12, 30))))]
+    token = rng.choice((None, b"NTLMSSP\0", b"", kerberos(KERBEROS, b"\x6e"), rng.randbytes(300)))
+    flags, mic_is = rng.choice((None, None, b"\x01\x02", b"\x00" * 5)), rng.choice((None, None, b"", b"mic"))
+    return negotiation(names, token, flags, mic_is, unknown_fields(rng))
 
 
 def conversation(rng):
@@ -329,7 +387,7 @@ def straight_verdict(rng):
 
 def bent(rng, text):
     """The token with one thing otherwise: a byte, a cut, more bytes, or an element's head."""
-    text, at = bytearray(text), rng.randrange(min(len(text), 60))
+    text, at = bytearray(text), rng.randrange(min(len(text), rng.choice((60, 60, 60, len(text)))))
     how = rng.randrange(6)
     if how == 0:
         text[at] = rng.randrange(256)
@@ -347,6 +405,13 @@ def bent(rng, text):
     return bytes(text)
 
 
+def twisted(rng, text):
+    """The token, bent up to twice."""
+    for _ in range(rng.choice((0, 0, 1, 1, 2))):
+        text = bent(rng, text) or b"\0"
+    return text
+
+
 def large():
     """Tokens of many sizes, up to the limit and one above it."""
     for count in (127, 128, 65_535, 65_536, LIMIT - 100, LIMIT - 22, LIMIT - 21, LIMIT - 20, LIMIT):
@@ -358,9 +423,44 @@ def large():
         ]
 
 
+def large_later():
+    """Lists of mechanisms and later messages of many sizes, up to the limit and one above it."""
+    for call, rule, around in (("listing", listing, lambda it: negotiation([NTLM, DRAFT], it)),
+                               ("listing", listing, lambda it: negotiation([it, MICROSOFT], b"NTLMSSP\0")),
+                               ("continued", continued, lambda it: going_on(kerberos(MICROSOFT, it), b"\1", b"mic")),
+                               ("mic", mic, lambda it: going_on(kerberos(KERBEROS, b"n"), None, it)),
+                               ("mic", mic, lambda it: going_on(it, b"\1", b"mic"))):
+        most = longest(around)
+        for count in (127, 128, 255, 256, 65_535, 65_536, most, most + 1):
+            front, _, back = around(b"m" * count).partition(b"m" * count)
+            line = "+".join([front.hex(), f"6d*{count}", *([back.hex()] if back else [])])
+            yield f"{call} of {count} bytes", [f"{call} {line}"], [rule(front + b"m" * count + back)]
+
+
+def longest(around):
+    """The most bytes that these can be around."""
+    return next(count for count in range(LIMIT, 0, -1) if len(around(bytes(count))) <= LIMIT)
+
+
 def response(name, token, state):
     """A NegTokenResp of negState, supportedMech and responseToken: the last two are contents, or None."""
     return element(0xA1, fields_of((0xA0, 0x0A, bytes([state])), (0xA1, 0x06, name), (0xA2, 0x04, token)))
+
+
+def checked(word, name, message, mic_is):
+    """A service's later answer with a mechListMIC (RFC 4178, section 5): the line, and the answer. It is a NegTokenResp
+    of negState, a responseToken if there is a reply, and mechListMIC."""
+    state = {"completed": b"\0", "incomplete": b"\1"}[word]
+    token = kerberos(name, message, b"\x02\x00") if name else None
+    reply = f"{NAMES[name]} {message.hex() or '-'}" if name else "none"
+    return f"checked {word} {reply} {mic_is.hex() or '-'}", going_on(token, state, mic_is)
+
+
+def answers_with_a_mic(rng):
+    """Such answers, drawn: the line and the answer."""
+    name, word = rng.choice((None, KERBEROS, MICROSOFT, DRAFT)), rng.choice(("completed", "incomplete"))
+    message = rng.randbytes(rng.choice((0, 1, 2, 84, 95, 97, 113, 127, 128, 250, 300)))
+    return checked(word, name, message, rng.randbytes(rng.choice((0, 1, 16, 28, 123, 124, 127, 128, 255, 256))))
 
 
 def wrapped(rng):
@@ -383,10 +483,12 @@ def too_long():
                           ("request Kerberos Microsoft", lambda it: negotiation([KERBEROS], kerberos(MICROSOFT, it))),
                           ("request Draft Draft", lambda it: negotiation([DRAFT], kerberos(DRAFT, it))),
                           ("later Draft reply", lambda it: response(None, kerberos(DRAFT, it, b"\x02\x00"), 0)),
+                          ("checked completed none", lambda it: checked("completed", None, b"", it)[1]),
+                          ("checked incomplete Draft 6f03", lambda it: checked("incomplete", DRAFT, b"o\3", it)[1]),
                           ("answer bare Kerberos reply", lambda it: kerberos(KERBEROS, it, b"\x02\x00")),
                           ("answer Microsoft Kerberos error",
                            lambda it: response(MICROSOFT, kerberos(KERBEROS, it, b"\x03\x00"), 2))):
-        most = next(count for count in range(LIMIT, 0, -1) if len(around(bytes(count))) <= LIMIT)
+        most = longest(around)
         token = around(b"m" * most)
         shown = f"#{len(token)}:{hashlib.sha256(token).hexdigest()}"
         long = "refused the token would be longer than 1048576 bytes"
@@ -456,6 +558,8 @@ def said():
         for kind, token_id, state in ("reply", b"\x02\x00", 0), ("error", b"\x03\x00", 2):
             token = response(None, kerberos(name, b"message", token_id), state)
             yield f"later {shown} {kind}", [f"later {shown} {kind} {b'message'.hex()}"], [token.hex()]
+        token = response(name, None, 3)
+        yield f"request-mic {shown}", [f"request-mic {shown}", f"verdict {token.hex()}"], [token.hex(), "none"]
 
 
 def drawn():
@@ -467,18 +571,24 @@ def drawn():
 def drawn_calls():
     rng = random.Random(4178)
     for number in range(CASES):
-        text = straight(rng)
-        for _ in range(rng.choice((0, 0, 1, 1, 2))):
-            text = bent(rng, text) or b"\0"
+        text = twisted(rng, straight(rng))
         yield f"token {number}", [f"open {text.hex()}"], [answer(text)]
     for name, lines, answers in large():
         yield name, lines, answers
     for number in range(CASES // 2):
-        text = straight_answer(rng)
-        for _ in range(rng.choice((0, 0, 1, 1, 2))):
-            text = bent(rng, text) or b"\0"
+        text = twisted(rng, straight_answer(rng))
         yield f"answer {number}", [f"answered {text.hex()}"], [answered(text)]
+    for number in range(CASES // 2):
+        text = twisted(rng, straight_listing(rng) if rng.random() < 0.9 else straight(rng))
+        yield f"list {number}", [f"listing {text.hex()}"], [listing(text)]
+        text = twisted(rng, straight_later(rng) if rng.random() < 0.9 else straight_answer(rng))
+        lines = [f"{call} {text.hex()}" for call in ("continued", "mic")]
+        yield f"later message {number}", lines, [continued(text), mic(text)]
+    for name, lines, answers in large_later():
+        yield name, lines, answers
     for number in range(CASES // 10):
+        line, token = answers_with_a_mic(rng)
+        yield f"checked {number}", [line, f"mic {token.hex()}"], [token.hex(), mic(token)]
         line, token = wrapped(rng)
         call, back = ("open", answer(token)) if line.startswith("request") else ("answered", answered(token))
         yield f"wrapped {number}", [line, f"{call} {token.hex()}"], [token.hex(), back]

@@ -71,7 +71,7 @@ class Process:
                                             stderr=out, env=env)
 
     def wait_for(self, port):
-        for _ in range(200):
+        for _ in range(600):
             if self.process.poll() is not None:
                 break
             with socket.socket() as stream:

@@ -87,11 +87,11 @@ class Seals:
         return self.plain[etype, key, usage, cipher] if tag == cipher[-size:] else None
 
 
-def picked(entries, name, etype, kvno):
+def picked(entries, name, etype, kvno, any_key=False):
     named = [it for it in entries if (it["realm"], tuple(it["components"])) == name]
     if not named:
         raise Refused("NotUs")
-    usable = [it for it in named if it["etype"] == etype and is_usable(etype, it["key"])]
+    usable = [it for it in named if it["etype"] == etype and (any_key or is_usable(etype, it["key"]))]
     if not usable:
         raise Refused("NoKey")
     if kvno is None:

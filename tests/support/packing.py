@@ -6,7 +6,7 @@ import subprocess
 from pathlib import Path
 
 ROOT = Path(__file__).resolve().parents[2]
-VERSION = "0.1.0"
+VERSION = "0.2.0"
 LIBDIR = "usr/lib/x86_64-linux-gnu"
 # The folder of each build of the shared library: the loader takes the last one that its processor runs.
 BUILDS = {"x86-64": LIBDIR, **{cpu: f"{LIBDIR}/glibc-hwcaps/{cpu}" for cpu in ("x86-64-v2", "x86-64-v3")}}

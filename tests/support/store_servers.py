@@ -1,5 +1,5 @@
 """Stores for tests: a file, and servers of Redis and PostgreSQL (Debian's redis-server and postgresql), each in a
-folder of its own, on a socket there, with no port.
+folder of its own, on a socket there, with no port; and a proxy that delays what a server says.
 
 They keep what they were told, also when they are killed, as docs/OPERATING.md configures it. `age` makes a store one
 that has been in use for long: then there is no pause any more.
@@ -12,9 +12,11 @@ import pwd
 import re
 import shutil
 import signal
+import socket
 import sqlite3
 import subprocess
 import tempfile
+import threading
 import time
 from pathlib import Path
 
@@ -50,6 +52,8 @@ class File:
     def __init__(self, place=None):
         self.folder = Path(tempfile.mkdtemp(prefix="sqlite-", dir=place))
         self.path, self.boot_file, self.boots = self.folder / "stamps", self.folder / "boot", 0
+        # (for examples/service/service)
+        self.in_c, self.env = f"sqlite:{self.path}", {"BOOT_FILE": str(self.boot_file)}
 
     def start(self):
         self.boot()
@@ -101,7 +105,7 @@ class Redis(Server):
     def __init__(self):
         super().__init__()
         self.socket = self.folder / "redis.sock"
-        self.where = f"unix://{self.socket}"
+        self.where, self.in_c, self.env = f"unix://{self.socket}", f"redis:{self.socket}", {}
 
     def start(self, users="", wanted="PONG\n"):
         more = f'port 0\nunixsocket {self.socket}\ndir {self.folder}\nsave ""\n{users}'
@@ -114,6 +118,12 @@ class Redis(Server):
     def start_with_user(self, password):
         """Starts it with the document's users. Nobody may do anything without a password, not even a ping."""
         self.start(lines_of_redis("user").replace("HASH", hashlib.sha256(password.encode()).hexdigest()), "NOAUTH")
+
+    def wait_for_the_file(self):
+        """Waits until the file is written, after `appendonly` was switched on: before, a server that is killed loses
+        what it was given."""
+        done = {"aof_rewrite_in_progress:0", "aof_rewrite_scheduled:0"}
+        wait_for(lambda: done <= {*self.said("info", "persistence").split()}, "the file isn't written", self.process)
 
     def age(self):
         self.said("set", "fevstunik-store", f"{(int(time.time()) - AGE) * 1_000_000} 300")
@@ -189,3 +199,33 @@ class Postgres(Server):
         started = self.signalled(signal.SIGKILL)
         self.process.wait()
         wait_for(lambda: not any(Path(f"/proc/{it}/exe").exists() for it in started), "a process of postgres goes on")
+
+
+class Proxy:
+    """Hands on what a server says, after so many seconds."""
+
+    def __init__(self, server, folder):
+        name = server.socket.name if server.name == "Redis" else ".s.PGSQL.5432"
+        self.seconds, self.to = 0.0, str(server.folder / name)
+        self.where = server.where.replace(str(server.folder), str(folder))
+        self.listening = socket.socket(socket.AF_UNIX)
+        self.listening.bind(str(folder / name))
+        self.listening.listen()
+        threading.Thread(target=self.accept, daemon=True).start()
+
+    def accept(self):
+        while True:
+            client, server = self.listening.accept()[0], socket.socket(socket.AF_UNIX)
+            server.connect(self.to)
+            for words in ((client, server, lambda: 0.0), (server, client, lambda: self.seconds)):
+                threading.Thread(target=self.hand_on, args=words, daemon=True).start()
+
+    @staticmethod
+    def hand_on(source, to, seconds):
+        try:
+            while data := source.recv(65536):
+                time.sleep(seconds())
+                to.sendall(data)
+            to.shutdown(socket.SHUT_RDWR)
+        except OSError:
+            pass

@@ -1,5 +1,6 @@
 """Realms with users, services and keytabs, and tickets whose session keys come to be of type 19 or 20 in each advised
 way."""
+import os
 import re
 import textwrap
 from datetime import datetime, timezone
@@ -215,10 +216,11 @@ def advised(realm):
     both, new = folder / "www.keytab", folder / "new.keytab"
     folder.mkdir()
 
-    def shell(*blocks):
-        ran(["sh", "-ec", "".join(blocks)], cwd=folder, env=realm.environment("admin"))
+    def shell(*blocks, **more):
+        path = f"{TOP / 'build'}:{os.environ['PATH']}"
+        return ran(["sh", "-ec", "".join(blocks)], cwd=folder, env=realm.environment("admin", PATH=path, **more))
 
-    made, (known, given, removed) = lines_below("Keys")[0], lines_below("Without a refused login")
+    made, (known, given, explained, removed) = lines_below("Keys")[0], lines_below("Without a refused login")
     shell(made)
     early = Ticket("the key before an advised change", realm, realm.cache("advised-early", "one", [service]), service,
                    20, True)
@@ -226,6 +228,9 @@ def advised(realm):
     shell(known, given)
     late = Ticket("the key after an advised change", realm, realm.cache("advised-late", "one", [service]), service, 20,
                   True)
+    seen = shell(explained, CACHE=str(late.cache), NAME=late.service)
+    if "\naccepted, unless" not in seen:
+        raise Trouble(f"the keytab's key isn't the KDC's: {seen}")
     shell(removed)
     return (early, [both], [new]), (late, [both, new], [])
 

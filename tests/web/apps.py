@@ -1,6 +1,7 @@
 """The application of each framework that the tests serve: WEB_TERMS has the terms of Negotiate, in JSON.
 
-/ says who the user is and what was posted, /fails fails, and other paths are 404.
+/ says who the user is and what was posted, /how whether by a login or in a session, /inside leads to /, /fails fails,
+and other paths are 404.
 """
 import json
 import os
@@ -15,11 +16,21 @@ def made():
     return Negotiate(**terms)
 
 
+def how(login):
+    return "session" if login is None else "login"
+
+
 def plain():
     def app(environ, start_response):
         if environ["PATH_INFO"] == "/fails":
             start_response("200 OK", [("Content-Type", "text/plain"), ("Content-Length", "3")])
             return (1 // 0 for _ in range(1))
+        if environ["PATH_INFO"] == "/inside":
+            start_response("302 Found", [("Location", "/"), ("Content-Length", "0")])
+            return []
+        if environ["PATH_INFO"] == "/how":
+            start_response("200 OK", [("Content-Type", "text/plain")])
+            return [how(environ["fevstunik.login"]).encode()]
         body = environ["wsgi.input"].read(int(environ.get("CONTENT_LENGTH") or 0))
         start_response("200 OK" if environ["PATH_INFO"] == "/" else "404 Not Found", [("Content-Type", "text/plain")])
         return [environ.get("REMOTE_USER", "nobody").encode() + b" " + body]
@@ -27,12 +38,20 @@ def plain():
 
 
 def flask():
-    from flask import Flask, request
+    from flask import Flask, redirect, request
     app = Flask(__name__)
 
     @app.route("/", methods=["GET", "POST"])
     def index():
         return f"{request.remote_user} {request.get_data(as_text=True)}"
+
+    @app.route("/how")
+    def said():
+        return how(request.environ["fevstunik.login"])
+
+    @app.route("/inside")
+    def inside():
+        return redirect("/")
 
     @app.route("/fails")
     def fails():
@@ -43,17 +62,24 @@ def flask():
 
 def _django():
     from django.conf import settings
-    from django.http import HttpResponse
+    from django.http import HttpResponse, HttpResponseRedirect
     from django.urls import path
 
     def index(request):
         user = request.scope["user"].name if hasattr(request, "scope") else request.META["REMOTE_USER"]
         return HttpResponse(f"{user} {request.body.decode()}")
 
+    def said(request):
+        is_asgi = hasattr(request, "scope")
+        return HttpResponse(how(request.scope["user"].login if is_asgi else request.META["fevstunik.login"]))
+
+    def inside(request):
+        return HttpResponseRedirect("/")
+
     def fails(request):
         raise KeyError
     settings.configure(ROOT_URLCONF=__name__, ALLOWED_HOSTS=["*"], SECRET_KEY="of the tests")
-    globals()["urlpatterns"] = [path("", index), path("fails", fails)]
+    globals()["urlpatterns"] = [path("", index), path("how", said), path("inside", inside), path("fails", fails)]
 
 
 def django_wsgi():
@@ -70,13 +96,20 @@ def django_asgi():
 
 def starlette():
     from starlette.applications import Starlette
-    from starlette.responses import PlainTextResponse
+    from starlette.responses import PlainTextResponse, RedirectResponse
     from starlette.routing import Route
 
     async def index(request):
         return PlainTextResponse(f"{request.user.display_name} {(await request.body()).decode()}")
 
+    async def said(request):
+        return PlainTextResponse(how(request.user.login))
+
+    async def inside(request):
+        return RedirectResponse("/")
+
     async def fails(request):
         raise KeyError
-    routes = [Route("/", index, methods=["GET", "POST"]), Route("/fails", fails)]
+    routes = [Route("/", index, methods=["GET", "POST"]), Route("/how", said), Route("/inside", inside),
+              Route("/fails", fails)]
     return made().asgi(Starlette(routes=routes))

@@ -11,9 +11,9 @@ from fevstunik.web import service
 def public():
     for name in web.__all__:
         thing = getattr(web, name)
-        if name not in ("serve", "NotAllowed"):
+        if name != "serve":
             yield name, thing
-        if isinstance(thing, type) and not issubclass(thing, Exception):
+        if isinstance(thing, type):
             yield from ((f"{name}.{word}", it) for word, it in vars(thing).items()
                         if not word.startswith("_") and isinstance(it, (FunctionType, property)))
 

@@ -106,6 +106,18 @@ def test_a_store_begins_with_the_login(made, tmp_path):
     assert asked(web.by_wsgi(gate)) == 503 and gate.counts == {"JUST_STARTED": 1}
 
 
+def test_why_a_store_fails_is_logged(made, tmp_path, caplog):
+    (tmp_path / "run").mkdir(mode=0o700)
+    ask = web.by_wsgi(made(store=tmp_path / "run/stamps"))
+    caplog.set_level(logging.INFO)
+    assert asked(ask) == 200
+    for it in (tmp_path / "run").iterdir():
+        it.unlink()
+    assert asked(ask) == 503
+    last = caplog.records[-1]
+    assert last.cause == "STORE_FAILED" and "was removed: start the services" in last.getMessage()
+
+
 def test_a_fork(made):
     """The service belongs to a process: made before the fork, it serves in parent and child."""
     ask = web.by_wsgi(made())

@@ -115,6 +115,7 @@ REFUSED = {
     "a byte in the target": (400, asks("GET /\xe9 HTTP/1.1")),
     "no path": (400, asks("GET one HTTP/1.1")),
     "a host to connect to": (400, asks("CONNECT web:443 HTTP/1.1")),
+    "many fields": (431, asks("GET / HTTP/1.1", *["a: b"] * 200)),
     "a long head": (431, asks("GET / HTTP/1.1", f"X-Name: {'a' * 400_000}")),
 }
 

@@ -3,6 +3,7 @@ import contextlib
 import functools
 import random
 import re
+import socket
 from concurrent.futures import ThreadPoolExecutor
 
 import pytest
@@ -32,8 +33,13 @@ def servers(tmp_path_factory, library):
 
 
 @pytest.fixture(params=web_servers.KINDS)
-def server(request, servers):
-    return servers(request.param)
+def kind(request):
+    return request.param
+
+
+@pytest.fixture
+def server(kind, servers):
+    return servers(kind)
 
 
 def test_logins(server):
@@ -68,7 +74,12 @@ def test_large_tokens(server, size):
 def test_malformed_headers(server):
     for value in ("Negotiate \xff", "Negotiate *", "Negotiate a b"):
         assert server.ask(headers={"Authorization": value}).status == 400
-    assert server.ask(token=bytes(65_537)).status == 431
+
+
+def test_a_token_that_is_too_long(server, kind):
+    """(a request to uWSGI has at most 64 KiB of headers, and nginx answers)"""
+    assert server.ask(token=bytes(65_537)).status == (500 if "uWSGI" in kind else 431)
+    assert server.ask(token=web.token()).status == 200
 
 
 def test_sessions_over_all_workers(server):
@@ -84,6 +95,27 @@ def test_logins_in_parallel(server):
     assert {(it.status, it.body) for it in answers} == {(200, WHO)}
 
 
+def test_no_header_names_the_user(server):
+    for name in ("Remote-User", "Remote_User", "REMOTE_USER", "X-Remote-User"):
+        assert server.ask(headers={name: "mallory"}).status == 401
+        assert server.ask(token=web.token(), headers={name: "mallory"}).body == WHO
+
+
+@pytest.mark.parametrize("kind", ["Flask, uWSGI", "Starlette, uvicorn", "Django, uvicorn"])
+def test_many_slow_clients(server):
+    """500 connections that send a byte: others log in meanwhile, and these in the end. (gunicorn needs a proxy.)"""
+    slow = [socket.create_connection(("127.0.0.1", server.port), timeout=30) for _ in range(500)]
+    for it in slow:
+        it.sendall(b"G")
+    assert {server.ask(token=web.token()).status for _ in range(5)} == {200}
+    for it in slow:
+        value = web.negotiate(web.token(mutual=False)).encode()
+        it.sendall(b"ET / HTTP/1.1\r\nHost: web\r\nConnection: close\r\nAuthorization: " + value + b"\r\n\r\n")
+    assert all(it.recv(100).startswith(b"HTTP/1.1 200 ") for it in slow)
+    for it in slow:
+        it.close()
+
+
 HIDDEN = b"GET /hidden HTTP/1.1\r\nHost: web\r\n\r\n"
 
 
@@ -95,7 +127,8 @@ def test_a_body_is_no_request(server, method):
     assert re.findall(rb"^HTTP/1\.1 (\d+)", answers, re.M) == [b"401"]
 
 
-@pytest.mark.parametrize("kind", ["Flask, gunicorn", "Flask, gunicorn, preloaded", "Starlette, uvicorn"])
+@pytest.mark.parametrize("kind", ["Flask, gunicorn", "Flask, gunicorn, preloaded", "Flask, uWSGI",
+                                  "Starlette, uvicorn"])
 def test_a_token_is_good_once(tmp_path, keytab, kind):
     """Over all workers, and over a restart. If the store is lost, nobody is let in."""
     (tmp_path / "run").mkdir(mode=0o700)

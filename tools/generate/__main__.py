@@ -5,12 +5,13 @@
 
 crates/krb_c/interface.toml is the table of the library for C, crates/krb_ap/causes.toml that of causes for refusing a request,
 crates/krb_msg/messages.toml that of the messages, crates/krb_gss/messages.toml that of the messages of tokens, and
-crates/krb_command_line/commands.toml that of krbtool's commands. What docs/PROOFS.md says a reader must believe is counted. Debian's python3-jinja2 must be installed.
+crates/krb_command_line/commands.toml that of krbtool's commands. What docs/PROOFS.md says a reader must believe is
+counted, and docs/STATEMENTS.md quotes the sources. Debian's python3-jinja2 must be installed.
 """
 import itertools
 import sys
 
-from . import ROOT, believed, causes, commands, interface, message_calls, messages, tokens
+from . import ROOT, believed, causes, commands, interface, message_calls, messages, statements, tokens
 
 
 def difference(path, wanted):
@@ -27,7 +28,8 @@ def main(words):
     if words not in ([], ["--check"]):
         sys.exit(__doc__)
     made = interface.environment()
-    texts = interface.files() | causes.files(made) | messages.files() | message_calls.files() | tokens.files() | commands.files() | believed.files()
+    texts = interface.files() | causes.files(made) | messages.files() | message_calls.files() | tokens.files()
+    texts |= commands.files() | believed.files() | statements.files()
     for path in messages.left_over(texts):
         if words:
             sys.exit(f"{path} isn't made of messages.toml any more")

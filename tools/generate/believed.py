@@ -95,17 +95,27 @@ def definitions(path):
         made = Definition(path, before.first, (*before.lines, *lines[at:end]))
         found[name] = made
         if DATA.match(lines[at]):
-            found |= {it: made for line in made.lines[1:] for it in re.findall(r"^\s+(\w+) :", line)}
+            names = [it for line in made.lines[1:] for it in re.findall(r"^\s+([\w-]+(?: [\w-]+)*) :", line)]
+            found |= {it: made for it in " ".join(names).split()}
     return found
 
 
 def known(path, word):
-    """The definition of a word in a file."""
+    """The definition of a word in a file: its own, or that of the file that it is taken from, which may take it too."""
     if path.endswith(".antt") and word in definitions(path):
         return definitions(path)[word]
-    module, name = imported(path).get(word, ("", ""))
+    if word not in imported(path):
+        return None
+    module, name = imported(path)[word]
     other = path_of(module)
-    return definitions(other).get(name) if other and (ROOT / other).exists() else None
+    if other is None:
+        return None
+    if not (ROOT / other).exists():
+        raise LookupError(f"{path}: there is no file of definitions {other}, of which `{name}` should be")
+    found = known(other, name)
+    if found is None and path_of(imported(other).get(name, (module, ""))[0]) is not None:
+        raise LookupError(f"{path}: {other} doesn't define `{name}`")
+    return found
 
 
 def place_of(function):

@@ -14,7 +14,10 @@ TEMPLATES = {
     "crates/krb_ap/src/refusal.rt": "refusal.rt",
     "crates/krb_login/src/breach.rt": "breach.rt",
     "crates/krb_calls_exchange/src/cause_list.rt": "cause_list.rt",
+    "crates/krb_explain_keys/src/look_at.rt": "look_at.rt",
 }
+# A definition and a proof, which aren't laid out: the sentences on what to look at, and the order of the causes.
+OTHERS = {"crates/krb_explain_keys/specs/LookAt.antt": "LookAt.antt", "crates/krb_ap/proofs/Table.antt": "Table.antt"}
 DOCUMENT = "docs/ACCEPTANCE.md"
 
 
@@ -36,6 +39,11 @@ class Cause:
     def doc(self):
         """The comment of the documentation."""
         return layout.sentence(self.when) + (" The request is remembered." if self.remembered else "")
+
+    @property
+    def plain_look(self):
+        """What to look at, as plain text: of a link in Markdown its words."""
+        return re.sub(r"\[([^]]*)\]\([^)]*\)", r"\1", self.look_at).replace('"', '\\"')
 
     @property
     def c_name(self):
@@ -66,6 +74,11 @@ def kerberos_codes():
     """The codes of RFC 4120, by name."""
     found = re.findall(r"pub const (\w+): i32 = (\d+);", (ROOT / CODES).read_text())
     return {name: int(number) for name, number in found}
+
+
+def after_malformed(rows):
+    """The cause that comes right after malformed requests."""
+    return next(then.name for it, then in zip(rows, rows[1:]) if it.has_fault)
 
 
 def faults(rows, codes):
@@ -105,5 +118,6 @@ def files(environment):
     words, codes = {"causes": causes(), "breaches": breaches()}, kerberos_codes()
     for fault in faults(words["causes"] + words["breaches"], codes):
         sys.exit(f"{TABLE}: {fault}")
-    sources = {path: environment.get_template(f"{name}.j2").render(words) for path, name in TEMPLATES.items()}
-    return layout.laid_out(sources) | {DOCUMENT: document(codes)}
+    words["after_malformed"] = after_malformed(words["causes"])
+    made = {path: environment.get_template(f"{name}.j2").render(words) for path, name in (TEMPLATES | OTHERS).items()}
+    return made | layout.laid_out({path: made[path] for path in TEMPLATES}) | {DOCUMENT: document(codes)}

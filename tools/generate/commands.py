@@ -202,7 +202,7 @@ class Command:
     def synopsis(self):
         """Its operands and options, as they are written."""
         def shown(it):
-            inner = "".join(f" {shown(one)}" for one in self.needing(it.id)) if it.kind == "flag" else ""
+            inner = "".join(f" {shown(one)}" for one in self.needing(it.id))
             return it.shown if it.has_to_be_there else f"[{it.shown}{inner}]"
         return " ".join([self.name, *(shown(it) for it in self.arguments if not it.needs)])
 
@@ -318,8 +318,9 @@ def faults(table):
         for it in command.arguments:
             if it.excludes and it.excludes not in ids:
                 yield f"{it.id} of {command.name} excludes an operand that the command doesn't have"
-            if it.needs and it.needs != command.form.get("flag"):
-                yield f"{it.id} of {command.name} needs a flag that isn't its form's"
+            free = [one.id for one in command.options if one.kind == "option" and not (one.is_word or one.needs)]
+            if it.needs and it.needs not in (command.form.get("flag"), *free):
+                yield f"{it.id} of {command.name} needs what isn't its form's flag or an option that may be left out"
 
 
 # ---------------------------------------------------------------- the manual page
@@ -367,7 +368,7 @@ class Page(manual.Page):
     def synopsis(self, command):
         """The lines of a command's synopsis."""
         def one(it):
-            inner = "".join(f" {one(inner)}" for inner in command.needing(it.id)) if it.kind == "flag" else ""
+            inner = "".join(f" {one(inner)}" for inner in command.needing(it.id))
             return ("" if it.has_to_be_there else "Op ") + tagged(it) + inner
         return "\n".join([".Nm", f".Cm {command.name}", *(f".{one(it)}" for it in command.arguments if not it.needs)])
 

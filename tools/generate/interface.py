@@ -6,7 +6,7 @@ from dataclasses import dataclass, field
 
 import jinja2
 
-from . import ROOT, causes, layout, manual
+from . import ROOT, causes, layout, manual, sizes
 
 TABLE = "crates/krb_c/interface.toml"
 # The files, and the templates that they are made by.
@@ -15,9 +15,11 @@ TEMPLATES = {
     "crates/krb_c/src/code.rt": "code.rt",
     "crates/krb_c/src/cause.rt": "cause.rt",
     "crates/krb_c/src/handles.rt": "handles.rt",
+    "crates/krb_c/src/sizes.rt": "sizes.rt",
     "crates/krb_c/src/structs.rt": "structs.rt",
     "crates/krb_c/src/version.rt": "version.rt",
     "crates/krb_c/specs/Codes.antt": "Codes.antt",
+    "crates/krb_c/specs/Sizes.antt": "Sizes.antt",
     "python/fevstunik/_codes.py": "_codes.py",
     "python/fevstunik/_interface.py": "_interface.py",
     "tests/c/structs.h": "structs.h",
@@ -29,7 +31,17 @@ TEMPLATES = {
 # What is made of each handle: the proofs that nothing is lost between it and its place.
 HANDLE_PROOFS = "crates/krb_c/proofs/handles"
 # Numbers: their types in Rattle, and in C.
-NUMBERS = {"u8": "uint8_t", "u32": "uint32_t", "i16": "int16_t", "i32": "int32_t", "i64": "int64_t", "usize": "size_t", "bool": "bool"}
+NUMBERS = {
+    "u8": "uint8_t",
+    "u16": "uint16_t",
+    "u32": "uint32_t",
+    "u64": "uint64_t",
+    "i16": "int16_t",
+    "i32": "int32_t",
+    "i64": "int64_t",
+    "usize": "size_t",
+    "bool": "bool",
+}
 # The names of codes in a text, also abbreviated ones.
 NAMED = re.compile(r"\b(?:FEVSTUNIK)?_([A-Z][A-Z0-9_]*)\b")
 RANGE = re.compile(r"from FEVSTUNIK_(\w+) to FEVSTUNIK_(\w+)")
@@ -74,11 +86,13 @@ class Group:
 
 @dataclass(frozen=True)
 class Field:
-    """A field of a struct, with its type in Rattle: a number, a struct, or an array of numbers."""
+    """A field of a struct, with its type in Rattle: a number, a struct, or an array of numbers. If a struct that ends before it is valid too,
+    `shorter` says what that stands for."""
 
     name: str
     type: str
     text: str = ""
+    shorter: str = ""
 
     @property
     def element(self):
@@ -97,6 +111,16 @@ class Field:
 
     def rattle(self):
         return self.type if self.type.startswith("[") or self.type in NUMBERS else camel(self.type)
+
+    def zero_in_rattle(self):
+        of, count = self.element
+        zero = "false" if of == "bool" else "0"
+        return f"[{zero}; {count}]" if count else zero
+
+    def zero_in_definitions(self):
+        of, count = self.element
+        zero = "false" if of == "bool" else "0"
+        return f"replicate {count} {zero}" if count else zero
 
     def python(self):
         of, count = self.element
@@ -168,7 +192,7 @@ class Function:
     returns: str = ""
     codes: list = field(default_factory=list)
     python: str = ""
-    since: str = "0.1.0"
+    since: str = "0.2.0"
     sized: tuple = ()
     nested: tuple = ()
 
@@ -276,10 +300,17 @@ class Interface:
         self.handles = [Handle(**it) for it in table["handle"]]
         self.codes = [it for group in self.groups for it in group.codes]
         self.structs = [it for it in self.types if it.kind == "struct"]
+        [self.options] = [it for it in self.structs if it.sized]
+        self.options_size = self.size_of(self.options.fields)
+        cuts = [at for at, it in enumerate(self.options.fields) if it.shorter]
+        self.shorter = [(self.size_of(self.options.fields[:at]), self.options.fields[:at], self.options.fields[at:]) for at in cuts]
         self.causes = [it for group in self.groups if group.causes for it in group.codes]
         self.breaches = [it for group in self.groups if group.breaches for it in group.codes]
         self.sections = [(it["title"], [self.function(one) for one in it["function"]]) for it in table["section"]]
         self.functions = [it for _, functions in self.sections for it in functions]
+
+    def size_of(self, fields):
+        return sizes.size_of(fields, {it.name: it.fields for it in self.structs})
 
     def function(self, row):
         """A function's row, whose text may name the first and the last cause and breach."""
@@ -312,6 +343,9 @@ def faults(interface):
     for it in shown:
         if fields & set(re.findall(r"`(\w+)`", it.text)):
             yield f"the text of {it.name} names a field of a struct"
+    lengths = [size for size, _, _ in interface.shorter] + [interface.options_size]
+    if lengths != sorted(set(lengths)):
+        yield f"options of two versions have one size: {lengths}"
     for it in interface.functions:
         for name, kind in it.parts:
             of = kind.split(" ")[-1]
@@ -319,6 +353,9 @@ def faults(interface):
                 yield f"{it.name} has an argument of a type that isn't known: {name}: {kind}"
         if f"fevstunik_{it.name}(" not in it.example:
             yield f"the example of {it.name} doesn't call it"
+    for it in interface.sections[0][1]:
+        if {it.result, *(kind.split(" ")[-1] for _, kind in it.parts)} - set(NUMBERS):
+            yield f"{it.name} is declared before the types, and takes or returns more than numbers"
     returned = {code for it in interface.functions for code in it.codes}
     if returned != {it.name for it in shown}:
         yield f"no function's text says that it returns {sorted({it.name for it in shown} - returned)}, and no code is {sorted(returned - {it.name for it in shown})}"
@@ -328,7 +365,8 @@ def environment():
     made = jinja2.Environment(
         loader=jinja2.FileSystemLoader(ROOT / "tools/generate/templates"), undefined=jinja2.StrictUndefined, trim_blocks=True, lstrip_blocks=True,
         keep_trailing_newline=True, autoescape=False)
-    made.filters |= {"comment": layout.comment, "inner_comment": layout.inner_comment, "members": layout.members, "doc": layout.doc, "sentence": layout.sentence}
+    made.filters |= {"comment": layout.comment, "inner_comment": layout.inner_comment, "members": layout.members, "doc": layout.doc,
+                     "definition_comment": layout.definition_comment, "sentence": layout.sentence}
     return made
 
 

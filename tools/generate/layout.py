@@ -84,6 +84,11 @@ def doc(text, indent=""):
     return "\n".join(filled(text, f"{indent}/// ", f"{indent}/// "))
 
 
+def definition_comment(text):
+    """A comment of a definition."""
+    return "\n".join(filled(text, "-- ", "-- "))
+
+
 def sentence(text):
     """A remark as a sentence."""
     return text[0].upper() + text[1:] + ("" if text.endswith(".") else ".")

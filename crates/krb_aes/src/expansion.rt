@@ -74,7 +74,7 @@ fn with_room(key: &[u8]) -> [u8; EXPANDED_LEN]
     words
 }
 
-// The words of the round keys, of which there are one more than rounds; zeros fill the rest.
+// The words of the round keys: one key more than rounds. Zeros fill the rest.
 pub(crate) fn expand(key: &[u8]) -> [u8; EXPANDED_LEN]
     requires { IsKey key.now }
     ensures words { take (4 * length key.now + 112) result ≡ key_expansion key.now }

@@ -170,7 +170,7 @@ fn inv_mix_columns(state: u8x16) -> u8x16
 }
 
 // The key of a round as `round` takes it: with the constant of SubBytes, which MixColumns leaves as it is, and each byte
-// plus the next two of its column, of which `round` makes the byte again.
+// plus the next two of its column; `round` makes the byte of them again.
 #[inline(always)]
 pub(crate) fn form_key(key: &[u8], shifts: usize) -> [u8; 16]
     requires key { length key.now ≡ 16 }

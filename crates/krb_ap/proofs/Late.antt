@@ -1,5 +1,5 @@
 -- A near and new request: what is asked of its ticket.
-use Rattle.std.proofs.Common.{◌≡◌, ◌≢◌, ℕ, ℤ, pos, ◌+ℤ◌, inl, inr}
+use Rattle.std.proofs.Common.{◌≡◌, ◌≢◌, ℕ, ℤ, List, pos, ◌+ℤ◌, inl, inr}
 use Rattle.std.specs.Prelude.{◌≤ℤ◌}
 use Rattle.krb_name.specs.declared.principal.Principal.{Principal}
 use Rattle.krb_der.specs.Kind.{ValueOf}
@@ -7,6 +7,7 @@ use Rattle.krb_msg.specs.Module.{ap_req, enc_ticket_part, authenticator}
 use Rattle.krb_msg.specs.Fields.{part_times}
 use Rattle.krb_replay.specs.Stamp.{Stamp}
 use Rattle.krb_ap.specs.Opened.{stamp_at}
+use Rattle.krb_ap.specs.Causes.{TellsPlaceWithin}
 use Rattle.krb_ap.specs.Times.{Alive, IsEarly, IsLate, second_at, start_of}
 use Rattle.krb_ap.specs.Inner.Stages.{TimesRefuse}
 use Rattle.krb_ap.proofs.Decided.{order}
@@ -35,4 +36,12 @@ pub times_named : (skew : ℕ) (now : ℤ) (request : ValueOf ap_req) (part : Va
 times_named skew now request part auth r h = elim h [
   | inl x ↦ (λ e. cc)
   | inr rest ↦ elim rest [ inl x ↦ (λ e. cc) | inr others ↦ elim others [ inl x ↦ (λ e. cc) | inr x ↦ (λ e. cc) ] ]
+]
+
+-- nor does it name a place in the bytes
+pub times_placed : (skew : ℕ) (now : ℤ) (request : ValueOf ap_req) (part : ValueOf enc_ticket_part) (auth : ValueOf authenticator) (r : Refusal)
+    (bytes : List ℕ) → TimesRefuse skew now request part auth r → TellsPlaceWithin bytes r
+times_placed skew now request part auth r bytes h = elim h [
+  | inl x ↦ rw x.0 tt
+  | inr rest ↦ elim rest [ inl x ↦ rw x.0 tt | inr others ↦ elim others [ inl x ↦ rw x.0 tt | inr x ↦ rw x.0 tt ] ]
 ]

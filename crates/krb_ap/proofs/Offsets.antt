@@ -19,7 +19,7 @@ use Rattle.krb_ap.specs.declared.refusal.Refusal.TheVariants.{Malformed}
 abbrev pub Within : Type 0
 Within = (k : Kind) (bytes : List ℕ) (fault : Fault) → IsFault k bytes fault → fault.at ≤ length bytes
 
--- a refusal tells no place, or is of malformed bytes
+-- a refusal has no place, or is of malformed bytes
 placeless : (r : Refusal) → (offset_of r ≡ None) ⊎ (r ≡ Malformed (fault_in r))
 placeless r = grind arith
 

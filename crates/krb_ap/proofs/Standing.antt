@@ -70,7 +70,7 @@ pub one_stamp : Facts → (setup : Setup) (history : List Arrival) (bytes : List
 one_stamp facts setup history bytes moment now one other shows also =
     shown_stamp facts setup history bytes moment (λ s. ⊥) shows.request shows.part shows.auth shows.opened now other also ∙ sym shows.stamp_is
 
--- after a memory was given what is shown, and was told the moment that counts
+-- after a memory was given what is shown, and the moment that counts
 pub after_advance : (keeping forgetting : Bool) (setup other : Setup) (history later : List Arrival) (bytes : List ℕ) (moment now : ℤ)
     (Old Mid New : Stamp → Type 0) (latest mid next : Option ℤ) (IsMemory : Type 0) → arrival bytes moment ∷ history ≡ later
     → StandsFor setup Old latest history → now ≡ later_of latest moment → mid ≡ latest → next ≡ Some (later_of mid now) → other ≡ setup

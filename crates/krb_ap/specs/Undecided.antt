@@ -1,5 +1,5 @@
 -- Calls that are answered with out of memory: there was none, or the memory of what was seen has a
--- limit, which is reached. Such a call isn't decided, and leaves nothing behind.
+-- limit, which is reached. Such a call isn't decided, and changes nothing.
 use Rattle.std.specs.Prelude.{◌≡◌, Bool, true, false, if◌then◌else◌, List, [], ◌∷◌, Result, Ok, Err}
 use Rattle.krb_ap.specs.Setup.{Arrival}
 use Rattle.krb_ap.specs.Answer.{taken_of}

@@ -19,7 +19,7 @@ ghost use Rattle.krb_ap.specs.declared.refusal.Refusal.TheVariants.{OutOfMemory}
 use crate::accepted::Accepted;
 use crate::call::{Call, Outcome};
 use crate::inner_laws::facts;
-use crate::judging::{Judge, Judged, State};
+use crate::judging::{Judge, Judged, Rules};
 use crate::laws::no_stamp_twice;
 use crate::refusal::Refusal;
 use krb_keytab::Keytab;
@@ -38,7 +38,8 @@ use std::marker::Model;
 /// depends on what is cached.
 #[derive(Drop)]
 pub struct Acceptor<M> {
-    pub(crate) state: State<M>,
+    pub(crate) judge: Judge,
+    pub(crate) memory: M,
 }
 
 impl<M> Model for Acceptor<M> {
@@ -46,7 +47,7 @@ impl<M> Model for Acceptor<M> {
 
     ghost Value = { Service M };
 
-    ghost view = { λ a. a.state.judge };
+    ghost view = { λ a. record { setup = a.judge.rules; memory = a.memory } };
 }
 
 impl<M: ReplayMemory> Acceptor<M> {
@@ -95,14 +96,14 @@ impl<M: ReplayMemory> Acceptor<M> {
         ensures setup { result.setup ≡ record { entries = keytab; skew = skew; start = start } }
         ensures memory { result.memory ≡ memory }
     {
-        let judge = Judge {
+        let rules = Rules {
             keytab,
             skew,
-            memory,
             start,
         };
         Acceptor {
-            state: State::new(judge),
+            judge: Judge::new(rules),
+            memory,
         }
     }
 
@@ -110,14 +111,14 @@ impl<M: ReplayMemory> Acceptor<M> {
     pub fn memory(&self) -> &M
         ensures { result.now ≡ self.now.memory }
     {
-        &self.state.judge.memory
+        &self.memory
     }
 
     /// Returns how much clocks may differ.
     pub fn skew(&self) -> Skew
         ensures { result ≡ self.now.setup.skew }
     {
-        self.state.judge.skew
+        self.judge.rules.skew
     }
 
     /// Decides whether a request is accepted (RFC 4120, section 3.2.3), and remembers what it must
@@ -130,7 +131,7 @@ impl<M: ReplayMemory> Acceptor<M> {
     ///
     /// # Errors
     /// The first cause of [`Refusal`] that applies, in our own order; or `OutOfMemory`, and then
-    /// nothing has changed.
+    /// nothing has changed but the memory's count of what it refused for a limit, if it reached one.
     pub fn accept(&mut self, alloc: Global, bytes: &[u8], now: Moment) -> Result<Accepted, Refusal>
         ensures setup { self.new.setup ≡ self.old.setup }
 
@@ -219,6 +220,7 @@ impl<M: ReplayMemory> Acceptor<M> {
             → IfOk result (λ outcomes. ¬ TakesAmong self.old.setup (map arrival_of calls.now) outcomes.items stamp) }
         ensures offset { IfOk result (λ outcomes. TellsPlacesWithin (map arrival_of calls.now) outcomes.items) }
         ensures memory { IfOk result (λ outcomes. MemoryWantedByRequests (map arrival_of calls.now) outcomes.items) }
+        ensures limits { M.limits self.new.memory ≡ M.limits self.old.memory }
         ensures none { OnErr result (self.new ≡ self.old) }
     {
         no_stamp_twice();
@@ -281,14 +283,14 @@ impl<M: ReplayMemory> Acceptor<M> {
         ensures memory { IsErrOf result OutOfMemory → IsOrdinary bytes.now }
         ensures service { IfOk result (λ j. IfOk j.answer (λ x. AsksFor bytes.now x.service)) }
     {
-        self.state.judge(alloc, bytes, now)
+        self.judge.judge(alloc, bytes, now, &self.memory)
     }
 
     // The moment that counts.
     fn effective(&self, now: Moment) -> Moment
         ensures { result ≡ later_of (M.newest self.now.memory) now }
     {
-        match self.state.judge.memory.latest() {
+        match self.memory.latest() {
             Some(latest) if now <= latest => latest,
             _ => now,
         }
@@ -306,8 +308,8 @@ impl<M: ReplayMemory> Acceptor<M> {
             × IsPastLimit (M.has self.old.memory) (M.limits self.old.memory) self.old.setup (later_of (M.newest self.old.memory) now) tuple)) }
         ensures limits { M.limits self.new.memory ≡ M.limits self.old.memory }
     {
-        self.state.judge.memory.expect(now, self.state.judge.skew);
-        self.state.judge.memory.remember(tuple)
+        self.memory.expect(now, self.judge.rules.skew);
+        self.memory.remember(tuple)
     }
 
     fn advance(&mut self, now: Moment)
@@ -322,7 +324,7 @@ impl<M: ReplayMemory> Acceptor<M> {
         ensures limits { M.limits self.new.memory ≡ M.limits self.old.memory }
         ensures refusals { M.refusals self.new.memory ≡ M.refusals self.old.memory }
     {
-        self.state.judge.memory.advance(now, self.state.judge.skew);
+        self.memory.advance(now, self.judge.rules.skew);
     }
 }
 

@@ -1,33 +1,35 @@
 //! What a service decides about a request, before it remembers or answers anything.
 
-ghost use Rattle.std.specs.Prelude.{◌≡◌, ◌↔◌, ℕ, List, IfOk, IsErrOf, IsTrue};
+ghost use Rattle.std.specs.Prelude.{◌≡◌, ◌↔◌, IfErr, IfOk, IsErrOf, IsTrue, OnOk};
 ghost use Rattle.std.specs.Option.{option_map};
 ghost use Rattle.krb_enc.specs.Key.{IsUsable};
-ghost use Rattle.krb_keytab.specs.Entry.{KeytabEntry};
-ghost use Rattle.krb_msg.specs.Borrowed.{ap_req_of, authenticator_of, enc_ticket_part_of, typed_of};
+ghost use Rattle.krb_keytab.specs.Pick.{chosen, IsChoice};
+ghost use Rattle.krb_msg.specs.Borrowed.{ap_req_of, authenticator_of, enc_ticket_part_of, encrypted_of, typed_of};
+ghost use Rattle.krb_msg.specs.Fields.{encrypted_fields, part_client};
 ghost use Rattle.krb_msg.specs.Owned.{owned_list_of, owned_typed_of};
-ghost use Rattle.krb_ap.specs.Opened.{AsksFor, IsOrdinary, Keyed, OpenedAs, Ticketed, entry_key, session_key as key_of_part, service_of};
+ghost use Rattle.krb_ap.specs.Opened.{AsksFor, IsOrdinary, entry_key, sent_at, service_of, stamp_at};
 ghost use Rattle.krb_ap.specs.Quiet.{Settled};
 ghost use Rattle.krb_ap.specs.Taken.{taken_from};
+ghost use Rattle.krb_ap.specs.Times.{Near};
 ghost use Rattle.krb_ap.specs.Answer.{taken_of};
-ghost use Rattle.krb_ap.specs.Inner.Judging.{IsNamed, IsPlacedWithin, IsSoundFor, JudgedBy};
-ghost use Rattle.krb_ap.specs.Inner.Stages.{ready_key};
+ghost use Rattle.krb_ap.specs.Inner.Judging.{IsNamed, IsPlacedWithin, Judges};
+ghost use Rattle.krb_ap.specs.Inner.Stages.{Wants, key_in};
 ghost use Rattle.krb_ap.specs.declared.refusal.Refusal.TheVariants.{OutOfMemory};
 
 use crate::accepted::Accepted;
 use crate::inner_laws::facts;
-use crate::keys::{is_usable, owned_key};
-use crate::opening::{is_of_type, is_same_client, open_under, read_request, service};
-use crate::ready_key::ReadyKey;
+use crate::keys::{owned_key, usable_key};
+use crate::opening::{
+    check_client, check_key, check_type, read_authenticator, read_request, read_ticket, service,
+};
 use crate::refusal::Refusal;
-use crate::service_key::ServiceKey;
-use crate::ticket_keys::{is_key_of, ticket_key};
+use crate::session_keys::SessionKeys;
+use crate::ticket_keys::TicketKeys;
 use crate::times::{is_near, is_past, refusal_of_times};
-use krb_enc::Key;
-use krb_keytab::Keytab;
+use krb_keytab::{Entry, Keytab, Picked};
 use krb_msg::{
-    ApReqRef, AuthenticatorRef, EncTicketRef, MUTUAL_REQUIRED, Moment, Principal, Typed,
-    TypedListRef, TypedRef,
+    ApReqRef, AuthenticatorRef, EncTicketRef, EncryptedRef, MUTUAL_REQUIRED, Moment, Principal,
+    Typed, TypedListRef, TypedRef,
 };
 use krb_replay::{ReplayMemory, Skew, Tuple};
 use std::alloc::{AllocError, Global};
@@ -40,56 +42,56 @@ pub(crate) struct Judged {
     pub(crate) answer: Result<Accepted, Refusal>,
 }
 
-/// What a service decides by, and its memory of seen requests.
+/// What a service decides by.
 #[derive(Drop)]
-pub(crate) struct Judge<M> {
+pub(crate) struct Rules {
     pub(crate) keytab: Keytab,
     pub(crate) skew: Skew,
-    pub(crate) memory: M,
     // When the service was started again, if it had an earlier life.
     pub(crate) start: Option<Moment>,
 }
 
-impl<M> Model for Judge<M> {
-    ghost use Rattle.krb_ap.specs.Service.{Service};
+impl Model for Rules {
+    ghost use Rattle.krb_ap.specs.Setup.{Setup};
 
-    ghost Value = { Service M };
+    ghost Value = { Setup };
 
-    ghost view = { λ j. record { setup = record { entries = j.keytab; skew = j.skew; start = j.start }; memory = j.memory } };
+    ghost view = { λ r. record { entries = r.keytab; skew = r.skew; start = r.start } };
 }
 
 /// What a service decides by, and the keys that it keeps for the next request.
 #[derive(Drop)]
-pub(crate) struct State<M> {
-    pub(crate) judge: Judge<M>,
-    // The service key that was used last, with its keys for tickets and the ticket that it opened last.
-    pub(crate) ready: Option<ServiceKey>,
-    // The session key that was used last, with its keys for authenticators.
-    pub(crate) session: Option<ReadyKey>,
+pub(crate) struct Judge {
+    pub(crate) rules: Rules,
+    pub(crate) tickets: TicketKeys,
+    pub(crate) session: SessionKeys,
 }
 
-impl<M: ReplayMemory> State<M> {
+impl Judge {
     /// Keeps no keys yet.
-    pub(crate) fn new(judge: Judge<M>) -> State<M>
-        ensures { result.judge ≡ judge }
+    pub(crate) fn new(rules: Rules) -> Judge
+        ensures { result.rules ≡ rules }
     {
-        State {
-            judge,
-            ready: None,
-            session: None,
+        Judge {
+            rules,
+            tickets: TicketKeys::new(),
+            session: SessionKeys::new(),
         }
     }
 
     /// What to remember of a request, and the answer to it; or why it is refused without being
     /// remembered. `now` is the moment that counts.
-    pub(crate) fn judge(
+    ///
+    /// These are the causes of [`Refusal`] in their order.
+    pub(crate) fn judge<M: ReplayMemory>(
         &mut self,
         alloc: Global,
         bytes: &[u8],
         now: Moment,
+        memory: &M,
     ) -> Result<Judged, Refusal>
-        ensures same { self.new.judge ≡ self.old.judge }
-        ensures judged { JudgedBy M.has M.newest self.old.judge bytes.now now result }
+        ensures same { self.new.rules ≡ self.old.rules }
+        ensures judged { Judges self.old.rules (M.has memory.now) (M.newest memory.now) bytes.now now result }
         ensures named { IsNamed result }
         ensures placed { IsPlacedWithin bytes.now result }
         ensures asks { IfOk result (λ _. IsOrdinary bytes.now) }
@@ -99,176 +101,118 @@ impl<M: ReplayMemory> State<M> {
         facts();
         krb_der::laws::within();
         let request = read_request(bytes)?;
-        let server = match service(alloc, &request.ticket) {
-            Ok(server) => server,
-            Err(_) => return Err(Refusal::OutOfMemory),
-        };
-        let entry = self.judge.chosen_entry(&server, &request.ticket.enc_part)?;
-        if let Some(ready) = &mut self.ready {
-            if is_key_of(ready, entry) {
-                return self
-                    .judge
-                    .judge_sealed(alloc, ready, &mut self.session, server, &request, now);
-            }
-        }
-        let mut ready = ticket_key(alloc, entry);
-        let judged = self.judge.judge_sealed(
-            alloc,
-            &mut ready,
-            &mut self.session,
-            server,
-            &request,
-            now,
-        );
-        self.ready = Some(ready);
-        judged
-    }
-}
-
-impl<M: ReplayMemory> Judge<M> {
-    fn judge_sealed(
-        &self,
-        alloc: Global,
-        ready: &mut ServiceKey,
-        session: &mut Option<ReadyKey>,
-        server: Principal,
-        request: &ApReqRef,
-        now: Moment,
-    ) -> Result<Judged, Refusal>
-        ensures sound { IsSoundFor (service_of (ap_req_of request.now)) result }
-        ensures judged { (bytes : List ℕ) (entry : KeytabEntry) → Keyed self.now.setup bytes (ap_req_of request.now) entry
-            → ready.old.keys ≡ ready_key (entry_key entry) → server ≡ service_of (ap_req_of request.now)
-            → JudgedBy M.has M.newest self.now bytes now result }
-    {
-        facts();
-        ready.open(alloc, request.ticket.enc_part.cipher)?;
-        let part = match EncTicketRef::parse(ready.plain()) {
-            Ok(part) => part,
-            Err(_) => return Err(Refusal::TicketIntegrity),
-        };
-        if !is_usable(&part.key) {
-            return Err(Refusal::SessionKey);
-        }
-        if let Some(key) = session {
-            if key.is_in_message(&part.key) {
-                return self.judge_ticket(alloc, server, key, request, &part, now);
-            }
-        }
-        let key = ReadyKey::in_message(&part.key);
-        let judged = self.judge_ticket(alloc, server, &key, request, &part, now);
-        *session = Some(key);
-        judged
-    }
-
-    fn judge_ticket(
-        &self,
-        alloc: Global,
-        server: Principal,
-        key: &ReadyKey,
-        request: &ApReqRef,
-        part: &EncTicketRef,
-        now: Moment,
-    ) -> Result<Judged, Refusal>
-        ensures sound { IsSoundFor (service_of (ap_req_of request.now)) result }
-        ensures judged { (bytes : List ℕ) → Ticketed self.now.setup bytes (ap_req_of request.now) (enc_ticket_part_of part.now)
-            → server ≡ service_of (ap_req_of request.now) → key.now ≡ key_of_part (enc_ticket_part_of part.now)
-            → IsUsable (key_of_part (enc_ticket_part_of part.now))
-            → JudgedBy M.has M.newest self.now bytes now result }
-    {
-        facts();
-        let sealed = &request.authenticator;
-        if !is_of_type(sealed, &part.key) {
-            return Err(Refusal::AuthenticatorIntegrity);
-        }
-        let shut = Refusal::AuthenticatorIntegrity;
-        let plain = open_under(alloc, key.keys(), sealed.cipher, shut)?;
-        let auth = match AuthenticatorRef::parse(plain.as_slice()) {
-            Ok(auth) => auth,
-            Err(_) => return Err(Refusal::AuthenticatorIntegrity),
-        };
-        if !is_same_client(part, &auth) {
-            return Err(Refusal::BadMatch);
-        }
-        self.judge_opened(alloc, server, key.key().copy(), request, part, &auth, now)
-    }
-
-    fn judge_opened(
-        &self,
-        alloc: Global,
-        server: Principal,
-        session_key: Key,
-        request: &ApReqRef,
-        part: &EncTicketRef,
-        auth: &AuthenticatorRef,
-        now: Moment,
-    ) -> Result<Judged, Refusal>
-        ensures sound { IsSoundFor (service_of (ap_req_of request.now)) result }
-        ensures judged { (bytes : List ℕ)
-            → OpenedAs self.now.setup bytes (ap_req_of request.now) (enc_ticket_part_of part.now) (authenticator_of auth.now)
-            → server ≡ service_of (ap_req_of request.now) → session_key ≡ key_of_part (enc_ticket_part_of part.now)
-            → JudgedBy M.has M.newest self.now bytes now result }
-    {
-        facts();
+        let server = service(alloc, &request.ticket)?;
+        let entry = self.rules.chosen_entry(&server, &request.ticket.enc_part)?;
+        self.tickets
+            .open(alloc, entry, request.ticket.enc_part.cipher)?;
+        let part = read_ticket(self.tickets.plain())?;
+        check_key(&part.key)?;
+        check_type(&request.authenticator, &part.key)?;
+        let plain = self
+            .session
+            .open(alloc, &part.key, request.authenticator.cipher)?;
+        let auth = read_authenticator(plain.as_slice())?;
+        check_client(&part, &auth)?;
         let sent = Moment::at(auth.ctime, auth.cusec);
-        if !is_near(sent, now, self.skew) {
-            return Err(Refusal::Skew);
-        }
-        let client = match part.cname.to_principal(alloc, part.crealm) {
-            Ok(client) => client,
-            Err(_) => return Err(Refusal::OutOfMemory),
-        };
-        let tuple = match Tuple::new(alloc, server, client, auth.ctime, auth.cusec) {
-            Ok(tuple) => tuple,
-            Err(_) => return Err(Refusal::OutOfMemory),
-        };
-        if !self.is_settled(now, sent) {
+        self.rules.check_near(sent, now)?;
+        let tuple = tuple_of(alloc, server, &part, &auth)?;
+        if !self.rules.is_settled(now, sent) {
             return Ok(Judged {
                 tuple,
                 answer: Err(Refusal::JustStarted),
             });
         }
-        if self.memory.contains(&tuple) {
+        if memory.contains(&tuple) {
             return Err(Refusal::Repeat);
         }
-        match refusal_of_times(request, part, auth, now, self.skew) {
+        match refusal_of_times(&request, &part, &auth, now, self.rules.skew()) {
             Some(refusal) => Ok(Judged {
                 tuple,
                 answer: Err(refusal),
             }),
-            None => match accepted(alloc, session_key, request, part, auth) {
-                Ok(accepted) => Ok(Judged {
+            None => {
+                let accepted = accepted(alloc, &request, &part, &auth)?;
+                Ok(Judged {
                     tuple,
                     answer: Ok(accepted),
-                }),
-                Err(_) => Err(Refusal::OutOfMemory),
-            },
+                })
+            }
+        }
+    }
+}
+
+impl Rules {
+    /// The entry of the keytab whose key is used for a service's ticket. It allocates no memory.
+    fn chosen_entry(&self, service: &Principal, sealed: &EncryptedRef) -> Result<&Entry, Refusal>
+        ensures chosen { IfOk result (λ entry. IsChoice self.now.entries service.now
+            (encrypted_fields (encrypted_of sealed.now)).etype (encrypted_fields (encrypted_of sealed.now)).kvno (chosen entry.now)) }
+        ensures usable { IfOk result (λ entry. IsUsable (entry_key entry.now)) }
+        ensures wanting { IfErr result (Wants self.now.entries service.now (encrypted_of sealed.now)) }
+    {
+        match self.keytab.pick(service, sealed.etype, sealed.kvno) {
+            Picked::Entry(entry) => Ok(entry),
+            Picked::NoName => Err(Refusal::NotUs),
+            Picked::NoKey => Err(Refusal::NoKey),
+            Picked::NoVersion => Err(Refusal::BadKeyVersion),
+        }
+    }
+
+    fn skew(&self) -> Skew
+        ensures { result ≡ self.now.skew }
+    {
+        self.skew
+    }
+
+    fn check_near(&self, sent: Moment, now: Moment) -> Result<(), Refusal>
+        ensures near { OnOk result (Near sent now self.now.skew) }
+        ensures far { IfErr result (λ refusal. (refusal ≡ Refusal.Skew) × (¬ Near sent now self.now.skew)) }
+    {
+        if is_near(sent, now, self.skew) {
+            Ok(())
+        } else {
+            Err(Refusal::Skew)
         }
     }
 
     // Whether both the moment that counts and the client's are past the quiet start.
     fn is_settled(&self, now: Moment, sent: Moment) -> bool
-        ensures { IsTrue result ↔ Settled self.now.setup now sent }
+        ensures { IsTrue result ↔ Settled self.now now sent }
     {
         is_past(self.start, now, self.skew) && is_past(self.start, sent, self.skew)
     }
 }
 
+// What is remembered of a request for this server.
+#[inline(never)]
+fn tuple_of(
+    alloc: Global,
+    server: Principal,
+    part: &EncTicketRef,
+    auth: &AuthenticatorRef,
+) -> Result<Tuple, AllocError>
+    ensures { IfOk result (λ tuple. tuple
+        ≡ stamp_at server (part_client (enc_ticket_part_of part.now)) (sent_at (authenticator_of auth.now))) }
+{
+    let client = part.cname.to_principal(alloc, part.crealm)?;
+    Tuple::new(alloc, server, client, auth.ctime, auth.cusec)
+}
+
 /// What is known of an accepted request.
+#[inline(never)]
 fn accepted(
     alloc: Global,
-    session_key: Key,
     request: &ApReqRef,
     part: &EncTicketRef,
     auth: &AuthenticatorRef,
 ) -> Result<Accepted, AllocError>
+    requires { IsUsable (key_in part.now.key) }
     ensures service { IfOk result (λ x. x.service ≡ service_of (ap_req_of request.now)) }
-    ensures known { session_key ≡ key_of_part (enc_ticket_part_of part.now)
-        → IfOk result (λ x. taken_of x ≡ taken_from (ap_req_of request.now) (enc_ticket_part_of part.now) (authenticator_of auth.now)) }
+    ensures known { IfOk result (λ x. taken_of x ≡ taken_from (ap_req_of request.now) (enc_ticket_part_of part.now) (authenticator_of auth.now)) }
 {
     Ok(Accepted {
         client: part.cname.to_principal(alloc, part.crealm)?,
         service: service(alloc, &request.ticket)?,
-        session_key,
+        session_key: usable_key(part.key.etype, part.key.bytes),
         flags: part.flags,
         transited: part.transited.to_owned(alloc)?,
         authtime: part.authtime,

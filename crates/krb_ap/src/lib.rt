@@ -59,6 +59,7 @@ mod reply;
 mod request;
 mod request_fault;
 mod service_key;
+mod session_keys;
 mod ticket_keys;
 mod times;
 

@@ -1,19 +1,21 @@
 //! The steps of opening a request, which `judging` puts in order: its form, a sealed part under a
 //! key, and whether ticket and authenticator name one client.
 
-ghost use Rattle.std.specs.Prelude.{◌≡◌, ◌≢◌, ◌<◌, ◌↔◌, ℕ, ℤ, IfOk, IfErr, IsTrue};
-ghost use Rattle.krb_enc.specs.Key.{IsKnown, profile_of};
+ghost use Rattle.std.specs.Prelude.{◌≡◌, ◌≢◌, ◌<◌, ◌↔◌, ℕ, ℤ, IfOk, IfErr, IsTrue, OnOk};
+ghost use Rattle.krb_der.specs.Spells.{IsMessage};
+ghost use Rattle.krb_enc.specs.Key.{IsKnown, IsUsable, profile_of};
 ghost use Rattle.krb_enc.specs.Opens.{Opens};
 ghost use Rattle.krb_msg.specs.Borrowed.{ap_req_of, authenticator_of, enc_ticket_part_of, name_of};
 ghost use Rattle.krb_msg.specs.Fields.{ticket_service};
 ghost use Rattle.krb_msg.specs.Borrowed.{ticket_of};
-ghost use Rattle.krb_msg.specs.Module.{ap_req};
+ghost use Rattle.krb_msg.specs.Module.{ap_req, authenticator, enc_ticket_part};
 ghost use Rattle.krb_ap.specs.Causes.{BeginsOtherwise, place};
 ghost use Rattle.krb_ap.specs.Opened.{Asks, SameClient};
-ghost use Rattle.krb_ap.specs.Inner.Stages.{IsCauseOfBytes, IsShut};
-ghost use Rattle.krb_ap.specs.declared.refusal.Refusal.TheVariants.{OutOfMemory, Skew};
+ghost use Rattle.krb_ap.specs.Inner.Stages.{IsCauseOfBytes, IsNone, IsShut, key_in};
+ghost use Rattle.krb_ap.specs.declared.refusal.Refusal.TheVariants.{AuthenticatorIntegrity, BadMatch, OutOfMemory, SessionKey, Skew, TicketIntegrity};
 
 use crate::inner_laws::facts;
+use crate::keys::is_usable;
 use crate::refusal::Refusal;
 use krb_enc::{OpenFault, UsageKey, etype};
 use krb_msg::{
@@ -70,6 +72,68 @@ pub(crate) fn service(alloc: Global, ticket: &TicketRef) -> Result<Principal, Al
     ticket.sname.to_principal(alloc, ticket.realm)
 }
 
+/// Reads the plain text of a ticket's sealed part. It allocates no memory.
+pub(crate) fn read_ticket<'a>(plain: &'a [u8]) -> Result<EncTicketRef<'a>, Refusal>
+    ensures found { IfOk result (λ part. IsMessage enc_ticket_part (enc_ticket_part_of part) plain.entry.now) }
+    ensures refused { IfErr result (λ refusal. refusal ≡ TicketIntegrity) }
+    ensures none { IfErr result (λ _. IsNone enc_ticket_part plain.entry.now) }
+{
+    match EncTicketRef::parse(plain) {
+        Ok(part) => Ok(part),
+        Err(_) => Err(Refusal::TicketIntegrity),
+    }
+}
+
+/// Refuses a session key that isn't usable. It allocates no memory.
+pub(crate) fn check_key(key: &KeyRef) -> Result<(), Refusal>
+    ensures usable { OnOk result (IsUsable (key_in key.now)) }
+    ensures refused { IfErr result (λ refusal. (refusal ≡ SessionKey) × (¬ IsUsable (key_in key.now))) }
+{
+    if is_usable(key) {
+        Ok(())
+    } else {
+        Err(Refusal::SessionKey)
+    }
+}
+
+/// Refuses an authenticator of another encryption type than the session key's. It allocates no
+/// memory.
+pub(crate) fn check_type(sealed: &EncryptedRef, key: &KeyRef) -> Result<(), Refusal>
+    ensures same { OnOk result (sealed.now.etype ≡ key.now.etype) }
+    ensures refused { IfErr result (λ refusal. (refusal ≡ AuthenticatorIntegrity) × (¬ (sealed.now.etype ≡ key.now.etype))) }
+{
+    if sealed.etype == key.etype {
+        Ok(())
+    } else {
+        Err(Refusal::AuthenticatorIntegrity)
+    }
+}
+
+/// Reads the plain text of an authenticator. It allocates no memory.
+pub(crate) fn read_authenticator<'a>(plain: &'a [u8]) -> Result<AuthenticatorRef<'a>, Refusal>
+    ensures found { IfOk result (λ auth. IsMessage authenticator (authenticator_of auth) plain.entry.now) }
+    ensures refused { IfErr result (λ refusal. refusal ≡ AuthenticatorIntegrity) }
+    ensures none { IfErr result (λ _. IsNone authenticator plain.entry.now) }
+{
+    match AuthenticatorRef::parse(plain) {
+        Ok(auth) => Ok(auth),
+        Err(_) => Err(Refusal::AuthenticatorIntegrity),
+    }
+}
+
+/// Refuses an authenticator that names another client than the ticket. It allocates no memory.
+pub(crate) fn check_client(part: &EncTicketRef, auth: &AuthenticatorRef) -> Result<(), Refusal>
+    ensures same { OnOk result (SameClient (enc_ticket_part_of part.now) (authenticator_of auth.now)) }
+    ensures refused { IfErr result (λ refusal. (refusal ≡ BadMatch)
+        × (¬ SameClient (enc_ticket_part_of part.now) (authenticator_of auth.now))) }
+{
+    if is_same_client(part, auth) {
+        Ok(())
+    } else {
+        Err(Refusal::BadMatch)
+    }
+}
+
 /// Opens a sealed text, or answers `shut` if nothing opens.
 pub(crate) fn open_under(
     alloc: Global,
@@ -90,15 +154,7 @@ pub(crate) fn open_under(
     }
 }
 
-/// Whether a text is sealed with the type that a key is for.
-pub(crate) fn is_of_type(sealed: &EncryptedRef, key: &KeyRef) -> bool
-    ensures { IsTrue result ↔ (sealed.now.etype ≡ key.now.etype) }
-{
-    sealed.etype == key.etype
-}
-
-/// Whether both name the same client. It allocates no memory.
-pub(crate) fn is_same_client(part: &EncTicketRef, auth: &AuthenticatorRef) -> bool
+fn is_same_client(part: &EncTicketRef, auth: &AuthenticatorRef) -> bool
     ensures { IsTrue result ↔ SameClient (enc_ticket_part_of part.now) (authenticator_of auth.now) }
 {
     part.crealm == auth.crealm && has_same_components(&part.cname, &auth.cname)

@@ -1,15 +1,20 @@
 //! Session keys with the keys that are derived from them.
 
-ghost use Rattle.std.specs.Prelude.{◌≡◌, ◌↔◌, IsTrue};
-ghost use Rattle.krb_enc.specs.Key.{IsUsable};
+ghost use Rattle.std.specs.Prelude.{◌≡◌, ◌≢◌, ◌↔◌, IfErr, IfOk, IsTrue};
+ghost use Rattle.krb_enc.specs.Key.{IsUsable, profile_of};
+ghost use Rattle.krb_enc.specs.Opens.{Opens};
 ghost use Rattle.krb_ap.specs.Credentials.{credential_key};
-ghost use Rattle.krb_ap.specs.Inner.Stages.{key_in};
+ghost use Rattle.krb_ap.specs.Inner.Stages.{IsShut, key_in};
 ghost use Rattle.krb_ap.specs.Opened.{authenticator_usage};
+ghost use Rattle.krb_ap.specs.declared.refusal.Refusal.TheVariants.{AuthenticatorIntegrity, OutOfMemory};
 
 use crate::keys::usable_key;
+use crate::opening::open_under;
+use crate::refusal::Refusal;
 use krb_ccache::Credential;
 use krb_enc::{Key, UsageKey};
 use krb_msg::{KeyRef, usage};
+use std::alloc::Global;
 use std::marker::Model;
 
 /// A session key, and the keys that seal and open authenticators under it.
@@ -76,6 +81,16 @@ impl ReadyKey {
         ensures { IsTrue result ↔ (self.now ≡ record { etype = etype; bytes = key.now }) }
     {
         self.keys.is_for(etype, key, usage::AUTHENTICATOR)
+    }
+
+    /// Opens an authenticator.
+    pub(crate) fn open(&self, alloc: Global, cipher: &[u8]) -> Result<Vec<u8>, Refusal>
+        ensures opened { IfOk result (λ plain. Opens (profile_of self.now) self.now.bytes authenticator_usage
+            cipher.now plain.items) }
+        ensures refused { IfErr result (λ refusal. refusal ≢ OutOfMemory → refusal ≡ AuthenticatorIntegrity) }
+        ensures nothing { IfErr result (λ refusal. refusal ≢ OutOfMemory → IsShut self.now authenticator_usage cipher.now) }
+    {
+        open_under(alloc, self.keys(), cipher, Refusal::AuthenticatorIntegrity)
     }
 
     /// The session key.

@@ -76,7 +76,8 @@ pub enum Refusal {
     /// is remembered.
     #[error("the request has authorization data that may not be ignored")]
     Authorization,
-    /// Memory ran out. Nothing has changed.
+    /// Memory ran out, or the memory of seen requests reached a limit, which it counts. Nothing else
+    /// has changed.
     #[error("out of memory")]
     OutOfMemory,
 }

@@ -7,6 +7,7 @@ ghost use Rattle.krb_ap.specs.History.{IsShown};
 ghost use Rattle.krb_ap.specs.Service.{Stands};
 
 use crate::acceptor::Acceptor;
+use crate::ticket_keys::TicketKeys;
 use krb_keytab::Keytab;
 use krb_replay::ReplayMemory;
 use std::mem;
@@ -38,7 +39,7 @@ impl<M: ReplayMemory> Acceptor<M> {
         ensures memory { self.new.memory ≡ self.old.memory }
         ensures old { result ≡ self.old.setup.entries }
     {
-        self.state.ready = None;
-        mem::replace(&mut self.state.judge.keytab, keytab)
+        self.judge.tickets = TicketKeys::new();
+        mem::replace(&mut self.judge.rules.keytab, keytab)
     }
 }

@@ -3,7 +3,6 @@
 ghost use Rattle.std.specs.Prelude.{◌≡◌, ◌≢◌, ℕ, List, IfOk, IfErr, IsErrOf};
 ghost use Rattle.krb_der.specs.Spells.{IsMessage};
 ghost use Rattle.std.specs.Option.{option_map};
-ghost use Rattle.krb_msg.specs.Borrowed.{ticket_of};
 ghost use Rattle.krb_msg.specs.Owned.{owned_typed_of};
 ghost use Rattle.krb_msg.specs.Module.{ticket as ticket_kind};
 ghost use Rattle.krb_ap.specs.Credentials.{credential_key};
@@ -20,7 +19,8 @@ use crate::request_fault::RequestFault;
 use krb_ccache::{CCache, Credential};
 use krb_enc::Key;
 use krb_msg::{
-    ApReq, Authenticator, EncodeFault, Flags, MUTUAL_REQUIRED, Moment, Principal, TicketRef, Typed,
+    ApReqOver, Authenticator, EncodeFault, Flags, MUTUAL_REQUIRED, Moment, Principal,
+    SpelledTicket, Typed,
 };
 use std::alloc::{AllocError, Global};
 
@@ -103,13 +103,13 @@ pub(crate) fn request_with(
         → IsUnbuilt credential.now at confounder.now options fault) }
     ensures memory { IsErrOf result OutOfMemory → HasTicket credential.now }
 {
-    let ticket = match TicketRef::parse(credential.ticket.as_slice()) {
+    let ticket = match SpelledTicket::parse(credential.ticket.as_slice()) {
         Ok(ticket) => ticket,
         Err(_) => return Err(RequestFault::BadTicket),
     };
-    let bytes = build(alloc, credential, key, &ticket, at, confounder, &options)?;
+    let (bytes, client) = build(alloc, credential, key, ticket, at, confounder, &options)?;
     let pending = Pending {
-        client: credential.client.clone()?,
+        client,
         key: key.key().copy(),
         at,
         subkey: options.subkey,
@@ -118,33 +118,34 @@ pub(crate) fn request_with(
     Ok((bytes, pending))
 }
 
-// The request with this ticket.
+// The request with this ticket, and a copy of the credential's client.
 fn build(
     alloc: Global,
     credential: &Credential,
     key: &ReadyKey,
-    ticket: &TicketRef,
+    ticket: SpelledTicket,
     at: Moment,
     confounder: &[u8; 16],
     options: &RequestOptions,
-) -> Result<Vec<u8>, RequestFault>
+) -> Result<(Vec<u8>, Principal), RequestFault>
     requires key { key.now ≡ credential_key credential.now }
-    requires ticket { IsMessage ticket_kind (ticket_of ticket.now) credential.now.ticket }
-    ensures built { IfOk result (λ bytes. IsBuilt credential.now at confounder.now options.now bytes.items) }
+    requires ticket { IsMessage ticket_kind ticket credential.now.ticket }
+    ensures built { IfOk result (λ made. IsBuilt credential.now at confounder.now options.now made.0.items) }
+    ensures client { IfOk result (λ made. made.1 ≡ credential.now.client) }
     ensures fault { IfErr result (λ fault. fault ≢ OutOfMemory → (fault ≡ TooLong)
         × ((bytes : List ℕ) → ¬ IsBuilt credential.now at confounder.now options.now bytes)) }
 {
     facts();
     writing();
-    let plain = authenticator(alloc, credential, at, options)?;
+    let (plain, client) = authenticator(alloc, credential, at, options)?;
     let cipher = seal(alloc, key.keys(), confounder, &plain)?;
-    let request = ApReq {
+    let request = ApReqOver {
         options: flags(options.mutual),
-        ticket: ticket.to_owned(alloc)?,
+        ticket,
         authenticator: encrypted(key.key(), cipher),
     };
     match request.encode(alloc) {
-        Ok(bytes) => Ok(bytes),
+        Ok(bytes) => Ok((bytes, client)),
         Err(EncodeFault::TooLong) => Err(RequestFault::TooLong),
         Err(EncodeFault::OutOfMemory) => Err(RequestFault::OutOfMemory),
     }
@@ -191,14 +192,15 @@ fn checksum_of(
     }))
 }
 
-// The authenticator's bytes.
+// The authenticator's bytes, and the copy of the credential's client that it was made of.
 fn authenticator(
     alloc: Global,
     credential: &Credential,
     at: Moment,
     options: &RequestOptions,
-) -> Result<Vec<u8>, RequestFault>
-    ensures told { IfOk result (λ plain. IsPlain credential.now at options.now plain.items) }
+) -> Result<(Vec<u8>, Principal), RequestFault>
+    ensures told { IfOk result (λ made. IsPlain credential.now at options.now made.0.items) }
+    ensures client { IfOk result (λ made. made.1 ≡ credential.now.client) }
     ensures fault { IfErr result (λ fault. fault ≢ OutOfMemory → (fault ≡ TooLong)
         × ((plain : List ℕ) → ¬ IsPlain credential.now at options.now plain)) }
 {
@@ -215,7 +217,7 @@ fn authenticator(
         authorization: None,
     };
     match authenticator.encode(alloc) {
-        Ok(plain) => Ok(plain),
+        Ok(plain) => Ok((plain, authenticator.client)),
         Err(EncodeFault::TooLong) => Err(RequestFault::TooLong),
         Err(EncodeFault::OutOfMemory) => Err(RequestFault::OutOfMemory),
     }

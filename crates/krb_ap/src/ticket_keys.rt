@@ -1,52 +1,80 @@
 //! The keys that open tickets: derived from the key that a keytab has for a ticket, and cached for
 //! later tickets, with the plain text of the last one.
 
-ghost use Rattle.std.specs.Prelude.{◌≡◌, ◌↔◌, IfErr, IfOk, IsTrue};
-ghost use Rattle.krb_enc.specs.Key.{IsUsable};
-ghost use Rattle.krb_keytab.specs.Pick.{chosen, IsChoice};
-ghost use Rattle.krb_msg.specs.Borrowed.{encrypted_of};
-ghost use Rattle.krb_msg.specs.Fields.{encrypted_fields};
-ghost use Rattle.krb_ap.specs.Opened.{entry_key};
-ghost use Rattle.krb_ap.specs.Inner.Stages.{Wants, ready_key};
+ghost use Rattle.std.specs.Prelude.{◌≡◌, ◌≢◌, ◌↔◌, None, IfErr, IsTrue, OnOk};
+ghost use Rattle.krb_enc.specs.Key.{IsUsable, profile_of};
+ghost use Rattle.krb_enc.specs.Opens.{Opens};
+ghost use Rattle.krb_ap.specs.Opened.{entry_key, ticket_usage};
+ghost use Rattle.krb_ap.specs.Inner.ServiceKeys.{plain_of};
+ghost use Rattle.krb_ap.specs.Inner.Stages.{IsShut, ready_key};
+ghost use Rattle.krb_ap.specs.declared.refusal.Refusal.TheVariants.{OutOfMemory, TicketIntegrity};
 
-use crate::judging::Judge;
 use crate::keys::usable_key;
 use crate::refusal::Refusal;
 use crate::service_key::ServiceKey;
-use krb_keytab::{Entry, Picked};
-use krb_msg::{EncryptedRef, Principal, usage};
+use krb_keytab::Entry;
+use krb_msg::usage;
 use std::alloc::Global;
 
-impl<M> Judge<M> {
-    /// The entry of the keytab whose key is used for a service's ticket. It allocates no memory.
-    pub(crate) fn chosen_entry(
-        &self,
-        service: &Principal,
-        sealed: &EncryptedRef,
-    ) -> Result<&Entry, Refusal>
-        ensures chosen { IfOk result (λ entry. IsChoice self.now.setup.entries service.now
-            (encrypted_fields (encrypted_of sealed.now)).etype (encrypted_fields (encrypted_of sealed.now)).kvno (chosen entry.now)) }
-        ensures usable { IfOk result (λ entry. IsUsable (entry_key entry.now)) }
-        ensures wanting { IfErr result (Wants self.now.setup.entries service.now (encrypted_of sealed.now)) }
+/// The service key that was used last, with its keys for tickets and the ticket that it opened last.
+#[derive(Drop)]
+pub(crate) struct TicketKeys {
+    cached: Option<ServiceKey>,
+}
+
+impl TicketKeys {
+    /// Caches nothing.
+    pub(crate) fn new() -> TicketKeys
+        ensures { result.cached ≡ None }
     {
-        match self.keytab.pick(service, sealed.etype, sealed.kvno) {
-            Picked::Entry(entry) => Ok(entry),
-            Picked::NoName => Err(Refusal::NotUs),
-            Picked::NoKey => Err(Refusal::NoKey),
-            Picked::NoVersion => Err(Refusal::BadKeyVersion),
+        TicketKeys { cached: None }
+    }
+
+    /// Opens a ticket under the key of an entry. It derives that key's keys, unless they are cached.
+    #[inline(never)]
+    pub(crate) fn open(
+        &mut self,
+        alloc: Global,
+        entry: &Entry,
+        cipher: &[u8],
+    ) -> Result<(), Refusal>
+        requires { IsUsable (entry_key entry.now) }
+        ensures opened { OnOk result (Opens (profile_of (entry_key entry.now)) (entry_key entry.now).bytes ticket_usage
+            cipher.now (plain_of self.new.cached)) }
+        ensures refused { IfErr result (λ refusal. refusal ≢ OutOfMemory → refusal ≡ TicketIntegrity) }
+        ensures nothing { IfErr result (λ refusal. refusal ≢ OutOfMemory → IsShut (entry_key entry.now) ticket_usage cipher.now) }
+    {
+        if let Some(key) = &mut self.cached {
+            if is_key_of(key, entry) {
+                return key.open(alloc, cipher);
+            }
+        }
+        let mut key = ticket_key(alloc, entry);
+        let opened = key.open(alloc, cipher);
+        self.cached = Some(key);
+        opened
+    }
+
+    /// The plain text of the ticket that was opened last.
+    pub(crate) fn plain(&self) -> &[u8]
+        ensures { result.now ≡ plain_of self.now.cached }
+    {
+        match &self.cached {
+            Some(key) => key.plain(),
+            None => &[],
         }
     }
 }
 
-/// Whether these are the keys for tickets of an entry's key.
-pub(crate) fn is_key_of(keys: &ServiceKey, entry: &Entry) -> bool
+// Whether these are the keys for tickets of an entry's key.
+fn is_key_of(keys: &ServiceKey, entry: &Entry) -> bool
     ensures { IsTrue result ↔ (keys.now.keys ≡ ready_key (entry_key entry.now)) }
 {
     keys.is_for(i32::from(entry.etype()), entry.key())
 }
 
-/// Derives the keys for tickets of an entry's key. It allocates no memory.
-pub(crate) fn ticket_key(alloc: Global, entry: &Entry) -> ServiceKey
+// Derives the keys for tickets of an entry's key. It allocates no memory.
+fn ticket_key(alloc: Global, entry: &Entry) -> ServiceKey
     requires { IsUsable (entry_key entry.now) }
     ensures { result.keys ≡ ready_key (entry_key entry.now) }
 {

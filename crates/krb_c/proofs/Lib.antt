@@ -5,5 +5,6 @@ mod ServiceLaws
 mod Requests
 mod Truth
 mod Memory
+mod HeldMessages
 mod Turns
 pub mod Buffers

@@ -1,4 +1,4 @@
--- What is accepted is remembered by what is told of it.
+-- What is accepted is remembered by what is said of it.
 use Rattle.std.proofs.Common.{◌≡◌, ℕ, ℤ, pos, ◌+ℤ◌, List, ◌∷◌, Option, ap, refl, subst, sym, inl, arith}
 use Rattle.std.specs.Prelude.{◌≤ℤ◌, ◌-ℤ◌, Result, Ok, Err, IfOk, IfSome}
 use Rattle.std.proofs.lemmas.Int.{ints}

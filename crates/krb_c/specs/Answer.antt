@@ -55,7 +55,7 @@ abbrev pub Tells : {Told : Type 0} → List ℕ → Told → Told → Told → L
 Tells bytes told was is old new answer =
     (Hands bytes old new answer × (is ≡ told)) ⊎ ((answer ≡ plain out_of_memory) × ((is ≡ was) × (new ≡ old)))
 
--- either bytes of which this holds are returned, or an answer of which that holds is given and the
+-- either bytes that this holds of are returned, or an answer that that holds of is given and the
 -- buffer is unchanged
 abbrev pub Delivers : (List ℕ → Type 0) → (Answer → Type 0) → List ℕ → List ℕ → Answer → Type 0
 Delivers Good Bad old new answer = ((bytes : List ℕ) × (Good bytes × Hands bytes old new answer)) ⊎ (Bad answer × (new ≡ old))

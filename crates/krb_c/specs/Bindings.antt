@@ -38,6 +38,7 @@ with_bindings state bindings = record {
     terms = record { anonymous = state.service.terms.anonymous; realms = state.service.terms.realms; bindings = bindings };
   };
   subkey_type = state.subkey_type;
+  is_shared = state.is_shared;
   refusal = state.refusal;
 }
 

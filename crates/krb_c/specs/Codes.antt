@@ -74,6 +74,15 @@ bad_bindings = 420
 abbrev pub bad_random : ℕ
 bad_random = 421
 
+abbrev pub bad_said : ℕ
+bad_said = 422
+
+abbrev pub not_waiting : ℕ
+not_waiting = 423
+
+abbrev pub shared : ℕ
+shared = 424
+
 abbrev pub file_version : ℕ
 file_version = 500
 
@@ -185,6 +194,33 @@ context_bindings = 931
 abbrev pub context_delegation : ℕ
 context_delegation = 932
 
+abbrev pub message_defective : ℕ
+message_defective = 940
+
+abbrev pub message_direction : ℕ
+message_direction = 941
+
+abbrev pub message_other_key : ℕ
+message_other_key = 942
+
+abbrev pub message_integrity : ℕ
+message_integrity = 943
+
+abbrev pub message_gap : ℕ
+message_gap = 944
+
+abbrev pub message_repeat : ℕ
+message_repeat = 946
+
+abbrev pub message_old : ℕ
+message_old = 947
+
+abbrev pub numbers_used_up : ℕ
+numbers_used_up = 948
+
+abbrev pub bad_role : ℕ
+bad_role = 949
+
 -- why a request is refused: a tenth of the place in krb_ap's table, and 90. Places are multiples of
 -- 10, so no two causes have one code.
 abbrev pub cause_code : Refusal → ℕ
@@ -198,4 +234,4 @@ breach_code breach = 90 + breach_place breach / 10
 -- the library's version: the major number, the minor number and the patch number, with two digits
 -- for each of the last two
 abbrev pub version : ℕ
-version = 100
+version = 200

@@ -1,11 +1,15 @@
 -- What private contracts say.
 use Rattle.std.specs.Prelude.{◌≡◌, ℕ, ℤ, List, Option, Some}
+use Rattle.krb_login.specs.declared.store.StoreSays.{StoreSays}
 use Rattle.krb_ap.specs.declared.reply.ReplyOptions.{ReplyOptions}
 use Rattle.krb_c.specs.Answer.{plain}
-use Rattle.krb_c.specs.Codes.{out_of_memory}
-use Rattle.krb_c.specs.Login.{IsDecided, IsDrawn, IsNotDrawn, TellsOutcome, stage_of}
+use Rattle.krb_c.specs.Codes.{not_waiting, out_of_memory}
+use Rattle.krb_c.specs.Login.{IsDrawn, IsNotDrawn, Judges, TellsProgress, stage_of}
+use Rattle.krb_c.specs.Store.{IsSettled, Waits}
 use Rattle.krb_c.specs.declared.accepted_state.AcceptedState.{AcceptedState}
 use Rattle.krb_c.specs.declared.login_state.LoginState.{LoginState}
+use Rattle.krb_c.specs.declared.login_state.Progress.TheVariants.{Waiting}
+use Rattle.krb_c.specs.declared.question.Question.{Question}
 use Rattle.krb_c.specs.declared.service_state.ServiceState.{ServiceState}
 use Rattle.krb_c.specs.declared.structs.Answer.{Answer}
 
@@ -19,5 +23,13 @@ pub data AnswersMoment (state next : ServiceState) (before after : Option LoginS
       → AnswersMoment state next before after had kept bytes now random was is answer
   decided_on : (login : LoginState) (held : AcceptedState) (confounder : List ℕ) (choice : ReplyOptions)
       → after ≡ Some login → kept ≡ Some held → IsDrawn state.subkey_type random confounder choice
-      → IsDecided state next (stage_of before) login held bytes now confounder choice → TellsOutcome login.outcome was is answer
+      → Judges state.is_shared state next (stage_of before) login held bytes now confounder choice → TellsProgress login.progress was is answer
       → AnswersMoment state next before after had kept bytes now random was is answer
+
+-- a login is settled at a moment, or it doesn't wait, or memory is lacking
+pub data SettlesAt (state next : LoginState) (had kept : Option AcceptedState) (said : StoreSays) (now : ℤ) (was is : List ℕ) (answer : Answer) : Type 0 where
+  idle : ¬ Waits state.progress → answer ≡ plain not_waiting → next ≡ state → kept ≡ had → is ≡ was → SettlesAt state next had kept said now was is answer
+  no_room : Waits state.progress → answer ≡ plain out_of_memory → next ≡ state → kept ≡ had → is ≡ was
+      → SettlesAt state next had kept said now was is answer
+  settled_at : (question : Question) (held : AcceptedState) → state.progress ≡ Waiting question → kept ≡ Some held
+      → IsSettled question said now state next held → TellsProgress next.progress was is answer → SettlesAt state next had kept said now was is answer

@@ -1,5 +1,6 @@
 pub mod Handle
 pub mod Codes
+pub mod Sizes
 pub mod Answer
 pub mod Service
 pub mod Known
@@ -19,6 +20,9 @@ pub mod Contexts
 pub mod Stamps
 pub mod Renewal
 pub mod Bindings
+pub mod BindingsHash
 pub mod Options
 pub mod Login
+pub mod Store
+pub mod Messages
 pub mod Inner

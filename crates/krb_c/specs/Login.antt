@@ -1,5 +1,5 @@
 -- A login in one call: what is decided, what is kept of it, and what is answered.
-use Rattle.std.specs.Prelude.{◌≡◌, ◌≢◌, ◌==◌, ◌⊎◌, ◌↔◌, ◌≤◌, ◌<◌, not, Bool, if◌then◌else◌, ℕ, ℤ, pos, List, [], ◌++◌, length, take, drop, Option, Some, None, Vec}
+use Rattle.std.specs.Prelude.{◌≡◌, ◌≢◌, ◌==◌, ◌⊎◌, ◌↔◌, ◌≤◌, ◌<◌, not, Bool, true, false, if◌then◌else◌, ℕ, ℤ, pos, List, [], ◌∷◌, ◌++◌, length, take, drop, Option, Some, None, Vec}
 use Rattle.std.specs.declared.alloc.Global.{Global}
 use Rattle.krb_enc.specs.Key.{IsUsable, KeyValue}
 use Rattle.krb_name.specs.Text.{text_of}
@@ -13,7 +13,8 @@ use Rattle.krb_ap.specs.Setup.{Arrival}
 use Rattle.krb_ap.specs.declared.accepted.Accepted.{Accepted}
 use Rattle.krb_ap.specs.declared.reply.ReplyOptions.{ReplyOptions}
 use Rattle.krb_login.specs.Asked.{Asks, AsksNothing, AsksSomething}
-use Rattle.krb_login.specs.Login.{Call, Decides, GoesOn, GoesTo, IsDecided as IsDecidedOn}
+use Rattle.krb_login.specs.Limits.{HeedsLimits}
+use Rattle.krb_login.specs.Login.{Call, Decides, GoesOn, GoesTo, IsDecided as IsDecidedOn, RanOut}
 use Rattle.krb_login.specs.Terms.{IsOfRealms, code_of}
 use Rattle.krb_login.specs.declared.asked.Asked.{Asked as AskedFor}
 use Rattle.krb_login.specs.declared.breach.Breach.{Breach}
@@ -21,17 +22,23 @@ use Rattle.krb_login.specs.declared.cause.Cause.{Cause}
 use Rattle.krb_login.specs.declared.cause.Cause.TheVariants.{Token, Request, Breached, OutOfMemory, StoreFailed}
 use Rattle.krb_login.specs.declared.decision.Decision.{Decision}
 use Rattle.krb_login.specs.declared.decision.Decision.TheVariants.{LetIn, GoOn, Refused}
+use Rattle.krb_login.specs.Store.{IsJudgedBy, LeadsTo, RanOutBefore, Steps, StepsOn}
+use Rattle.krb_login.specs.declared.question.Step.{Step}
+use Rattle.krb_login.specs.declared.question.Step.TheVariants as steps
 use Rattle.krb_login.specs.declared.terms.Realms.{Realms}
 use Rattle.krb_login.specs.declared.terms.Realms.TheVariants.{Any, Only}
 use Rattle.krb_c.specs.Service.{IsMomentOf, Remembers, Stands, full_of, latest_of}
 use Rattle.krb_c.specs.Answer.{Tells, plain, refused, sized}
 use Rattle.krb_c.specs.Choice.{key_value}
-use Rattle.krb_c.specs.Codes.{bad_moment, bad_random, breach_code, empty_handle, full, go_on, nothing_there, ok, out_of_memory, short_buffer, store_failed}
+use Rattle.krb_c.specs.Codes.{ask_store, bad_moment, bad_random, breach_code, empty_handle, full, go_on, nothing_there, ok, out_of_memory, short_buffer, store_failed}
 use Rattle.krb_c.specs.Known.{is_there, number_or_zero, span}
 use Rattle.krb_c.specs.Tokens.{token_answer}
 use Rattle.krb_c.specs.declared.accepted_state.AcceptedState.{AcceptedState}
+use Rattle.krb_c.specs.declared.login.Login.{Login}
 use Rattle.krb_c.specs.declared.login_state.LoginState.{LoginState}
 use Rattle.krb_c.specs.declared.login_state.Outcome.{Outcome}
+use Rattle.krb_c.specs.declared.login_state.Progress.{Progress}
+use Rattle.krb_c.specs.declared.login_state.Progress.TheVariants.{Nothing, Waiting, Decided}
 use Rattle.krb_c.specs.declared.service_state.ServiceState.{ServiceState}
 use Rattle.krb_c.specs.declared.structs.Answer.{Answer}
 use Rattle.krb_c.specs.declared.structs.Asked.{Asked}
@@ -77,9 +84,25 @@ pub record HandsOutcome (outcome : Outcome) (old new : List ℕ) (answer : Answe
       → (answer ≡ with_size outcome.answer (length (sent outcome))) × (new ≡ sent outcome ++ drop (length (sent outcome)) old)
   pub short : length old < length (sent outcome) → (answer ≡ sized short_buffer (length (sent outcome))) × (new ≡ old)
 
+-- what was decided, if anything was
+abbrev pub decided_in : Progress → Option Outcome
+decided_in Nothing = None
+decided_in (Waiting question) = None
+decided_in (Decided outcome) = Some outcome
+
 abbrev pub TellsOutcome : Option Outcome → List ℕ → List ℕ → Answer → Type 0
 TellsOutcome None old new answer = (answer ≡ plain nothing_there) × (new ≡ old)
 TellsOutcome (Some outcome) old new answer = HandsOutcome outcome old new answer
+
+-- the decision, or that a store has to be asked: then no bytes go back
+abbrev pub TellsProgress : Progress → List ℕ → List ℕ → Answer → Type 0
+TellsProgress Nothing old new answer = (answer ≡ plain nothing_there) × (new ≡ old)
+TellsProgress (Waiting question) old new answer = (answer ≡ plain ask_store) × (new ≡ old)
+TellsProgress (Decided outcome) old new answer = HandsOutcome outcome old new answer
+
+-- what is held and what is accepted are unchanged
+abbrev pub SameLogin : Login → Login → Type 0
+SameLogin old new = (new.held.value ≡ old.held.value) × (new.accepted.value ≡ old.accepted.value)
 
 -- ---- random bytes
 -- Those after the confounder are the subkey, if replies send one.
@@ -110,24 +133,59 @@ call_by state history negotiation bytes now confounder choice = record {
   choice = choice;
 }
 
+-- what is remembered, and the latest moment, are what they were
+abbrev pub Keeps : ServiceState → ServiceState → Type 0
+Keeps old new = SameStamps (Remembers old) (Remembers new) × (latest_of new ≡ latest_of old)
+
+-- What a call leaves of a service: its history goes on, it forgets what it may, and its setup, its terms and
+-- its limits stay. `call` is the call after a history, and `On` says what holds of the history after it.
+pub record LeavesService (old new : ServiceState) (now : ℤ) (call : List Arrival → Call) (On : (List Arrival → Type 0) → Call → Type 0) (is_judged ran_out : Type 0) : Type 0 where
+  pub goes_on : (history : List Arrival) → Stands old history → On (Stands new) (call history)
+  pub moves : is_judged → latest_of new ≡ Some (later_of (latest_of old) now)
+  pub forgets : (history : List Arrival) → Stands old history → is_judged
+      → On (λ after. SameStamps (IsShownLately old.service.acceptor.setup after) (Remembers new)) (call history)
+  pub unchanged : (history : List Arrival) → Stands old history → On (λ after. after ≡ history → Keeps old new) (call history)
+  pub limit : (history : List Arrival) → Stands old history
+      → HeedsLimits (Remembers old) (limits_of old.service.acceptor.memory ∷ []) (full_of old ∷ []) (full_of new ∷ []) (call history) ran_out
+  pub limits : limits_of new.service.acceptor.memory ≡ limits_of old.service.acceptor.memory
+  pub setup : new.service.acceptor.setup ≡ old.service.acceptor.setup
+  pub terms : new.service.terms ≡ old.service.terms
+  pub subkey : new.subkey_type ≡ old.subkey_type
+  pub shared : new.is_shared ≡ old.is_shared
+  pub refusal : new.refusal ≡ old.refusal
+
 -- A client is let in, asked for its next token or refused, as the service of krb_login does it, and that
 -- is kept. Of a client that isn't let in nothing is kept.
 pub record IsDecided (old new : ServiceState) (before : Negotiation) (after : LoginState) (kept : AcceptedState) (bytes : List ℕ) (now : ℤ)
     (confounder : List ℕ) (choice : ReplyOptions) : Type 0 where
   pub decision : Decision
   pub decides : (history : List Arrival) → Stands old history → Decides (call_by old history before bytes now confounder choice) decision
-  pub goes_on : (history : List Arrival) → Stands old history → GoesOn (Stands new) (call_by old history before bytes now confounder choice) decision
-  pub moves : IsDecidedOn decision → latest_of new ≡ Some (later_of (latest_of old) now)
-  pub forgets : (history : List Arrival) → Stands old history → IsDecidedOn decision
-      → GoesOn (λ after. SameStamps (IsShownLately old.service.acceptor.setup after) (Remembers new)) (call_by old history before bytes now confounder choice) decision
-  pub limits : limits_of new.service.acceptor.memory ≡ limits_of old.service.acceptor.memory
-  pub setup : new.service.acceptor.setup ≡ old.service.acceptor.setup
-  pub terms : new.service.terms ≡ old.service.terms
-  pub subkey : new.subkey_type ≡ old.subkey_type
-  pub refusal : new.refusal ≡ old.refusal
+  pub service : LeavesService old new now (λ history. call_by old history before bytes now confounder choice)
+      (λ Holds call. GoesOn Holds call decision) (IsDecidedOn decision) (RanOut decision)
   pub negotiation : GoesTo bytes decision after.negotiation
-  pub outcome : after.outcome ≡ Some (outcome_of (not (full_of new == full_of old)) decision)
+  pub outcome : after.progress ≡ Decided (outcome_of (not (full_of new == full_of old)) decision)
   pub kept_is : kept.accepted ≡ let_in decision
+
+-- what becomes of a step: it is decided, or the store is asked, and what the reply is made with is kept
+abbrev pub progress_of : Bool → List ℕ → ReplyOptions → Step → Progress
+progress_of is_full confounder choice (steps.Decided decision) = Decided (outcome_of is_full decision)
+progress_of is_full confounder choice (steps.Ask waiting) = Waiting (record { asking = waiting; confounder = confounder; choice = choice })
+
+-- A service that shares a store of stamps lets nobody in by itself: it asks the client for its next token
+-- or refuses it, or the login waits for the store. What is known of the client can't be read before.
+pub record IsStepped (old new : ServiceState) (before : Negotiation) (after : LoginState) (kept : AcceptedState) (bytes : List ℕ) (now : ℤ)
+    (confounder : List ℕ) (choice : ReplyOptions) : Type 0 where
+  pub step : Step
+  pub steps : (history : List Arrival) → Stands old history → Steps (call_by old history before bytes now confounder choice) step
+  pub service : LeavesService old new now (λ history. call_by old history before bytes now confounder choice)
+      (λ Holds call. StepsOn Holds call step) (IsJudgedBy step) (RanOutBefore step)
+  pub negotiation : LeadsTo bytes step after.negotiation
+  pub progress : after.progress ≡ progress_of (not (full_of new == full_of old)) confounder choice step
+  pub kept_is : kept.accepted ≡ None
+
+abbrev pub Judges : Bool → ServiceState → ServiceState → Negotiation → LoginState → AcceptedState → List ℕ → ℤ → List ℕ → ReplyOptions → Type 0
+Judges true old new before after kept bytes now confounder choice = IsStepped old new before after kept bytes now confounder choice
+Judges false old new before after kept bytes now confounder choice = IsDecided old new before after kept bytes now confounder choice
 
 -- ---- the call
 -- how far a login is
@@ -135,13 +193,13 @@ abbrev pub stage_of : Option LoginState → Negotiation
 stage_of None = Begun
 stage_of (Some state) = state.negotiation
 
-abbrev pub outcome_in : Option LoginState → Option Outcome
-outcome_in None = None
-outcome_in (Some state) = state.outcome
+abbrev pub progress_in : Option LoginState → Progress
+progress_in None = Nothing
+progress_in (Some state) = state.progress
 
--- what was decided is no longer kept
+-- what was decided, or waited for, is no longer kept
 abbrev pub undecided : LoginState → LoginState
-undecided state = record { negotiation = state.negotiation; outcome = None }
+undecided state = record { negotiation = state.negotiation; progress = Nothing }
 
 -- nothing is decided: the first that applies
 abbrev pub IsUndecided : Option ServiceState → Time → List ℕ → Answer → Type 0
@@ -151,17 +209,17 @@ IsUndecided (Some state) time random answer =
     ⊎ (IsMomentOf time × (IsNotDrawn state.subkey_type random answer
     ⊎ (((confounder : List ℕ) × ((choice : ReplyOptions) × IsDrawn state.subkey_type random confounder choice)) × (answer ≡ plain out_of_memory))))
 
--- A service that takes the bytes of a client decides, and the answer is the decision's; or it decides
--- nothing, and then it is unchanged, and so is the negotiation. Of an earlier call nothing is kept.
+-- A service that takes the bytes of a client decides, or has a store asked, and the answer says so; or it
+-- decides nothing, and then it is unchanged, and so is the negotiation. Of an earlier call nothing is kept.
 pub data AnswersLogin (old new : Option ServiceState) (before after : Option LoginState) (kept : Option AcceptedState) (bytes : List ℕ) (time : Time)
     (random was is : List ℕ) (answer : Answer) : Type 0 where
-  nothing : IsUndecided old time random answer → new ≡ old → stage_of after ≡ stage_of before → outcome_in after ≡ None → kept ≡ None → is ≡ was
+  nothing : IsUndecided old time random answer → new ≡ old → stage_of after ≡ stage_of before → progress_in after ≡ Nothing → kept ≡ None → is ≡ was
       → AnswersLogin old new before after kept bytes time random was is answer
   decided : (state next : ServiceState) (login : LoginState) (held : AcceptedState) (confounder : List ℕ) (choice : ReplyOptions)
       → old ≡ Some state → new ≡ Some next → after ≡ Some login → kept ≡ Some held → IsMomentOf time
       → IsDrawn state.subkey_type random confounder choice
-      → IsDecided state next (stage_of before) login held bytes (micros_of time.seconds time.micros) confounder choice
-      → TellsOutcome login.outcome was is answer
+      → Judges state.is_shared state next (stage_of before) login held bytes (micros_of time.seconds time.micros) confounder choice
+      → TellsProgress login.progress was is answer
       → AnswersLogin old new before after kept bytes time random was is answer
 
 -- ---- what a request asks for
@@ -185,11 +243,16 @@ asked_if None = None
 asked_if (Some outcome) = outcome.asked
 
 abbrev pub asked_in : LoginState → Option AskedFor
-asked_in state = asked_if state.outcome
+asked_in state = asked_if (decided_in state.progress)
 
 abbrev pub TellsAskedIf : Option AskedFor → Asked → Asked → List ℕ → List ℕ → Answer → Type 0
 TellsAskedIf None was is old new answer = (answer ≡ plain nothing_there) × ((is ≡ was) × (new ≡ old))
 TellsAskedIf (Some x) was is old new answer = TellsAsked x was is old new answer
+
+-- of a login that a handle holds
+abbrev pub ListsAsked : Option LoginState → Asked → Asked → List ℕ → List ℕ → Answer → Type 0
+ListsAsked None was is old new answer = (answer ≡ plain empty_handle) × ((is ≡ was) × (new ≡ old))
+ListsAsked (Some state) was is old new answer = TellsAskedIf (asked_in state) was is old new answer
 
 -- of the bytes of a request
 pub data ReadsAsked (bytes : List ℕ) (was is : Asked) (old new : List ℕ) (answer : Answer) : Type 0 where
@@ -210,6 +273,7 @@ with_realms state realms = record {
     terms = record { anonymous = state.service.terms.anonymous; realms = realms; bindings = state.service.terms.bindings };
   };
   subkey_type = state.subkey_type;
+  is_shared = state.is_shared;
   refusal = state.refusal;
 }
 

@@ -1,5 +1,5 @@
 -- What a service is made with, and what comes of it.
-use Rattle.std.specs.Prelude.{◌≡◌, ◌==◌, ◌/◌, max, if◌then◌else◌, ◌≢◌, ◌≤◌, ◌<◌, ◌≤ℤ◌, ◌*◌, ◌⊎◌, ℕ, ℤ, pos, Bool, true, false, IsTrue, List, [], replicate, Option, Some, None, IsSomeAnd}
+use Rattle.std.specs.Prelude.{◌≡◌, ◌==◌, ◌/◌, max, if◌then◌else◌, ◌≢◌, ◌≤◌, ◌<◌, ◌≤ℤ◌, ◌*◌, ◌⊎◌, ℕ, ℤ, pos, Bool, true, false, IsTrue, List, [], Option, Some, None, IsSomeAnd}
 use Rattle.krb_login.specs.declared.terms.Realms.{Realms}
 use Rattle.krb_login.specs.declared.terms.Realms.TheVariants.{Any, Only}
 use Rattle.krb_login.specs.declared.terms.Terms.{Terms}
@@ -10,44 +10,29 @@ use Rattle.krb_c.specs.Request.{IsMomentFault, moment_of}
 use Rattle.krb_c.specs.Bindings.{AreBindings, AreNoBindings, HasBindings}
 use Rattle.krb_c.specs.Codes.{bad_bindings, bad_options, bad_skew, early_start, key_type, no_name, no_start, ok, out_of_memory}
 use Rattle.krb_c.specs.KeytabFile.{HasKeytab}
+use Rattle.krb_c.specs.Sizes.{options_size}
 use Rattle.krb_c.specs.Renewal.{IsNamed, IsServed, IsUnusable}
 use Rattle.krb_c.specs.declared.structs.AcceptorOptions.{AcceptorOptions}
 use Rattle.krb_c.specs.declared.structs.Answer.{Answer}
 use Rattle.krb_c.specs.declared.service_state.ServiceState.{ServiceState}
 
--- the bytes of the options, and of those without terms
-abbrev pub options_size : ℕ
-options_size = 88
-
-abbrev pub first_size : ℕ
-first_size = 56
-
--- Options without terms stand for these: clients of any realm that aren't anonymous are let in, their
--- bindings aren't looked at, and a reply sends no subkey.
-abbrev pub whole : AcceptorOptions → AcceptorOptions
-whole options = if options.size == first_size then record {
-  size = options_size;
-  started = options.started;
-  skew = options.skew;
-  restarts = options.restarts;
-  any_name = options.any_name;
-  any_start = options.any_start;
-  limit = options.limit;
-  limit_for_client = options.limit_for_client;
-  bindings = 0;
-  subkey_type = 0;
-  bindings_hash = replicate 16 0;
-  anonymous = false;
-  only_realms = false;
-} else options
-
--- How repeats are refused across starts: the service was started at a moment, or it is in its first
--- life, since no service has used one of these keys before.
+-- How repeats are refused across starts: the service was started at a moment; or it is in its first
+-- life, since no service has used one of these keys before; or it shares a store of stamps, and its
+-- start is the moment from which the store remembers.
 abbrev pub started : ℕ
 started = 1
 
 abbrev pub first_life : ℕ
 first_life = 2
+
+abbrev pub sharing : ℕ
+sharing = 3
+
+abbrev pub HasStart : AcceptorOptions → Type 0
+HasStart options = (options.restarts ≡ started) ⊎ (options.restarts ≡ sharing)
+
+abbrev pub shares : AcceptorOptions → Bool
+shares options = options.restarts == sharing
 
 -- the first second of the year 2020
 abbrev pub year_2020 : ℤ
@@ -69,13 +54,13 @@ IsLateEnough options = (year_2020 ≤ℤ options.started.seconds) ⊎ IsTrue opt
 abbrev pub IsStart : AcceptorOptions → Option ℤ → Type 0
 IsStart options None = options.restarts ≡ first_life
 IsStart options (Some at) =
-    (options.restarts ≡ started) × (IsMomentOf options.started × (IsLateEnough options × (at ≡ moment_of options.started)))
+    HasStart options × (IsMomentOf options.started × (IsLateEnough options × (at ≡ moment_of options.started)))
 
--- the options say neither, or a start that isn't a moment or is too early
+-- the options say none of these, or a start that isn't a moment or is too early
 abbrev pub IsStartFault : AcceptorOptions → Answer → Type 0
 IsStartFault options answer =
-    (((options.restarts ≢ started) × (options.restarts ≢ first_life)) × (answer ≡ plain no_start))
-    ⊎ ((options.restarts ≡ started) × (IsMomentFault options.started answer
+    (((¬ HasStart options) × (options.restarts ≢ first_life)) × (answer ≡ plain no_start))
+    ⊎ (HasStart options × (IsMomentFault options.started answer
     ⊎ (IsMomentOf options.started × ((¬ IsLateEnough options) × (answer ≡ plain early_start)))))
 
 -- the options are valid for a service of this name's text, and say this start
@@ -128,7 +113,7 @@ pub record IsMade (options : AcceptorOptions) (text bytes : List ℕ) (state : S
   pub terms_are : AreTerms options terms
   pub kept : List KeytabEntry
   pub is_served : IsServed text bytes kept
-  pub state_is : state ≡ fresh kept (1_000_000 * options.skew) start (limit_of options) (client_limit_of options) terms options.subkey_type
+  pub state_is : state ≡ fresh kept (1_000_000 * options.skew) start (limit_of options) (client_limit_of options) terms options.subkey_type (shares options)
   pub stands : Stands state []
 
 -- none is made: the options are invalid, or else their terms, or else no keytab is read or the text

@@ -19,6 +19,7 @@ renewed state entries = record {
     terms = state.service.terms;
   };
   subkey_type = state.subkey_type;
+  is_shared = state.is_shared;
   refusal = state.refusal;
 }
 

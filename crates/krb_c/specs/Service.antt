@@ -8,7 +8,7 @@ use Rattle.krb_keytab.specs.Entry.{KeytabEntry}
 use Rattle.krb_keytab.specs.Only.{KeepsOnly}
 use Rattle.krb_name.specs.Reading.{IsReadAs}
 use Rattle.krb_name.specs.declared.principal.Principal.{Principal}
-use Rattle.krb_replay.specs.Memory.{IsSizeOf, later_of, SameStamps}
+use Rattle.krb_replay.specs.Memory.{IsSizeOf, empty_memory, later_of, SameStamps}
 use Rattle.krb_replay.specs.Limit.{limited, limits_of}
 use Rattle.krb_replay.specs.Stamp.{Stamp}
 use Rattle.krb_ap.specs.Setup.{Arrival}
@@ -21,7 +21,7 @@ use Rattle.krb_ap.specs.declared.refusal.Refusal.{Refusal}
 use Rattle.krb_ap.specs.declared.refusal.Refusal.TheVariants.{OutOfMemory}
 use Rattle.krb_login.specs.declared.terms.Terms.{Terms}
 use Rattle.krb_c.specs.Answer.{plain, told}
-use Rattle.krb_c.specs.Codes.{full, nothing_there, ok}
+use Rattle.krb_c.specs.Codes.{full, nothing_there, ok, shared}
 use Rattle.krb_c.specs.declared.structs.Answer.{Answer}
 use Rattle.krb_c.specs.declared.structs.Time.{Time}
 use Rattle.krb_c.specs.declared.structs.Usage.{Usage}
@@ -41,17 +41,18 @@ Stands state history = StandsFor state.service.acceptor.setup (Remembers state) 
 
 -- it is new: it has these entries, a skew of so many microseconds, and the moment at which it was
 -- started again, if it ran before; its limits; its terms, and the type of the subkey that its replies
--- send; it has seen nothing, and has refused nothing
-abbrev pub fresh : List KeytabEntry → ℕ → Option ℤ → ℕ → ℕ → Terms → ℕ → ServiceState
-fresh entries skew start limit limit_for_client terms subkey_type = record {
+-- send; whether it shares a store of stamps; it has seen nothing, and has refused nothing
+abbrev pub fresh : List KeytabEntry → ℕ → Option ℤ → ℕ → ℕ → Terms → ℕ → Bool → ServiceState
+fresh entries skew start limit limit_for_client terms subkey_type is_shared = record {
   service = record {
     acceptor = record {
       setup = record { entries = entries; skew = skew; start = start };
-      memory = limited (record { stamps = []; latest = None; unfreed = 0 }) limit limit_for_client;
+      memory = limited empty_memory limit limit_for_client;
     };
     terms = terms;
   };
   subkey_type = subkey_type;
+  is_shared = is_shared;
   refusal = None;
 }
 
@@ -87,7 +88,7 @@ refused_by (Err refusal) = Some refusal
 
 -- it refused this last, or nothing, and is otherwise unchanged
 abbrev pub with_refusal : ServiceState → Option Refusal → ServiceState
-with_refusal state refusal = record { service = state.service; subkey_type = state.subkey_type; refusal = refusal }
+with_refusal state refusal = record { service = state.service; subkey_type = state.subkey_type; is_shared = state.is_shared; refusal = refusal }
 
 abbrev pub cleared : ServiceState → ServiceState
 cleared state = with_refusal state None
@@ -130,6 +131,7 @@ pub record Decides (old new : ServiceState) (call : Arrival) (kept : Option Acce
   pub setup : new.service.acceptor.setup ≡ old.service.acceptor.setup
   pub terms : new.service.terms ≡ old.service.terms
   pub subkey : new.subkey_type ≡ old.subkey_type
+  pub shared : new.is_shared ≡ old.is_shared
   pub moves : ¬ IsErrOf outcome OutOfMemory → latest_of new ≡ Some (later_of (latest_of old) call.moment)
   pub offset : IfErr outcome (λ refusal. IfSome (offset_of refusal) (λ at. at ≤ length call.bytes))
   pub memory : IsErrOf outcome OutOfMemory → (request : ValueOf ap_req) × Asks call.bytes request
@@ -139,6 +141,11 @@ pub record Decides (old new : ServiceState) (call : Arrival) (kept : Option Acce
   pub remembered : (history : List Arrival) → Stands old history → IfSome kept (λ accepted. Remembers new (stamp_told accepted))
   pub refusal : new.refusal ≡ refused_by outcome
   pub told_is : answer ≡ told_of (full_of old) (full_of new) outcome
+
+-- A service that shares a store of stamps decides nothing without it.
+abbrev pub DecidesAlone : Bool → ServiceState → ServiceState → Arrival → Option Accepted → Answer → Type 0
+DecidesAlone true old new call kept answer = (answer ≡ plain shared) × ((new ≡ cleared old) × (kept ≡ None))
+DecidesAlone false old new call kept answer = Decides old new call kept answer
 
 -- what is remembered, and the limits, are reported
 pub record TellsUsage (state : ServiceState) (usage : Usage) (answer : Answer) : Type 0 where

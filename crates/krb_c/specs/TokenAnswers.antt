@@ -13,7 +13,7 @@ abbrev pub says_error : Message → Bool
 says_error (reply bytes) = false
 says_error (error bytes) = true
 
--- the bytes are an answer, and its message and of which kind it is are returned
+-- the bytes are an answer, and its message and the message's kind are returned
 pub record HandsMessage (bytes : List ℕ) (is : Bool) (old new : List ℕ) (answer : Answer) : Type 0 where
   pub wrapping : Wrapping
   pub mechanism : Mechanism

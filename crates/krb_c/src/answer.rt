@@ -3,6 +3,7 @@
 ghost use Rattle.std.specs.Prelude.{IfOk, List, SomeIff, length, ℕ, ◌++◌, ◌≡◌};
 ghost use Rattle.krb_time.specs.Moments.{micros_of};
 ghost use Rattle.krb_c.specs.Service.{IsMomentOf};
+ghost use Rattle.krb_c.specs.Stamps.{IsTimeOf};
 ghost use Rattle.krb_c.specs.Answer.{Hands, Tells, keytab_answer, placed, plain, refused, sized};
 
 use crate::cause::code_of;
@@ -19,6 +20,17 @@ impl Time {
         ensures { SomeIff result (IsMomentOf self.now) (micros_of self.now.seconds self.now.micros) }
     {
         Moment::new(self.seconds, self.micros)
+    }
+
+    /// The seconds and the microseconds of a moment.
+    pub(crate) fn of(moment: Moment) -> Time
+        ensures { IsTimeOf moment result }
+    {
+        let (seconds, micros) = moment.parts();
+        Time {
+            seconds: seconds.get(),
+            micros: micros.get(),
+        }
     }
 }
 

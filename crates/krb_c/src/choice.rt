@@ -3,7 +3,7 @@
 ghost use Rattle.std.specs.Prelude.{IfErr, IfOk, pos, ◌≡◌, ◌≢◌};
 ghost use Rattle.krb_c.specs.Choice.{IsChosen, IsKeyFault, seq_of};
 
-use crate::key::key_of;
+use crate::key::key_or_none_of;
 use crate::structs::{Answer, Choice};
 use krb_enc::Key;
 
@@ -20,12 +20,6 @@ impl Choice {
         ensures chosen { IfOk result (λ key. IsChosen self.now.subkey_type bytes.now key) }
         ensures fault { IfErr result (λ answer. (self.now.subkey_type ≢ pos 0) × IsKeyFault self.now.subkey_type bytes.now answer) }
     {
-        if self.subkey_type == 0 {
-            return Ok(None);
-        }
-        match key_of(self.subkey_type, bytes) {
-            Ok(key) => Ok(Some(key)),
-            Err(answer) => Err(answer),
-        }
+        key_or_none_of(self.subkey_type, bytes)
     }
 }

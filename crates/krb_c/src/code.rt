@@ -89,6 +89,12 @@ pub(crate) const BAD_BINDINGS: u32 = 420;
 
 pub(crate) const BAD_RANDOM: u32 = 421;
 
+pub(crate) const BAD_SAID: u32 = 422;
+
+pub(crate) const NOT_WAITING: u32 = 423;
+
+pub(crate) const SHARED: u32 = 424;
+
 pub(crate) const FILE_VERSION: u32 = 500;
 
 pub(crate) const FILE_HEADER: u32 = 501;
@@ -162,3 +168,21 @@ pub(crate) const CONTEXT_TRUNCATED: u32 = 930;
 pub(crate) const CONTEXT_BINDINGS: u32 = 931;
 
 pub(crate) const CONTEXT_DELEGATION: u32 = 932;
+
+pub(crate) const MESSAGE_DEFECTIVE: u32 = 940;
+
+pub(crate) const MESSAGE_DIRECTION: u32 = 941;
+
+pub(crate) const MESSAGE_OTHER_KEY: u32 = 942;
+
+pub(crate) const MESSAGE_INTEGRITY: u32 = 943;
+
+pub(crate) const MESSAGE_GAP: u32 = 944;
+
+pub(crate) const MESSAGE_REPEAT: u32 = 946;
+
+pub(crate) const MESSAGE_OLD: u32 = 947;
+
+pub(crate) const NUMBERS_USED_UP: u32 = 948;
+
+pub(crate) const BAD_ROLE: u32 = 949;

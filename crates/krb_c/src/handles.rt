@@ -8,12 +8,14 @@ ghost use Rattle.krb_c.specs.declared.accepted_state.AcceptedState.{AcceptedStat
 ghost use Rattle.krb_c.specs.declared.login_state.LoginState.{LoginState};
 ghost use Rattle.krb_c.specs.declared.service_state.ServiceState.{ServiceState};
 ghost use Rattle.krb_ccache.specs.Value.{Cache};
+ghost use Rattle.krb_context.specs.Context.{State};
 ghost use Rattle.krb_keytab.specs.Entry.{KeytabEntry};
 ghost use Rattle.krb_ap.specs.contracts.initiator.Initiator.{the_row as cache_row};
 ghost use Rattle.krb_ap.specs.contracts.pending.Pending.{the_row as pending_row};
 ghost use Rattle.krb_c.specs.contracts.accepted_state.AcceptedState.{the_row as accepted_row};
 ghost use Rattle.krb_c.specs.contracts.login_state.LoginState.{the_row as login_row};
 ghost use Rattle.krb_c.specs.contracts.service_state.ServiceState.{the_row as acceptor_row};
+ghost use Rattle.krb_context.specs.contracts.context.Context.{the_row as messages_row};
 ghost use Rattle.krb_keytab.specs.contracts.keytab.Keytab.{the_row as keytab_row};
 ghost use Rattle.krb_c.specs.Handle.{handle_owns};
 ghost use Rattle.std.specs.Coded.{coded_option};
@@ -24,6 +26,7 @@ use crate::login_state::LoginState;
 use crate::place::Place;
 use crate::service_state::ServiceState;
 use krb_ap::{Initiator, Pending};
+use krb_context::Context;
 use krb_keytab::Keytab;
 use std::alloc::Global;
 use std::marker::Model;
@@ -287,6 +290,50 @@ impl Handle for PendingHandle {
 }
 
 impl Drop for PendingHandle {
+    fn drop(self) {
+        free(self);
+    }
+}
+
+/// The handle of the messages after a login.
+#[repr(C)]
+pub struct MessagesHandle {
+    at: *mut u8,
+    alloc: Global,
+    pub ghost value: { Option State } by { coded_option messages_row.coded },
+}
+
+impl Model for MessagesHandle {
+    ghost also_owns = { λ h. handle_owns messages_row h.alloc h.at h.value };
+}
+
+impl Handle for MessagesHandle {
+    type Value = Context;
+
+    ghost held = { λ h. h.value };
+
+    fn of_place(place: Place<Context>) -> MessagesHandle
+        ensures { result.value ≡ place.value }
+    {
+        let Place { at, alloc } = place;
+        MessagesHandle {
+            at: at as *mut u8,
+            alloc,
+        }
+    }
+
+    fn into_place(self) -> Place<Context>
+        ensures { result.value ≡ self.value }
+    {
+        let MessagesHandle { at, alloc } = self;
+        Place {
+            at: at as *mut Context,
+            alloc,
+        }
+    }
+}
+
+impl Drop for MessagesHandle {
     fn drop(self) {
         free(self);
     }

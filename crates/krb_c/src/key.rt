@@ -1,8 +1,8 @@
 //! Keys and confounders in the form in which C passes them.
 
-ghost use Rattle.std.specs.Prelude.{IfErr, IfOk, length, ◌≡◌};
+ghost use Rattle.std.specs.Prelude.{IfErr, IfOk, length, pos, ◌≡◌, ◌≢◌};
 ghost use Rattle.krb_enc.specs.Key.{IsUsable};
-ghost use Rattle.krb_c.specs.Choice.{IsConfounderFault, IsKeyFault, key_value};
+ghost use Rattle.krb_c.specs.Choice.{IsChosen, IsConfounderFault, IsKeyFault, key_value};
 ghost use Rattle.krb_c.specs.Known.{key_bytes, key_type};
 
 use crate::code;
@@ -20,6 +20,20 @@ pub(crate) fn key_of(etype: i32, bytes: &[u8]) -> Result<Key, Answer>
         Ok(key) => Ok(key),
         Err(KeyFault::UnknownEtype) => Err(Answer::plain(code::KEY_TYPE)),
         Err(KeyFault::WrongLength) => Err(Answer::plain(code::KEY_LENGTH)),
+    }
+}
+
+/// The key of a type and bytes, or none for the type 0.
+pub(crate) fn key_or_none_of(etype: i32, bytes: &[u8]) -> Result<Option<Key>, Answer>
+    ensures chosen { IfOk result (IsChosen etype bytes.now) }
+    ensures fault { IfErr result (λ answer. (etype ≢ pos 0) × IsKeyFault etype bytes.now answer) }
+{
+    if etype == 0 {
+        return Ok(None);
+    }
+    match key_of(etype, bytes) {
+        Ok(key) => Ok(Some(key)),
+        Err(answer) => Err(answer),
     }
 }
 

@@ -4,7 +4,7 @@ ghost use Rattle.std.specs.Prelude.{IfErr, IfOk, None, Option, ◌≡◌};
 ghost use Rattle.std.specs.Option.{MatchOption, option_map};
 ghost use Rattle.krb_c.specs.Answer.{plain};
 ghost use Rattle.krb_c.specs.Codes.{empty_handle};
-ghost use Rattle.krb_c.specs.Login.{AnswersLogin, IsDrawn, IsNotDrawn, IsSubkey, ReadsAsked, TellsAskedIf, TellsOutcome, asked_in, stage_of, undecided};
+ghost use Rattle.krb_c.specs.Login.{AnswersLogin, IsDrawn, IsNotDrawn, IsSubkey, ListsAsked, ReadsAsked, SameLogin, TellsOutcome, decided_in, stage_of, undecided};
 ghost use Rattle.krb_c.specs.Inner.{AnswersMoment};
 ghost use Rattle.krb_enc.specs.Key.{KeyValue};
 
@@ -13,7 +13,7 @@ use crate::answer::hand_over_with;
 use crate::code;
 use crate::handle::{empty, put, take, with_held};
 use crate::handles::{AcceptedHandle, LoginHandle, ServiceHandle};
-use crate::login_state::{LoginState, asked_told};
+use crate::login_state::{LoginState, Progress, asked_told};
 use crate::service_state::ServiceState;
 use crate::structs::{Answer, Asked, Time};
 use krb_ap::ReplyOptions;
@@ -33,7 +33,8 @@ pub struct Login {
 }
 
 /// Lets a client in, asks it for its next token, or refuses it (`krb_login::Service::answer`). Writes
-/// what goes back to `out`; what is known of a client that is let in is kept in the login.
+/// what goes back to `out`; what is known of a client that is let in is kept in the login. A service
+/// that shares a store of stamps lets nobody in: the login waits for the store (`Service::ask`).
 #[unsafe(no_mangle)]
 pub extern "C" fn fevstunik_service_answer(
     service: &mut ServiceHandle,
@@ -66,7 +67,7 @@ impl Login {
         }
     }
 
-    // Decides, unless memory or random bytes are lacking.
+    // Decides, or waits for a store, unless memory or random bytes are lacking.
     fn answer(
         &mut self,
         alloc: Global,
@@ -94,8 +95,8 @@ impl Login {
             confounder: &confounder,
             choice,
         };
-        held.decide(alloc, service, &mut kept, given);
-        let answer = held.tell(out);
+        held.judge(alloc, service, &mut kept, given);
+        let answer = held.answer(out);
         put(&mut self.held, held);
         put(&mut self.accepted, kept);
         answer
@@ -112,7 +113,7 @@ fn held_by(handle: &mut LoginHandle, alloc: Global) -> Option<Box<LoginState>>
         None => {
             let begun = LoginState {
                 negotiation: Negotiation::Begun,
-                outcome: None,
+                progress: Progress::Nothing,
             };
             match Box::new(alloc, begun) {
                 Ok(held) => Some(held),
@@ -156,20 +157,20 @@ fn subkey_of(etype: u32, bytes: &[u8]) -> Option<Option<Key>>
     }
 }
 
-/// Returns what the last `fevstunik_service_answer` with this login decided, and writes what goes back
-/// to `out`. The login is unchanged.
+/// Returns what the last `fevstunik_service_answer` or `fevstunik_login_settle` with this login decided,
+/// and writes what goes back to `out`. The login is unchanged.
 #[unsafe(no_mangle)]
 pub extern "C" fn fevstunik_login_answer(login: &mut Login, alloc: Global, out: &mut [u8]) -> Answer
     ensures told { MatchOption login.old.held.value ((result ≡ plain empty_handle) × (out.new ≡ out.old))
-        (λ state. TellsOutcome state.outcome out.old out.new result) }
-    ensures stays { login.new.held.value ≡ login.old.held.value }
-    ensures accepted { login.new.accepted.value ≡ login.old.accepted.value }
+        (λ state. TellsOutcome (decided_in state.progress) out.old out.new result) }
+    ensures stays { SameLogin login.old login.new }
 {
     with_held!(&mut login.held, alloc, state => state.tell(out))
 }
 
-/// Reads what a request asked for that the last `fevstunik_service_answer` with this login refused.
-/// Writes the service's text to the buffer, and its place and the numbers to `asked`.
+/// Reads what a request asked for that the last `fevstunik_service_answer` or `fevstunik_login_settle`
+/// with this login refused. Writes the service's text to the buffer, and its place and the numbers to
+/// `asked`.
 #[unsafe(no_mangle)]
 pub extern "C" fn fevstunik_login_asked(
     login: &mut Login,
@@ -177,10 +178,8 @@ pub extern "C" fn fevstunik_login_asked(
     asked: &mut Asked,
     buffer: &mut [u8],
 ) -> Answer
-    ensures told { MatchOption login.old.held.value ((result ≡ plain empty_handle) × ((asked.new ≡ asked.old) × (buffer.new ≡ buffer.old)))
-        (λ state. TellsAskedIf (asked_in state) asked.old asked.new buffer.old buffer.new result) }
-    ensures stays { login.new.held.value ≡ login.old.held.value }
-    ensures accepted { login.new.accepted.value ≡ login.old.accepted.value }
+    ensures told { ListsAsked login.old.held.value asked.old asked.new buffer.old buffer.new result }
+    ensures stays { SameLogin login.old login.new }
 {
     with_held!(&mut login.held, alloc, state => state.tell_asked(alloc, asked, buffer))
 }

@@ -1,7 +1,9 @@
 //! What a login's handle holds.
 
 ghost use Rattle.std.specs.Prelude.{IfOk, Some, ◌≡◌};
-ghost use Rattle.krb_c.specs.Login.{HandsOutcome, IsDecided, TellsAskedIf, TellsOutcome, asked_in, asked_of, breach_answer, cause_answer, let_in, outcome_of, sent, undecided};
+ghost use Rattle.krb_c.specs.Inner.{SettlesAt};
+ghost use Rattle.krb_c.specs.Login.{HandsOutcome, IsDecided, IsStepped, Judges, TellsAskedIf, TellsOutcome, TellsProgress, asked_in, asked_of, breach_answer, cause_answer, decided_in, let_in, outcome_of, progress_of, sent, undecided};
+ghost use Rattle.krb_c.specs.Store.{IsSettled, TellsQuestion};
 ghost use Rattle.krb_name.specs.Text.{text_of};
 ghost use Rattle.std.specs.Option.{option_copied};
 
@@ -9,23 +11,40 @@ use crate::accepted_state::AcceptedState;
 use crate::answer::{append, hand_over_with};
 use crate::cause::breach_code_of;
 use crate::code;
+use crate::handle::put;
+use crate::handles::AcceptedHandle;
+use crate::question::Question;
 use crate::service_state::ServiceState;
-use crate::structs::{Answer, Asked};
+use crate::structs::{Answer, Asked, Time};
 use crate::token::token_told;
-use krb_ap::Accepted;
+use krb_ap::{Accepted, ReplyOptions};
 use krb_gss::Negotiation;
-use krb_login::{Asked as AskedFor, Breach, Cause, Decision, Given, LetIn, Refused};
-use krb_msg::error_code;
+use krb_login::{
+    Asked as AskedFor, Breach, Cause, Decision, Given, LetIn, Refused, Step, StoreSays,
+};
+use krb_msg::{Moment, error_code};
 use krb_replay::ReplayMemory;
 use std::alloc::{AllocError, Global};
+use std::mem::replace;
 
 /// How far a login is, and what was decided last.
 #[derive(Drop)]
 pub struct LoginState {
     /// How far its negotiation is.
     pub negotiation: Negotiation,
-    /// What the last call decided, if it did.
-    pub outcome: Option<Outcome>,
+    /// What became of what the client sent last.
+    pub progress: Progress,
+}
+
+/// What became of what a client sent.
+#[derive(Drop)]
+pub enum Progress {
+    /// Nothing is decided.
+    Nothing,
+    /// A store of stamps is asked before it is decided.
+    Waiting(Question),
+    /// It is decided.
+    Decided(Outcome),
 }
 
 /// What is answered to a decision.
@@ -40,9 +59,49 @@ pub struct Outcome {
 }
 
 impl LoginState {
-    /// Decides about what a client sent, and keeps what is decided. `kept` gets what is known of a
-    /// client that is let in, and otherwise nothing.
-    pub(crate) fn decide(
+    /// Decides about what a client sent, or keeps it until a store is asked. `kept` gets what is known
+    /// of a client that is let in, and otherwise nothing.
+    pub(crate) fn judge(
+        &mut self,
+        alloc: Global,
+        service: &mut ServiceState,
+        kept: &mut AcceptedState,
+        given: Given<'_>,
+    )
+        ensures { Judges service.old.is_shared service.old service.new self.old.negotiation self.new kept.new given.entry.bytes.now given.entry.now given.entry.confounder.now given.entry.choice }
+    {
+        if service.is_shared {
+            self.step(alloc, service, kept, given);
+        } else {
+            self.decide(alloc, service, kept, given);
+        }
+    }
+
+    fn step(
+        &mut self,
+        alloc: Global,
+        service: &mut ServiceState,
+        kept: &mut AcceptedState,
+        given: Given<'_>,
+    )
+        ensures { IsStepped service.old service.new self.old.negotiation self.new kept.new given.entry.bytes.now given.entry.now given.entry.confounder.now given.entry.choice }
+    {
+        let Given {
+            bytes,
+            now,
+            confounder,
+            choice,
+        } = given;
+        let full = service.service.acceptor.memory().refused();
+        let step = service
+            .service
+            .ask(alloc, &mut self.negotiation, bytes, now);
+        let is_full = service.service.acceptor.memory().refused() != full;
+        kept.clear();
+        self.progress = progress_of(step, is_full, confounder, choice);
+    }
+
+    fn decide(
         &mut self,
         alloc: Global,
         service: &mut ServiceState,
@@ -55,24 +114,99 @@ impl LoginState {
         let decision = service.service.answer(alloc, &mut self.negotiation, given);
         let is_full = service.service.acceptor.memory().refused() != full;
         let (outcome, accepted) = outcome_of(decision, is_full);
-        self.outcome = Some(outcome);
+        self.progress = Progress::Decided(outcome);
         kept.accepted = accepted;
     }
 
-    /// Discards what was decided.
+    /// Decides by what a store said, if the login waits for one. `accepted` gets what is known of a
+    /// client that is let in.
+    pub(crate) fn settle(
+        &mut self,
+        alloc: Global,
+        accepted: &mut AcceptedHandle,
+        said: StoreSays,
+        now: Moment,
+        out: &mut [u8],
+    ) -> Answer
+        ensures { SettlesAt self.old self.new accepted.old.value accepted.new.value said now out.old out.new result }
+    {
+        let question = match replace(&mut self.progress, Progress::Nothing) {
+            Progress::Waiting(question) => question,
+            other => {
+                self.progress = other;
+                return Answer::plain(code::NOT_WAITING);
+            }
+        };
+        let Ok(mut kept) = Box::new(alloc, AcceptedState { accepted: None }) else {
+            self.progress = Progress::Waiting(question);
+            return Answer::plain(code::OUT_OF_MEMORY);
+        };
+        self.settle_by(alloc, &mut kept, question, said, now);
+        put(accepted, kept);
+        self.answer(out)
+    }
+
+    fn settle_by(
+        &mut self,
+        alloc: Global,
+        kept: &mut AcceptedState,
+        question: Question,
+        said: StoreSays,
+        now: Moment,
+    )
+        ensures { IsSettled question said now self.old self.new kept.new }
+    {
+        let Question {
+            asking,
+            confounder,
+            choice,
+        } = question;
+        let decision = asking.settle(alloc, said, now, &confounder, choice);
+        let (outcome, accepted) = outcome_of(decision, false);
+        self.progress = Progress::Decided(outcome);
+        kept.accepted = accepted;
+    }
+
+    /// Discards what was decided, or waited for.
     pub(crate) fn clear(&mut self)
         ensures { self.new ≡ undecided self.old }
     {
-        self.outcome = None;
+        self.progress = Progress::Nothing;
+    }
+
+    /// Returns what became of what a client sent, with the bytes that go back.
+    pub(crate) fn answer(&self, out: &mut [u8]) -> Answer
+        ensures { TellsProgress self.now.progress out.old out.new result }
+    {
+        match &self.progress {
+            Progress::Nothing => Answer::plain(code::NOTHING_THERE),
+            Progress::Waiting(_) => Answer::plain(code::ASK_STORE),
+            Progress::Decided(outcome) => outcome.hand_over(out),
+        }
+    }
+
+    /// Returns what to ask the store, if the login waits for one.
+    pub(crate) fn tell_question(
+        &self,
+        alloc: Global,
+        keep_until: &mut Time,
+        buffer: &mut [u8],
+    ) -> Answer
+        ensures { TellsQuestion self.now.progress keep_until.old keep_until.new buffer.old buffer.new result }
+    {
+        match &self.progress {
+            Progress::Waiting(question) => question.tell(alloc, keep_until, buffer),
+            _ => Answer::plain(code::NOT_WAITING),
+        }
     }
 
     /// Returns what was decided, with the bytes that go back.
     pub(crate) fn tell(&self, out: &mut [u8]) -> Answer
-        ensures { TellsOutcome self.now.outcome out.old out.new result }
+        ensures { TellsOutcome (decided_in self.now.progress) out.old out.new result }
     {
-        match &self.outcome {
-            Some(outcome) => outcome.hand_over(out),
-            None => Answer::plain(code::NOTHING_THERE),
+        match &self.progress {
+            Progress::Decided(outcome) => outcome.hand_over(out),
+            _ => Answer::plain(code::NOTHING_THERE),
         }
     }
 
@@ -89,9 +223,9 @@ impl LoginState {
     fn asked(&self) -> Option<&AskedFor>
         ensures { option_copied result ≡ asked_in self.now }
     {
-        match &self.outcome {
-            Some(outcome) => outcome.asked.as_ref(),
-            None => None,
+        match &self.progress {
+            Progress::Decided(outcome) => outcome.asked.as_ref(),
+            _ => None,
         }
     }
 }
@@ -119,6 +253,25 @@ impl Outcome {
         match &self.bytes {
             Some(bytes) => bytes.as_slice(),
             None => &[],
+        }
+    }
+}
+
+// What becomes of a step: it is decided, or what the reply is made with is kept until the store is asked.
+fn progress_of(step: Step, is_full: bool, confounder: &[u8; 16], choice: ReplyOptions) -> Progress
+    ensures { result ≡ progress_of is_full confounder.now choice step }
+{
+    match step {
+        Step::Decided(decision) => {
+            let (outcome, _) = outcome_of(decision, is_full);
+            Progress::Decided(outcome)
+        }
+        Step::Ask(asking) => {
+            Progress::Waiting(Question {
+                asking,
+                confounder: *confounder,
+                choice,
+            })
         }
     }
 }

@@ -1,11 +1,12 @@
 //! A service that accepts requests.
 
 ghost use Rattle.std.specs.Prelude.{◌≡◌, None};
-ghost use Rattle.krb_c.specs.Service.{Decides, IsMomentOf, Remembers, TellsLatest, TellsUsage, Turns, cleared, emptied, latest_of, nothing_kept};
+ghost use Rattle.krb_c.specs.Service.{DecidesAlone, IsMomentOf, Remembers, TellsLatest, TellsUsage, Turns, cleared, emptied, latest_of, nothing_kept};
 ghost use Rattle.krb_c.specs.Answer.{plain};
 ghost use Rattle.krb_c.specs.Codes.{bad_moment, empty_handle};
 ghost use Rattle.krb_c.specs.Login.{AddsRealm};
-ghost use Rattle.krb_c.specs.Options.{Makes, whole};
+ghost use Rattle.krb_c.specs.Options.{Makes};
+ghost use Rattle.krb_c.specs.Sizes.{whole};
 ghost use Rattle.krb_time.specs.Moments.{micros_of};
 ghost use Rattle.krb_c.specs.Renewal.{RenewsHeld};
 ghost use Rattle.std.specs.Option.{MatchOption, option_map};
@@ -77,7 +78,7 @@ pub extern "C" fn fevstunik_acceptor_accept(
         × ((handle.new.value ≡ option_map cleared handle.old.value) × (accepted.new.value ≡ option_map emptied accepted.old.value)) }
     ensures decided { IsMomentOf now.now → Turns accepted.old.value accepted.new.value ((result ≡ plain empty_handle) × (handle.new.value ≡ handle.old.value))
         (λ before kept. Turns handle.old.value handle.new.value ((result ≡ plain empty_handle) × (kept ≡ nothing_kept))
-        (λ old new. Decides old new (arrival request.now (micros_of now.now.seconds now.now.micros)) kept.accepted result)) }
+        (λ old new. DecidesAlone old.is_shared old new (arrival request.now (micros_of now.now.seconds now.now.micros)) kept.accepted result)) }
 {
     let now = match now.moment() {
         Some(now) => now,
@@ -98,13 +99,13 @@ fn decided(
     now: Moment,
 ) -> Answer
     ensures { Turns handle.old.value handle.new.value ((result ≡ plain empty_handle) × (kept.new ≡ nothing_kept))
-        (λ old new. Decides old new (arrival request.now now) kept.new.accepted result) }
+        (λ old new. DecidesAlone old.is_shared old new (arrival request.now now) kept.new.accepted result) }
 {
     let Some(mut state) = take(handle, alloc) else {
         kept.clear();
         return Answer::plain(code::EMPTY_HANDLE);
     };
-    let answer = state.decide(alloc, kept, request, now);
+    let answer = state.accept(alloc, kept, request, now);
     put(handle, state);
     answer
 }
@@ -177,7 +178,7 @@ pub extern "C" fn fevstunik_acceptor_latest(
     with_held!(handle, alloc, state => state.tell_latest(latest))
 }
 
-/// Adds a realm to those of which `fevstunik_service_answer` lets clients in. A service that has none
+/// Adds a realm whose clients `fevstunik_service_answer` lets in. A service that has none
 /// lets in clients of any realm, unless its options say otherwise.
 #[unsafe(no_mangle)]
 pub extern "C" fn fevstunik_acceptor_add_realm(

@@ -1,10 +1,11 @@
 //! What a service is made with: its options, the keys of its keytab and the name that it serves.
 
-ghost use Rattle.std.specs.Prelude.{◌≡◌, ◌*◌, ◌↔◌, ◌<◌, ◌≤◌, Contains, IfErr, IfOk, IsTrue, None, Some, []};
+ghost use Rattle.std.specs.Prelude.{◌≡◌, ◌*◌, ◌↔◌, ◌<◌, ◌≤◌, Contains, IfErr, IfOk, IsTrue, Some, []};
 ghost use Rattle.krb_ap.specs.History.{StandsFor};
+ghost use Rattle.krb_replay.specs.Memory.{empty_memory};
 ghost use Rattle.krb_c.specs.Service.{Serves};
 ghost use Rattle.krb_c.specs.Request.{IsUnnamed};
-ghost use Rattle.krb_c.specs.Options.{AreTerms, IsInvalid, IsLateEnough, IsMade, IsStart, IsStartFault, IsSubkeyType, IsTermsFault, IsUnmade, IsValid, client_limit_of, limit_of, whole};
+ghost use Rattle.krb_c.specs.Options.{AreTerms, IsInvalid, IsLateEnough, IsMade, IsStart, IsStartFault, IsSubkeyType, IsTermsFault, IsUnmade, IsValid, client_limit_of, limit_of};
 ghost use Rattle.krb_c.specs.Renewal.{IsNamed, IsServed, IsUnusable};
 
 use crate::bindings::bindings_of;
@@ -12,6 +13,7 @@ use crate::code;
 use crate::keytab::keytab_of;
 use crate::name::name_of;
 use crate::service_state::ServiceState;
+use crate::sizes::OPTIONS_SIZE;
 use crate::structs::{AcceptorOptions, Answer};
 use krb_ap::Acceptor;
 use krb_keytab::Keytab;
@@ -20,16 +22,12 @@ use krb_msg::Moment;
 use krb_replay::{LimitedMemory, Skew, TimedMemory};
 use std::alloc::Global;
 
-// The size of the options, and of those without terms. A struct of another size belongs to another
-// version of the header.
-const OPTIONS_SIZE: usize = 88;
-
-const FIRST_SIZE: usize = 56;
-
 // How repeats are refused across starts. The header has the numbers under the same names.
 const RESTART_STARTED: u32 = 1;
 
 const RESTART_FIRST_LIFE: u32 = 2;
+
+const RESTART_SHARED: u32 = 3;
 
 // The most requests that are remembered if the options don't say.
 const DEFAULT_LIMIT: usize = 1_000_000;
@@ -56,6 +54,7 @@ pub(crate) fn service_of(
     let state = ServiceState {
         service: Service { acceptor, terms },
         subkey_type: options.subkey_type,
+        is_shared: options.restarts == RESTART_SHARED,
         refusal: None,
     };
     match Box::new(alloc, state) {
@@ -71,7 +70,7 @@ fn acceptor_of(
     memory: LimitedMemory<TimedMemory>,
     start: Option<Moment>,
 ) -> Acceptor<LimitedMemory<TimedMemory>>
-    requires { memory.memory ≡ record { stamps = []; latest = None; unfreed = 0 } }
+    requires { memory.memory ≡ empty_memory }
     ensures setup { result.setup ≡ record { entries = keytab; skew = skew; start = start } }
     ensures memory { result.memory ≡ memory }
     ensures stands { StandsFor result.setup (Contains result.memory.memory.stamps) result.memory.memory.latest [] }
@@ -83,30 +82,6 @@ fn acceptor_of(
 }
 
 impl AcceptorOptions {
-    /// The options that these stand for: a shorter struct has no terms.
-    pub(crate) fn whole(&self) -> AcceptorOptions
-        ensures { result ≡ whole self.now }
-    {
-        if self.size != FIRST_SIZE {
-            return *self;
-        }
-        AcceptorOptions {
-            size: OPTIONS_SIZE,
-            started: self.started,
-            skew: self.skew,
-            restarts: self.restarts,
-            any_name: self.any_name,
-            any_start: self.any_start,
-            limit: self.limit,
-            limit_for_client: self.limit_for_client,
-            bindings: 0,
-            subkey_type: 0,
-            bindings_hash: [0; 16],
-            anonymous: false,
-            only_realms: false,
-        }
-    }
-
     /// What a client that is let in must meet.
     fn terms(&self, alloc: Global) -> Result<Terms, Answer>
         ensures terms { IfOk result (AreTerms self.now) }
@@ -158,7 +133,7 @@ impl AcceptorOptions {
         ensures fault { IfErr result (λ answer. IsStartFault self.now answer) }
     {
         match self.restarts {
-            RESTART_STARTED => match self.started.moment() {
+            RESTART_STARTED | RESTART_SHARED => match self.started.moment() {
                 Some(start) if self.is_late_enough() => Ok(Some(start)),
                 Some(_) => Err(Answer::plain(code::EARLY_START)),
                 None => Err(Answer::plain(code::BAD_MOMENT)),

@@ -3,7 +3,7 @@
 ghost use Rattle.krb_c.specs.Answer.{plain};
 ghost use Rattle.std.specs.Prelude.{IsTrue, List, ℕ, ◌≡◌, ◌↔◌, ◌⊎◌};
 ghost use Rattle.krb_ap.specs.Setup.{arrival};
-ghost use Rattle.krb_c.specs.Service.{Decides, TellsLatest, TellsUsage, accepted_by, cleared, full_of, latest_of, refused_by, told_of, with_refusal};
+ghost use Rattle.krb_c.specs.Service.{Decides, DecidesAlone, TellsLatest, TellsUsage, accepted_by, cleared, full_of, latest_of, refused_by, told_of, with_refusal};
 ghost use Rattle.krb_c.specs.Codes.{ok};
 ghost use Rattle.krb_c.specs.Login.{AddsRealm, IsListed};
 ghost use Rattle.krb_login.specs.Terms.{IsOfRealms};
@@ -31,13 +31,33 @@ pub struct ServiceState {
     pub service: Service<LimitedMemory<TimedMemory>>,
     /// The encryption type of the subkey that a login's reply sends, or 0 for none.
     pub subkey_type: u32,
+    /// Whether it shares a store of stamps, which it asks before it lets a client in.
+    pub is_shared: bool,
     /// Why the last request was refused that `fevstunik_acceptor_accept` was given.
     pub refusal: Option<Refusal>,
 }
 
 impl ServiceState {
-    /// Decides about a request, and keeps what is accepted, or why it is refused.
-    pub(crate) fn decide(
+    /// Decides about a request, unless a store has to be asked.
+    pub(crate) fn accept(
+        &mut self,
+        alloc: Global,
+        kept: &mut AcceptedState,
+        bytes: &[u8],
+        now: Moment,
+    ) -> Answer
+        ensures { DecidesAlone self.old.is_shared self.old self.new (arrival bytes.now now) kept.new.accepted result }
+    {
+        if self.is_shared {
+            self.clear();
+            kept.clear();
+            return Answer::plain(code::SHARED);
+        }
+        self.decide(alloc, kept, bytes, now)
+    }
+
+    // Decides about a request, and keeps what is accepted, or why it is refused.
+    fn decide(
         &mut self,
         alloc: Global,
         kept: &mut AcceptedState,
@@ -94,11 +114,7 @@ impl ServiceState {
     {
         match self.service.acceptor.memory().latest() {
             Some(moment) => {
-                let (second, micros) = moment.parts();
-                *latest = Time {
-                    seconds: second.get(),
-                    micros: micros.get(),
-                };
+                *latest = Time::of(moment);
                 Answer::plain(code::OK)
             }
             None => Answer::plain(code::NOTHING_THERE),

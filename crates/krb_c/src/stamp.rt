@@ -72,14 +72,7 @@ fn stamp_of(alloc: Global, accepted: &Accepted, skew: u32) -> Result<(Vec<u8>, T
         return Err(Answer::plain(code::OUT_OF_MEMORY));
     };
     match tuple.keep_until(skew) {
-        Some(moment) => {
-            let (seconds, micros) = moment.parts();
-            let until = Time {
-                seconds: seconds.get(),
-                micros: micros.get(),
-            };
-            Ok((bytes, until))
-        }
+        Some(moment) => Ok((bytes, Time::of(moment))),
         None => Err(Answer::plain(code::BAD_MOMENT)),
     }
 }

@@ -294,7 +294,9 @@ pub struct ContextChoice {
 pub struct AcceptorOptions {
     /// Sizeof (fevstunik_acceptor_options).
     pub size: usize,
-    /// With FEVSTUNIK_RESTART_STARTED: the service's clock at this start.
+    /// With _RESTART_STARTED: the service's clock at this start; with _RESTART_SHARED: from when on
+    /// the store remembers, and later by the difference of the skews if another service of these
+    /// keys has a larger one, or had.
     pub started: Time,
     /// By how many seconds clocks may differ: up to 86,400; 300 is usual.
     pub skew: u32,
@@ -356,4 +358,48 @@ pub struct Usage {
     pub limit_for_client: usize,
     /// How many requests were answered with FEVSTUNIK_FULL.
     pub full: usize,
+}
+
+/// What both sides agreed on in a login, and how one of them writes and takes messages. A service
+/// has the client's part from fevstunik_accepted_known and its own from its reply, a client has its
+/// own from its request and the service's from fevstunik_finish.
+#[repr(C)]
+#[derive(Clone, Copy)]
+pub struct MessageOptions {
+    /// Which side this is: a fevstunik_role.
+    pub role: u32,
+    /// The encryption type of the session key: 19 or 20.
+    pub session_type: i32,
+    /// That of the client's subkey, or 0 if its request has none.
+    pub client_subkey_type: i32,
+    /// That of the service's subkey, or 0 if its reply has none.
+    pub service_subkey_type: i32,
+    /// The client's first sequence number, or 0 if its request has none.
+    pub client_seq: u32,
+    /// The service's first sequence number, or 0 if its reply has none; if there is no reply, MIT
+    /// krb5 takes the client's.
+    pub service_seq: u32,
+    /// By how many bytes sealed messages are rotated (RRC): 0, as MIT krb5 writes them, or any
+    /// other number.
+    pub rotation: u16,
+    /// Whether messages are taken in any order; otherwise only the next one is taken, and each
+    /// other one refused.
+    pub any_order: bool,
+    /// Whether, with any order, repeats are taken too, and messages that are too old to tell: then
+    /// look at each one's order.
+    pub repeats: bool,
+}
+
+/// What is known of a message that was taken.
+#[repr(C)]
+#[derive(Clone, Copy)]
+pub struct Received {
+    /// Its sequence number.
+    pub number: u64,
+    /// The place of its text in the message; empty if the text isn't inside.
+    pub text: Span,
+    /// How it stands to those before it: a fevstunik_order.
+    pub order: u32,
+    /// Whether the text was encrypted.
+    pub sealed: bool,
 }

@@ -11,5 +11,5 @@ ghost use Rattle.krb_c.specs.Codes.{version};
 pub extern "C" fn fevstunik_version() -> u32
     ensures { result ≡ version }
 {
-    100
+    200
 }

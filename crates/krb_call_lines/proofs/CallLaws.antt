@@ -11,7 +11,7 @@ use Rattle.std.specs.List.{AllPass}
 use Rattle.krb_call_lines.specs.CallLine.{SpellsConfounder, SpellsMessage, SpellsNumber, SpellsRest, SpellsSeconds}
 use Rattle.krb_call_lines.specs.Inner.Moments.{TellsMoment}
 
--- a number only grows with the digits behind it
+-- a number only grows with the digits after it
 pub digits-grow : (number : ℕ) (digits : List ℕ) → number ≤ digits_value_after 10 number digits
 digits-grow number [] = omega arith
 digits-grow number (c ∷ cs) = omega (arith, digits-grow (number * 10 + digit_value c) cs)
@@ -142,7 +142,7 @@ pub alone : (text bytes : List ℕ) (confounder : Option (List ℕ)) → LacksSp
 alone text bytes None none spells = spells
 alone text bytes (Some confounder) none spells = absurd (no_space spells.message_text spells.confounder_text (subst LacksSpace spells.text_is none))
 
--- and one with a space has the text behind the first for one
+-- and one with a space has the text after the first for one
 pub parted : (text front back bytes : List ℕ) (confounder : Option (List ℕ)) → text ≡ front ++ 32 ∷ back → LacksSpace front
     → SpellsRest text bytes confounder → (told : List ℕ) × (SpellsMessage front bytes × SpellsConfounder back told)
 parted text front back bytes None is none spells = absurd (no_space front back (subst LacksSpace is (message_lacks_space text bytes spells)))

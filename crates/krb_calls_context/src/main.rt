@@ -13,7 +13,8 @@
 //! take NUMBER                         how the number stands to those before it
 //! agree KEY KEY KEY NUMBER NUMBER     keeps what both sides agreed on: the session key, the initiator's subkey and the acceptor's, each
 //!                                     ETYPE BYTES (0 - if there is none), the initiator's first number and the acceptor's: kept
-//! context SIDE ROTATION IN_ORDER      keeps this side of what was agreed: kept
+//! context SIDE ROTATION IN_ORDER ONCE keeps this side of what was agreed: kept (IN_ORDER: it takes only the next token; ONCE: it refuses
+//!                                     repeats; each true or false)
 //! send-mic SIZE TEXT                  a MIC token of the side, as `mic`
 //! send SIZE SEALED CONFOUNDER TEXT    a Wrap token of the side, as `seal`
 //! limit SIZE SEALED                   the length of the longest text, or none

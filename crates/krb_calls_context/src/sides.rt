@@ -33,6 +33,7 @@ pub(crate) fn context_of(agreed: &Agreed, words: &mut Words) -> Option<Context> 
     let options = Options {
         rotation: words.next()?.parse::<u16>().ok()?,
         is_in_order: words.next()? == "true",
+        refuses_repeats: words.next()? == "true",
     };
     Some(Context::new(role, agreed, options))
 }

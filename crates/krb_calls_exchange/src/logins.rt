@@ -128,7 +128,7 @@ pub(crate) fn share(logins: &mut Logins, words: &mut Words, out: &mut Answer) ->
     show(&decision, out)
 }
 
-/// A store and a clock of which a line says what they say.
+/// A store and a clock that answer what a line says.
 #[derive(Drop)]
 struct Told {
     said: StoreSays,

@@ -5,12 +5,13 @@ ghost use Rattle.krb_msg.specs.Fields.{reply_fields};
 ghost use Rattle.krb_msg.specs.Owned.{owned_enc_ap_rep_part_of};
 
 use crate::field_words::{show_components, show_list_or_none};
-use crate::taken::enc_ap_rep;
+use crate::taken::{enc_ap_rep, encrypted};
 use crate::types::{self, Type, type_of};
 use crate::writers::show;
 use krb_msg::{
-    AuthenticatorRef, EncApRepPart, EncodeFault, Flags, INVALID, MUTUAL_REQUIRED, Microseconds,
-    Moment, Seconds, TRANSITED_POLICY_CHECKED, TicketRef, USE_SESSION_KEY, laws,
+    ApReqOver, AuthenticatorRef, EncApRepPart, EncodeFault, Flags, INVALID, MUTUAL_REQUIRED,
+    Microseconds, Moment, Seconds, SpelledTicket, TRANSITED_POLICY_CHECKED, TicketRef,
+    USE_SESSION_KEY, laws,
 };
 use krb_words::{Answer, Words};
 use std::alloc::Global;
@@ -22,6 +23,7 @@ use std::cmp::Ordering;
 /// msg parse TYPE BYTES              the fields, or the fault
 /// msg again TYPE BYTES              the bytes of a copy of the message, or the fault
 /// msg write TYPE FIELD..            the bytes of the message with these fields, or the fault
+/// msg over BITS TICKET ETYPE KVNO CIPHER      the bytes of a request over a ticket's bytes, or the fault
 /// msg walk ticket|authenticator BYTES      the components or the authorization data, walked twice
 /// msg flag NAME                     the bits of flags with only this one
 /// msg has BITS NAME                 whether this one is among them
@@ -39,6 +41,7 @@ pub(crate) fn answer(words: &mut Words, out: &mut Answer) -> Option<()> {
             types::again(words.alloc, of, &words.bytes()?, out)
         }
         "write" => write(words, out),
+        "over" => write_over(words, out),
         "walk" => walk(words, out),
         "flag" => out.shown(Flags::only(bit(words.next()?)?).bits()),
         "has" => has(words, out),
@@ -54,6 +57,22 @@ fn write(words: &mut Words, out: &mut Answer) -> Option<()> {
         Type::EncApRep => write_reply(words, out),
         of => types::write(of, words, out),
     }
+}
+
+fn write_over(words: &mut Words, out: &mut Answer) -> Option<()> {
+    let options = Flags(words.uint32()?);
+    let bytes = words.bytes()?;
+    let authenticator = encrypted(words)?;
+    let ticket = match SpelledTicket::parse(&bytes) {
+        Ok(ticket) => ticket,
+        Err(fault) => return out.shown(fault),
+    };
+    let request = ApReqOver {
+        options,
+        ticket,
+        authenticator,
+    };
+    show(request.encode(words.alloc), out)
 }
 
 fn write_reply(words: &mut Words, out: &mut Answer) -> Option<()> {

@@ -1,9 +1,10 @@
 //! Tokens of the GSS-API.
 
 use krb_gss::{
-    Answer as ServiceAnswer, Answered, Checksum, ContextFlag, ContextFlags, Mechanism, Negotiation,
-    Opened, Taken, Verdict, Wrapping, open_answer, open_token, read_verdict, wrap_answer,
-    wrap_later, wrap_request, wrap_verdict,
+    Answer as ServiceAnswer, Answered, Checked, Checksum, ContextFlag, ContextFlags, Mechanism,
+    Negotiation, Opened, Reply, Taken, Verdict, Wrapping, later_mic, open_answer, open_later,
+    open_listing, open_token, read_verdict, wrap_answer, wrap_checked, wrap_later, wrap_request,
+    wrap_request_mic, wrap_verdict,
 };
 use krb_words::{Answer, Words, bytes_of};
 use std::fmt::Display;
@@ -34,6 +35,12 @@ const FLAGS: [ContextFlag; 6] = [
 /// gss said (completed [NAME]|incomplete NAME|rejected)
 ///                      the service's answer without a token
 /// gss verdict BYTES    what such an answer says: `completed`, `incomplete` or `rejected`, and the NAME if there is one; or `none`
+/// gss listing BYTES    a client's first token that names Kerberos after another mechanism: the NAME and the list; or `none`
+/// gss continued BYTES  a client's later token: the NAME and the REQUEST
+/// gss mic BYTES        the mechListMIC of a client's later message, or `none`
+/// gss request-mic NAME the service's answer that asks for a token and a mechListMIC
+/// gss checked (completed|incomplete) (NAME REPLY|none) MIC
+///                      the service's later answer with a mechListMIC
 /// gss checksum BYTES   an authenticator's checksum: `FLAGS BINDINGS DELEGATION EXTENSIONS` and the names of the flags that are set; the
 ///                      delegation is `none` if there is none
 /// gss encode FLAGS BINDINGS DELEGATION EXTENSIONS
@@ -52,6 +59,11 @@ pub(crate) fn answer(words: &mut Words, out: &mut Answer) -> Option<()> {
         "later" => later(words, out),
         "said" => said(words, out),
         "verdict" => verdict(words, out),
+        "listing" => listing(words, out),
+        "continued" => continued(words, out),
+        "mic" => mic(words, out),
+        "request-mic" => request_mic(words, out),
+        "checked" => checked(words, out),
         "checksum" => checksum(words, out),
         "encode" => encode(words, out),
         "bindings" => bindings(words, out),
@@ -226,6 +238,76 @@ fn show_token<F: Display + Drop>(token: Result<Vec<u8>, F>, out: &mut Answer) ->
         Ok(token) => out.bytes(&token),
         Err(fault) => refused(fault, out),
     }
+}
+
+fn listing(words: &mut Words, out: &mut Answer) -> Option<()> {
+    match open_listing(&words.bytes()?) {
+        Some(listing) => {
+            out.named(listing.mechanism)?;
+            out.bytes(listing.list)
+        }
+        None => out.word("none"),
+    }
+}
+
+fn continued(words: &mut Words, out: &mut Answer) -> Option<()> {
+    match open_later(&words.bytes()?) {
+        Ok(later) => {
+            out.named(later.mechanism)?;
+            out.bytes(later.request)
+        }
+        Err(fault) => refused(fault, out),
+    }
+}
+
+fn mic(words: &mut Words, out: &mut Answer) -> Option<()> {
+    match later_mic(&words.bytes()?) {
+        Ok(Some(mic)) => out.bytes(mic),
+        Ok(None) => out.word("none"),
+        Err(fault) => refused(fault, out),
+    }
+}
+
+fn request_mic(words: &mut Words, out: &mut Answer) -> Option<()> {
+    match wrap_request_mic(words.alloc, mechanism(words)?) {
+        Ok(token) => out.bytes(&token),
+        Err(_) => out.word("memory"),
+    }
+}
+
+fn checked(words: &mut Words, out: &mut Answer) -> Option<()> {
+    let is_completed = match words.next()? {
+        "completed" => true,
+        "incomplete" => false,
+        _ => return None,
+    };
+    match words.next()? {
+        "none" => show_checked(words, is_completed, None, out),
+        name => {
+            let mechanism = mechanism_of(name)?;
+            let message = words.bytes()?;
+            let reply = Reply {
+                mechanism,
+                message: &message,
+            };
+            show_checked(words, is_completed, Some(reply), out)
+        }
+    }
+}
+
+fn show_checked(
+    words: &mut Words,
+    is_completed: bool,
+    reply: Option<Reply>,
+    out: &mut Answer,
+) -> Option<()> {
+    let mic = words.bytes()?;
+    let checked = Checked {
+        is_completed,
+        reply,
+        mic: &mic,
+    };
+    show_token(wrap_checked(words.alloc, checked), out)
 }
 
 fn checksum(words: &mut Words, out: &mut Answer) -> Option<()> {

@@ -25,7 +25,7 @@ pub nothing_made : {X : Type 0} (o : Option (X × Place)) → (o >>= λ x. Some 
 nothing_made None = refl
 nothing_made (Some x) = refl
 
--- ---- one behind the other
+-- ---- one after the other
 
 pub IsField-then : {X Y : Type 0} {read_one : Place → Option (X × Place)} {bytes_one : X → List ℕ} {IsOne : X → Type 0} {read_other : X → Place → Option (Y × Place)} {bytes_other : Y → List ℕ} {IsOther : X → Y → Type 0} → IsField read_one bytes_one IsOne → ((x : X) → IsField (read_other x) bytes_other (IsOther x))
     → IsField (then_at read_one read_other) (λ x. bytes_one x.0 ++ bytes_other x.1) (λ x. IsOne x.0 × IsOther x.0 x.1)

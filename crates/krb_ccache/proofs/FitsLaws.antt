@@ -13,7 +13,7 @@ one_more P xs i x all lt e p = All-more P xs i x lt all (subst P e p)
 pub all_seen : {X : Type 0} (P : X → Type 0) (xs : List X) (i : ℕ) → All P (take i xs) → length xs ≤ i → All P xs
 all_seen P xs i all le = subst (All P) (take_all i xs le) all
 
--- one more is spelled behind those before
+-- one more is spelled after those before
 pub spelled_more : {X : Type 0} (spelled : X → List ℕ) (xs : List X) (i : ℕ) (x : X) → i < length xs → x ≡ get_or xs i x → flat_map spelled (take (i + 1) xs) ≡ flat_map spelled (take i xs) ++ spelled x
 spelled_more {X = X} spelled xs i x lt e =
     ap (flat_map spelled) (take_more xs i x lt ∙ ap (λ (y : X). take i xs ++ y ∷ []) (sym e)) ∙ flat_map-append spelled (take i xs) (x ∷ []) ∙ ap (λ (t : List ℕ). flat_map spelled (take i xs) ++ t) (append-nil (spelled x))

@@ -55,7 +55,7 @@ filled body place fields short reaches end =
     let whole : body ≡ fields_bytes fields = reaches.takes.parts ∙ ap (λ (t : List ℕ). fields_bytes fields ++ t) end ∙ append-nil (fields_bytes fields) in
     record { fits = fields_fit fields reaches.fit (subst Short16 whole short); whole = whole }
 
--- fields that fill the bytes leave none behind those that were read
+-- fields that fill the bytes leave none after those that were read
 pub filled_same : (body : List ℕ) (place : Place) (fields : List HeaderField) → Reaches field_bytes FitsField (record { at = 0; rest = body }) fields place → (place.rest ≡ []) ⊎ IsMissing field_bytes FitsField place.rest
     → (header : List HeaderField) → Fills body header → place.rest ≡ []
 filled_same body place fields reaches end header fills =

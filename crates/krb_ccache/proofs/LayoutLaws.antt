@@ -86,7 +86,7 @@ module _ (layout : Layout) where
     pub reached_at : at ≡ length front_of
     reached_at = omega (arith, r.at_is, length-append (start_bytes layout cache.header) (name_bytes cache.default_principal ++ flat_map bytes_of r.spelled), length-append (name_bytes cache.default_principal) (flat_map bytes_of r.spelled))
 
-    -- with other bytes behind
+    -- with other bytes after them
     pub reached_too : (others all : List ℕ) → all ≡ front_of ++ others → IsReached layout all at cache others
     reached_too others all is = record {
       header_fits = r.header_fits;
@@ -102,7 +102,7 @@ module _ (layout : Layout) where
     reached_within = omega (arith, reached_at, ap length reached_bytes, length-append front_of behind)
 
   module _ (bytes : List ℕ) (at : ℕ) (cache : Cache) (r : IsReached layout bytes at cache []) where
-    -- where nothing is behind, these are all bytes
+    -- if nothing follows, these are all bytes
     pub reached_all : bytes ≡ front_of bytes at cache [] r
     reached_all = reached_bytes bytes at cache [] r ∙ append-nil (front_of bytes at cache [] r)
 

@@ -70,7 +70,7 @@ one_stop bytes one other p q =
 -- ---- a reader
 
 module _ {S : Type 0} (left : S → Option (List ℕ)) where
-  -- bytes behind those that came before
+  -- bytes after those that came before
   given : (from : Option (List ℕ)) (old new : AtHand S) (before bytes : List ℕ) → Consumes from (left old.source) before → old.given ≡ length before → Gives left old new bytes → new.given ≤ file_limit + 1
       → (new.given ≤ file_limit → IsAtEnd (left new.source)) → IsGiven from (left new.source) (before ++ bytes)
   given from old new before bytes taken at g one_past end = record {
@@ -109,13 +109,13 @@ module _ {S : Type 0} (left : S → Option (List ℕ)) where
       (λ bytes within total is missing. subst (IsFaultOf bytes) (sym is) (record { limit = within; missing = λ layout others e. missing layout others tt e }))
 
   module _ (layout : Layout) where
-    -- behind the version
+    -- after the version
     pub header_fault : (old middle new : AtHand S) (told : CacheFault) → old.given ≡ 0 → Comes version_of Any left old middle layout → Misses (head_bytes layout) (FitsHead layout) left middle new Header told → GaveFault (left old.source) (left new.source) told
     header_fault old middle new told start v m memory read =
         faulty (head_bytes layout) (FitsHead layout) (left old.source) middle new (version_of layout) Header told v.consumed (omega (arith, start, v.given)) m memory read
         (λ bytes within total is missing. subst (IsFaultOf (version_of layout ++ bytes)) (sym is) (record { limit = within; layout = layout; behind = bytes; bytes_are = refl; missing = λ header others p e. missing header others p e }))
 
-    -- behind the header
+    -- after the header
     pub name_fault : (old first middle new : AtHand S) (header : List HeaderField) (fault told : CacheFault) → old.given ≡ 0 → Comes version_of Any left old first layout → Comes (head_bytes layout) (FitsHead layout) left first middle header
         → Misses name_bytes FitsName left middle new fault told → fault ≡ BadItem middle.given → GaveFault (left old.source) (left new.source) told
     name_fault old first middle new header fault told start v h m place memory read =

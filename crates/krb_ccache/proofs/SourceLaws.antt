@@ -31,7 +31,7 @@ same_answers whole bytes to answer g =
       | inr long ↦ (long_answer whole bytes answer long.1 long.0, long_answer bytes whole answer long.0 long.1)
     ]
 
--- ---- what a source gave, told of all the bytes that were to come
+-- ---- what a source gave, as a part of all the bytes that were to come
 
 pub answer_of_whole : (whole bytes : List ℕ) (to : Option (List ℕ)) (answer : Result Cache CacheFault) → IsGiven (Some whole) to bytes → IsAnswerOf bytes answer → IsAnswerOf whole answer
 answer_of_whole whole bytes to answer g = (same_answers whole bytes to answer g).1

@@ -202,7 +202,7 @@ module _ (Within : Hand → Type 0) (Lacks : TakeFault → Hand → ℕ → Type
         goes_same Within _ _ _ _ old new (same_then (left_at strict left) _ _ byte_passed) (both_tested (is_flag byte))
         (goes_guarded Within passes (skip_at left.skip) (pass_number w8 tested) (tested byte) old new (number_goes Within w8 left.skip tested old new byte t is))
 
-    -- so many bytes, of which none is taken yet
+    -- so many bytes, none of them taken yet
     pub size_goes : (size : ℕ) (old : Hand) → length old.bytes ≤ old.peak → Within old → (p : Pass) → Same p (skip_at size) → Goes (and_then (left_at strict left) p) (left_at strict (behind_part (left.skip + size))) Within old old
     size_goes size old peak within p e =
         goes_same Within _ _ _ _ old old

@@ -58,7 +58,7 @@ pub record HasRead {S : Type 0} (left : S → Option (List ℕ)) (from : Option 
   pub going : reader.ended ≡ None
   pub taken : HasTaken reader.layout from (left reader.source) reader.given cache
 
--- the source gave some bytes, of which at most all were held at once
+-- the source gave some bytes, and at most all of them were held at once
 pub record Gave {S : Type 0} (from to : Option (List ℕ)) (old new : Reading S) : Type 0 where
   pub bytes : List ℕ
   pub taken : Consumes from to bytes

@@ -81,7 +81,7 @@ pub fn a_reader_stops_in_one_place()
 {}
 
 /// States that the credentials that a reader has read, returned or passed over, are the first ones
-/// of the cache, wherever the reader is, if its source tells its bytes and these are a cache.
+/// of the cache, wherever the reader is, if what its source gives is known and is a cache.
 pub fn a_reader_gives_the_first_credentials()
     ensures { (whole : List ℕ) (left : Option (List ℕ)) (layout : Layout) (at : ℕ) (cache all : Cache)
         → HasTaken layout (Some whole) left at cache → IsCache whole all → IsFirstOf cache all }

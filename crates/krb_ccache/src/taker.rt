@@ -71,7 +71,7 @@ impl<S: Source> Taker for Window<S> {
     }
 }
 
-/// Bytes in memory, of which the first were taken.
+/// Bytes in memory, and how many of them were taken.
 #[derive(Drop)]
 pub(crate) struct Passing<'a> {
     bytes: &'a [u8],

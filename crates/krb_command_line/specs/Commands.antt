@@ -58,6 +58,12 @@ kvno = number 4_294_967_295 (option (codes "kvno"))
 abbrev pub file : Rule
 file = excluding_another (option (codes "file"))
 
+abbrev pub keytab : Rule
+keytab = option (codes "keytab")
+
+abbrev pub at : Rule
+at = needing_another (number 253_402_300_799 (option (codes "at")))
+
 abbrev pub out : Rule
 out = option (codes "out")
 
@@ -122,7 +128,7 @@ abbrev pub finish : Entry
 finish = record { name = codes "finish"; arguments = FILE ∷ SERVICE ∷ time ∷ usec ∷ reply ∷ [] }
 
 abbrev pub explain : Entry
-explain = record { name = codes "explain"; arguments = MESSAGE ∷ file ∷ [] }
+explain = record { name = codes "explain"; arguments = MESSAGE ∷ file ∷ keytab ∷ at ∷ skew ∷ only ∷ [] }
 
 abbrev pub file_commands : List Entry
 file_commands = list_keytab ∷ list_ccache ∷ check_keytab ∷ check_ccache ∷ convert_keytab ∷ convert_ccache ∷ pick_key ∷ remove_key ∷ add_keys ∷ []
@@ -148,4 +154,4 @@ asked (AddKeys words) = (add_keys, word words.keytab ∷ word words.from ∷ opt
 asked (Request words) = (request, word words.file ∷ word words.service ∷ word words.time ∷ word words.usec ∷ word words.confounder ∷ given words.mutual ∷ optional words.token ∷ [])
 asked (Accept words) = (accept, word words.keytab ∷ word words.skew ∷ optional words.started ∷ optional words.service ∷ optional words.only ∷ given words.tokens ∷ [])
 asked (Finish words) = (finish, word words.file ∷ word words.service ∷ word words.time ∷ word words.usec ∷ word words.reply ∷ [])
-asked (Explain words) = (explain, optional words.message ∷ optional words.file ∷ [])
+asked (Explain words) = (explain, optional words.message ∷ optional words.file ∷ optional words.keytab ∷ optional words.at ∷ word words.skew ∷ optional words.only ∷ [])

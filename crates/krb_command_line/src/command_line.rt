@@ -78,7 +78,8 @@ pub enum Command<'a> {
     /// `finish FILE SERVICE --time SECONDS --usec MICROSECONDS --reply HEX`: reads the reply to a
     /// request that was built with a credential cache, and says what client and service agree on.
     Finish(FinishWords<'a>),
-    /// `explain [MESSAGE] [--file FILE]`: says what is in a message or a token, for people.
+    /// `explain [MESSAGE] [--file FILE] [--keytab FILE [--at SECONDS]] [--skew SECONDS] [--only NAME]`:
+    /// says what is in a message or a token, for people.
     Explain(ExplainWords<'a>),
 }
 
@@ -136,6 +137,17 @@ pub struct ExplainWords<'a> {
     pub message: Option<&'a str>,
     /// `--file FILE`: Reads the message from this file, as text. It can't be given beside MESSAGE.
     pub file: Option<&'a str>,
+    /// `--keytab FILE`: Looks at a request as a service with this keytab does: what the ticket and
+    /// the authenticator say, and why it is refused.
+    pub keytab: Option<&'a str>,
+    /// `--at SECONDS`: When the request arrives by the service's clock, in seconds since
+    /// 1970-01-01: 0 to 253402300799; the machine's clock if left out. Needs --keytab.
+    pub at: Option<&'a str>,
+    /// `--skew SECONDS`: By how many seconds clocks may differ: 0 to 86400.
+    pub skew: &'a str,
+    /// `--only NAME`: The one name for which requests are accepted; those for other names of the
+    /// keytab are refused as `NotUs`.
+    pub only: Option<&'a str>,
 }
 
 /// The words of `finish`.

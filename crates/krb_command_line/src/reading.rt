@@ -169,7 +169,18 @@ fn explain_of<'a>(matches: &ArgMatches<'a>) -> Option<Command<'a>>
 {
     let message = option_of(matches, "MESSAGE");
     let file = option_of(matches, "file");
-    Some(Command::Explain(ExplainWords { message, file }))
+    let keytab = option_of(matches, "keytab");
+    let at = option_of(matches, "at");
+    let skew = word_of(matches, "skew")?;
+    let only = option_of(matches, "only");
+    Some(Command::Explain(ExplainWords {
+        message,
+        file,
+        keytab,
+        at,
+        skew,
+        only,
+    }))
 }
 
 /// What a command of this name has of the matches.

@@ -8,7 +8,7 @@ use crate::commands::Row;
 
 pub(crate) const ABOUT: &str = "Kerberos 5 keytabs, credential caches and AP exchange";
 
-pub(crate) const VERSION: &str = "0.1.0";
+pub(crate) const VERSION: &str = "0.2.0";
 
 const KEYTAB_FILE: Argument<'static> = Argument {
     name: "FILE",
@@ -143,6 +143,20 @@ const MESSAGE_FILE: Argument<'static> = Argument {
     help: "Reads the message from this file, as text. It can't be given beside MESSAGE",
 };
 
+const EXPLAIN_KEYTAB: Argument<'static> = Argument {
+    name: "keytab",
+    kind: Free,
+    greatest: None,
+    help: "Looks at a request as a service with this keytab does: what the ticket and the authenticator say, and why it is refused",
+};
+
+const AT: Argument<'static> = Argument {
+    name: "at",
+    kind: With("keytab"),
+    greatest: Some(253_402_300_799),
+    help: "When the request arrives by the service's clock, in seconds since 1970-01-01: 0 to 253402300799; the machine's clock if left out. Needs --keytab",
+};
+
 const OUT: Argument<'static> = Argument {
     name: "out",
     kind: Free,
@@ -248,7 +262,7 @@ pub(crate) static FILE_COMMANDS: [Row<'static>; 9] = [
         name: "pick-key",
         about: "Prints the entry of a keytab whose key would open a ticket",
         arguments: &[KEYTAB, NAME, ETYPE, KVNO],
-        end: "Prints the entry's line: 'KVNO ENCTYPE TIMESTAMP PRINCIPAL'. If no entry is picked, the fault says why: NoName, NoKey or NoVersion.\n\nExit status: 0 success; 1 the file is faulty, or no entry is picked; 2 the command line is wrong; 3 a file or standard stream can't be opened, read or written, or memory ran out",
+        end: "Prints the entry's line: 'KVNO ENCTYPE TIMESTAMP PRINCIPAL'. If no entry is picked, the fault says why: NoName, NoKey or NoVersion. An entry of another type than 19 and 20 is picked by the same rule; its line is printed, and then the fault UnusableType, since no ticket can be opened with its key.\n\nExit status: 0 success; 1 the file is faulty, no entry is picked, or its type isn't usable; 2 the command line is wrong; 3 a file or standard stream can't be opened, read or written, or memory ran out",
     },
     Row {
         name: "remove-key",
@@ -287,7 +301,7 @@ pub(crate) static MESSAGE_COMMANDS: [Row<'static>; 4] = [
     Row {
         name: "explain",
         about: "Says what is in a message or a token, for people",
-        arguments: &[MESSAGE, MESSAGE_FILE],
-        end: "Prints a page, also of bytes that are no message: its lines say which token, request, reply or error they are, and what it has that isn't encrypted: names, options, encryption types, version numbers, sizes, times, an error's code and text. The message isn't checked, and no key is used.\n\nExit status: 0 success; 1 the text doesn't spell bytes, or it is too long; 2 the command line is wrong; 3 a file or standard stream can't be opened, read or written, or memory ran out",
+        arguments: &[MESSAGE, MESSAGE_FILE, EXPLAIN_KEYTAB, AT, SKEW, ONLY],
+        end: "Prints a page, also of bytes that are no message: its lines say which token, request, reply or error they are, and what it has that isn't encrypted: names, options, encryption types, version numbers, sizes, times, an error's code and text. Without --keytab, the message isn't checked, and no key is used.\nWith --keytab, more lines say which entry of the keytab is picked, or why none is; what the ticket and the authenticator say, as far as they open; and the first cause for which a service refuses the request that has seen nothing before, and those that would follow, each with what to look at. --skew is by how much clocks may differ, and --only is the name of a service that takes no other. Without --keytab, neither is used. A service that takes no tokens refuses one as 'MessageType': the request inside is looked at.\n\nExit status: 0 success; 1 the text doesn't spell bytes, or it is too long; or the keytab is faulty; 2 the command line is wrong; 3 a file or standard stream can't be opened, read or written, or memory ran out",
     },
 ];

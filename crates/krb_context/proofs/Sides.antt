@@ -1,5 +1,5 @@
 -- What a side of a context sends, takes and refuses.
-use Rattle.std.proofs.Common.{◌≡◌, ◌∙◌, ◌<◌, ◌≤◌, ◌+◌, ◌-◌, ℕ, List, ◌++◌, Bool, true, false, length, Option, Some, None, Ok, Err, Result, refl, ap, subst, arith}
+use Rattle.std.proofs.Common.{◌≡◌, ◌∙◌, ◌<◌, ◌≤◌, ◌+◌, ◌-◌, ◌^◌, ℕ, List, ◌++◌, Bool, true, false, length, Option, Some, None, Ok, Err, Result, refl, sym, ap, subst, arith}
 use Rattle.std.specs.Prelude.{IsOk, IsErr, IfOk, IfErr, IfSome, IsNone, SomeIff, ◌↔◌}
 use Rattle.std.proofs.lemmas.List.{length-append}
 use Rattle.krb_enc.specs.Key.{profile_of}
@@ -8,15 +8,16 @@ use Rattle.krb_enc.specs.Written.{IsWritten}
 use Rattle.krb_enc.specs.declared.fault.ShortSlice.{ShortSlice}
 use Rattle.krb_enc.proofs.KeyLaws.{known_profile, length-sealed}
 use Rattle.krb_enc.proofs.Tags.{length-checksum_of}
-use Rattle.krb_context.specs.Side.{Sender, flags_of, seal_usage, peer_sender}
-use Rattle.krb_context.specs.Mic.{IsMic}
-use Rattle.krb_context.specs.Wrap.{IsWrap, wrap_token, wrap_overhead, wrap_header, wrap_checksum}
+use Rattle.krb_context.specs.Side.{Sender, flags_of, seal_usage, sign_usage, peer_sender}
+use Rattle.krb_context.specs.Mic.{IsMic, mic_header}
+use Rattle.krb_context.specs.Wrap.{IsInPlain, IsSealed, IsWrap, wrap_token, wrap_overhead, wrap_header, wrap_checksum}
 use Rattle.krb_context.specs.Context.{State, IsSent, IsOutOfOrder, IsMicRefusal, IsWrapRefusal, number_after}
 use Rattle.krb_context.specs.declared.fault.SendFault.{SendFault}
 use Rattle.krb_context.specs.declared.fault.SendFault.TheVariants.{ShortSlice as TooShort}
 use Rattle.krb_context.specs.declared.fault.ReceiveFault.{ReceiveFault}
 use Rattle.krb_context.specs.declared.fault.ReceiveFault.TheVariants.{NotAccepted, OutOfOrder}
 use Rattle.krb_context.proofs.Rotations.{length-rotated}
+use Rattle.krb_context.proofs.Wraps.{tag_lens}
 
 -- how long a Wrap token is
 pub length-wrap_token : (sender : Sender) (is_sealed : Bool) (rotation : ℕ) (confounder : List ℕ) (number : ℕ) (text : List ℕ) → length confounder ≡ 16
@@ -35,6 +36,43 @@ length-wrap_token sender false rotation confounder number text is =
       arith,
       length-append text (wrap_checksum sender flags number text),
       length-checksum_of p sender.key.bytes (seal_usage sender.side) (text ++ wrap_header flags 0 0 number) (known_profile sender.key),
+    )
+
+-- how long a token of a text is
+pub length-mic : (sender : Sender) (number : ℕ) (text token : List ℕ) → IsMic sender number text token → length token ≡ 16 + (profile_of sender.key).tag_len
+length-mic sender number text token it = omega (
+  arith,
+  ap (λ (t : List ℕ). length t) it.whole,
+  length-checksum_of (profile_of sender.key) sender.key.bytes (sign_usage sender.side) (text ++ mic_header it.flags number) (known_profile sender.key),
+)
+
+pub length-plain : (sender : Sender) (number : ℕ) (text token : List ℕ) → IsInPlain sender number text token
+    → length token ≡ 16 + length text + (profile_of sender.key).tag_len
+length-plain sender number text token it =
+    let p = profile_of sender.key in
+    let tag : List ℕ = wrap_checksum sender it.flags number text in
+    let tag_size : length tag ≡ p.tag_len = length-checksum_of p sender.key.bytes (seal_usage sender.side) (text ++ wrap_header it.flags 0 0 number) (known_profile sender.key) in
+    let size = length-append text tag in
+    let some : 0 < length (text ++ tag) = omega (arith, size, tag_size, (tag_lens p (known_profile sender.key)).0) in
+    omega (arith, ap (λ (t : List ℕ). length t) it.whole, length-rotated it.rotation (text ++ tag) some, size, tag_size)
+
+pub length-sealed_token : (sender : Sender) (number : ℕ) (text token : List ℕ) (it : IsSealed sender number text token)
+    → length token ≡ 48 + length text + length it.filler + (profile_of sender.key).tag_len
+length-sealed_token sender number text token it =
+    let p = profile_of sender.key in
+    let header : List ℕ = wrap_header it.flags (length it.filler) 0 number in
+    let plain : List ℕ = text ++ (it.filler ++ header) in
+    let size : length it.body ≡ 16 + length plain + p.tag_len =
+    sym (ap (λ (t : List ℕ). length t) it.opens.sealed_is)
+    ∙ length-sealed p sender.key.bytes (seal_usage sender.side) it.opens.confounder plain (known_profile sender.key) it.opens.is_block.size in
+    let some : 0 < length it.body = omega (arith, size) in
+    omega (
+      arith,
+      ap (λ (t : List ℕ). length t) it.whole,
+      length-rotated it.rotation it.body some,
+      size,
+      length-append text (it.filler ++ header),
+      length-append it.filler header,
     )
 
 some_is_none : (n : ℕ) → IsNone (Some n) → ⊥
@@ -100,20 +138,24 @@ pub sent : (token_of : ℕ → List ℕ) (old new : State) (number : ℕ) (befor
     → old.next ≡ Some number → IsWritten ShortSlice (λ needed. record { needed = needed }) (token_of number) before after made
     → IfOk made (λ size. (result ≡ Ok size) × (new ≡ record old { next = number_after number }))
     → IfErr made (λ short. (result ≡ Err (TooShort short.needed)) × (new ≡ old))
-    → IsSent token_of old new before after result
-sent token_of old new number before after (Ok size) result is w ok err = record {
+    → number < 2 ^ 64 → old.options.rotation < 2 ^ 16 → IsSent token_of old new before after result
+sent token_of old new number before after (Ok size) result is w ok err fits rotation_fits = record {
   written = λ other same. subst (λ (n : ℕ). IsWritten SendFault TooShort (token_of n) before after result) (same_some old.next number other is same)
       (written_or_short (token_of number) before after (Ok size) result w ok.0 tt);
   counted = λ other same _. ok.1 ∙ ap (λ (n : ℕ). record old { next = number_after n }) (same_some old.next number other is same);
   used_up = λ none. absurd (some_or_none old.next number is none);
   stays = λ err. absurd (ok_is_no_err size result ok.0 err);
+  fits = λ other same. subst (λ (n : ℕ). n < 2 ^ 64) (same_some old.next number other is same) fits;
+  rotation_fits = rotation_fits;
 }
-sent token_of old new number before after (Err short) result is w ok err = record {
+sent token_of old new number before after (Err short) result is w ok err fits rotation_fits = record {
   written = λ other same. subst (λ (n : ℕ). IsWritten SendFault TooShort (token_of n) before after result) (same_some old.next number other is same)
       (written_or_short (token_of number) before after (Err short) result w tt err.0);
   counted = λ other same ok. absurd (err_is_no_ok (TooShort short.needed) result err.0 ok);
   used_up = λ none. absurd (some_or_none old.next number is none);
   stays = λ _. err.1;
+  fits = λ other same. subst (λ (n : ℕ). n < 2 ^ 64) (same_some old.next number other is same) fits;
+  rotation_fits = rotation_fits;
 }
 
 pub not_next_mic : (state : State) (number : ℕ) (text token : List ℕ) → IsMic (peer_sender state.sender) number text token → (fault : ReceiveFault)

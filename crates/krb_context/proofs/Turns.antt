@@ -1,12 +1,16 @@
 -- The next token that one side sends and the other takes.
-use Rattle.std.proofs.Common.{◌≡◌, ◌∙◌, ◌⊎◌, ◌<◌, ◌+◌, ◌^◌, ℕ, List, ◌∷◌, Bool, length, Some, None, sym, ap, subst, add-one, arith}
-use Rattle.std.specs.Prelude.{All, if◌then◌else◌}
+use Rattle.std.proofs.Common.{◌≡◌, ◌∙◌, ◌⊎◌, ◌<◌, ◌+◌, ◌^◌, ℕ, List, ◌∷◌, Bool, length, Some, None, inl, inr, ⊎_elim, sym, ap, subst, add-one, arith}
+use Rattle.std.specs.Prelude.{All, Contains, IsTrue, if◌then◌else◌}
 use Rattle.std.proofs.lemmas.Bool.{lt-ltb}
-use Rattle.krb_context.specs.Side.{Sender, peer_sender}
+use Rattle.krb_context.specs.Side.{Sender, peer_of, peer_sender}
 use Rattle.krb_context.specs.Mic.{IsMic, mic_token}
 use Rattle.krb_context.specs.Wrap.{IsWrap, wrap_token}
-use Rattle.krb_context.specs.Sequence.{Stands, sent_numbers}
-use Rattle.krb_context.specs.Context.{State, HasOrder, IsNextFor, IsOutOfOrder, Takes, number_after}
+use Rattle.krb_context.specs.Sequence.{IsNew, Stands, sent_numbers}
+use Rattle.krb_context.specs.Context.{State, HasOrder, IsBegun, IsNextFor, IsOutOfOrder, IsRefusedBy, Takes, first_of, number_after}
+use Rattle.krb_context.specs.declared.agreed.Agreed.{Agreed}
+use Rattle.krb_context.specs.declared.agreed.Options.{Options}
+use Rattle.krb_context.specs.declared.role.Role.{Role}
+use Rattle.krb_context.specs.declared.role.Role.TheVariants.{Initiator, Acceptor}
 use Rattle.krb_context.specs.declared.order.Order.{Order}
 use Rattle.krb_context.specs.declared.order.Order.TheVariants.{Next, Repeat, Old}
 use Rattle.krb_context.specs.declared.fault.ReceiveFault.{ReceiveFault}
@@ -30,9 +34,20 @@ pub next_order : (from to : State) (first count : ℕ) (order : Order) → IsNex
 next_order from to first count order next has =
     one_order first (sent_numbers first count) (first + count) order Next (has first (sent_numbers first count) next.took) (in_order first count)
 
+none_more : (n : ℕ) → n + 0 ≡ n
+none_more n = omega arith
+
+-- the next one is refused by no options
+next_is_new : (order : Order) → order ≡ Next → IsNew order
+next_is_new order next = ((λ is. cc), (λ is. cc))
+
+next_is_taken : (options : Options) (order : Order) → order ≡ Next → IsRefusedBy options order → ⊥
+next_is_taken options order next (inl it) = it.1 next
+next_is_taken options order next (inr it) = it.1 (next_is_new order next)
+
 pub not_refused : (from to : State) (first count : ℕ) (fault : ReceiveFault) → IsNextFor from to first count → IsOutOfOrder to (first + count) fault → ⊥
 not_refused from to first count (NotAccepted fault) next it = it
-not_refused from to first count (OutOfOrder order) next it = it.1 (next_order from to first count order next it.2)
+not_refused from to first count (OutOfOrder order) next it = next_is_taken to.options order (next_order from to first count order next it.1) it.0
 
 pub taken_again : (from to after : State) (first count : ℕ) (order : Order) → IsNextFor from to first count → Takes to (first + count) Next after
     → HasOrder after.window (first + count) order → (order ≡ Repeat) ⊎ (order ≡ Old)
@@ -54,3 +69,27 @@ goes_on from to after first count next takes fits =
       rotation_fits = next.rotation_fits;
       took = subst (λ (n : ℕ). Stands after.window first (sent_numbers first n)) (sym (add-one count)) (takes.taken first (sent_numbers first count) next.took);
     }
+
+-- ---- what both sides agreed on, each by its side
+pub begin_in_step : (agreed : Agreed) (side : Role) (from to : State) → IsBegun agreed side from → IsBegun agreed (peer_of side) to
+    → IsNextFor from to (first_of agreed side) 0
+begin_in_step agreed Initiator from to one other = record {
+  sender_is = one.sender_is ∙ sym (ap peer_sender other.sender_is);
+  next_is = one.next_is ∙ ap (λ (n : ℕ). Some n) (sym (none_more (first_of agreed Initiator)));
+  fits = subst (λ (n : ℕ). n < 2 ^ 64) (sym (none_more (first_of agreed Initiator))) one.fits;
+  rotation_fits = one.rotation_fits;
+  took = other.took;
+}
+begin_in_step agreed Acceptor from to one other = record {
+  sender_is = one.sender_is ∙ sym (ap peer_sender other.sender_is);
+  next_is = one.next_is ∙ ap (λ (n : ℕ). Some n) (sym (none_more (first_of agreed Acceptor)));
+  fits = subst (λ (n : ℕ). n < 2 ^ 64) (sym (none_more (first_of agreed Acceptor))) one.fits;
+  rotation_fits = one.rotation_fits;
+  took = other.took;
+}
+
+-- ---- a side that refuses repeats
+pub no_repeat : (old new : State) (first : ℕ) (taken : List ℕ) (number : ℕ) (order : Order) → IsTrue old.options.refuses_repeats
+    → Stands old.window first taken → Contains taken number → Takes old number order new → ⊥
+no_repeat old new first taken number order refuses stands contains takes =
+    ⊎_elim (takes.may.once refuses).0 (takes.may.once refuses).1 (once first taken number order (takes.has_order first taken stands) contains)

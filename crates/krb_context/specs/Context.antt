@@ -1,12 +1,12 @@
 -- A side of a context: what both sides agreed on, what it sends, and what it took (RFC 4121, sections 2 and 4.2; RFC 2743, section 1.2.3).
-use Rattle.std.specs.Prelude.{◌≡◌, ◌≢◌, ◌+◌, ◌<◌, ◌^◌, ℕ, List, ◌∷◌, ◌++◌, Bool, IsTrue, Option, Some, None, Result, Err, IsOk, IsErr, is_some, length, take, replicate, ◌-◌, nat_lt, if◌then◌else◌}
+use Rattle.std.specs.Prelude.{◌≡◌, ◌≢◌, ◌⊎◌, ◌+◌, ◌<◌, ◌^◌, ℕ, List, [], ◌∷◌, ◌++◌, Bool, IsTrue, Option, Some, None, Result, Err, IsOk, IsErr, is_some, length, take, replicate, ◌-◌, nat_lt, if◌then◌else◌}
 use Rattle.krb_enc.specs.Key.{KeyValue}
 use Rattle.krb_enc.specs.Written.{IsWritten}
-use Rattle.krb_context.specs.Side.{Sender, peer_sender}
+use Rattle.krb_context.specs.Side.{Sender, peer_of, peer_sender}
 use Rattle.krb_context.specs.Mic.{IsMic}
 use Rattle.krb_context.specs.Wrap.{IsWrap}
 use Rattle.krb_context.specs.Faults.{IsMicFault, IsWrapFault}
-use Rattle.krb_context.specs.Sequence.{Known, Stands, IsOrder, sent_numbers}
+use Rattle.krb_context.specs.Sequence.{IsNew, Known, Stands, IsOrder, sent_numbers}
 use Rattle.krb_context.specs.declared.agreed.Agreed.{Agreed}
 use Rattle.krb_context.specs.declared.agreed.Options.{Options}
 use Rattle.krb_context.specs.declared.role.Role.{Role}
@@ -48,29 +48,49 @@ pub record State : Type 0 where
 abbrev pub number_after : ℕ → Option ℕ
 number_after number = if nat_lt (number + 1) (2 ^ 64) then Some (number + 1) else None
 
+-- a side that has sent and taken nothing, of the context that both sides agreed on
+pub record IsBegun (agreed : Agreed) (role : Role) (state : State) : Type 0 where
+  pub sender_is : state.sender ≡ sender_in agreed role
+  pub next_is : state.next ≡ Some (first_of agreed role)
+  pub fits : first_of agreed role < 2 ^ 64
+  pub rotation_fits : state.options.rotation < 2 ^ 16
+  pub took : Stands state.window (first_of agreed (peer_of role)) []
+
 -- A side sends the token that is written with its next number. It writes nothing if all numbers are used up, or if the slice is too short.
+-- Numbers and rotations fit their places in a header.
 pub record IsSent (token_of : ℕ → List ℕ) (old new : State) (before after : List ℕ) (result : Result ℕ SendFault) : Type 0 where
   pub written : (number : ℕ) → old.next ≡ Some number → IsWritten SendFault ShortSlice (token_of number) before after result
   pub counted : (number : ℕ) → old.next ≡ Some number → IsOk result → new ≡ record old { next = number_after number }
   pub used_up : old.next ≡ None → (result ≡ Err NumbersUsedUp) × (after ≡ before)
   pub stays : IsErr result → new ≡ old
+  pub fits : (number : ℕ) → old.next ≡ Some number → number < 2 ^ 64
+  pub rotation_fits : old.options.rotation < 2 ^ 16
 
 -- how a number stands to all that were taken
 abbrev pub HasOrder : Known → ℕ → Order → Type 0
 HasOrder window number order = (first : ℕ) (taken : List ℕ) → Stands window first taken → IsOrder first taken number order
 
+-- the options take a token that stands so to those that were taken before it: only the next one, or none that may have been taken, or each
+pub record MayTake (options : Options) (order : Order) : Type 0 where
+  pub in_order : IsTrue options.is_in_order → order ≡ Next
+  pub once : IsTrue options.refuses_repeats → IsNew order
+
+-- or they refuse it
+abbrev pub IsRefusedBy : Options → Order → Type 0
+IsRefusedBy options order = (IsTrue options.is_in_order × (order ≢ Next)) ⊎ (IsTrue options.refuses_repeats × ¬ IsNew order)
+
 -- a side takes a token with this number, and nothing else of it changes
 pub record Takes (old : State) (number : ℕ) (order : Order) (new : State) : Type 0 where
   pub has_order : HasOrder old.window number order
-  pub in_order : IsTrue old.options.is_in_order → order ≡ Next
+  pub may : MayTake old.options order
   pub taken : (first : ℕ) (taken : List ℕ) → Stands old.window first taken → Stands new.window first (number ∷ taken)
   pub rest : new ≡ record old { window = new.window }
 
--- the side takes tokens in order alone, and this number isn't the next one
+-- the side's options refuse a token with this number
 abbrev pub IsOutOfOrder : State → ℕ → ReceiveFault → Type 0
 IsOutOfOrder side number (NotAccepted fault) = ⊥
 IsOutOfOrder side number (OutOfOrder order) =
-    IsTrue side.options.is_in_order × (order ≢ Next) × HasOrder side.window number order
+    IsRefusedBy side.options order × HasOrder side.window number order
 
 -- why a side doesn't take a MIC token
 abbrev pub IsMicRefusal : State → List ℕ → List ℕ → ReceiveFault → Type 0

@@ -4,4 +4,5 @@ pub mod Wrap
 pub mod Faults
 pub mod Sequence
 pub mod Context
+pub mod Texts
 pub mod Inner

@@ -1,5 +1,5 @@
 -- The order of the tokens that one side takes (RFC 2743, section 1.2.3). Numbers are those of RFC 4121, section 4.2.6: below 2 ^ 64.
-use Rattle.std.specs.Prelude.{◌≡◌, ◌≤◌, ◌<◌, ◌+◌, ℕ, zero, suc, List, [], ◌∷◌, Contains, max}
+use Rattle.std.specs.Prelude.{◌≡◌, ◌≢◌, ◌≤◌, ◌<◌, ◌+◌, ℕ, zero, suc, List, [], ◌∷◌, Contains, max}
 use Rattle.krb_context.specs.declared.order.Order.{Order}
 use Rattle.krb_context.specs.declared.order.Order.TheVariants.{Next, AfterGap, Late, Repeat, Old}
 
@@ -21,6 +21,10 @@ IsOrder first taken number AfterGap = next_of first taken < number
 IsOrder first taken number Repeat = IsRecent first (next_of first taken) number × Contains taken number
 IsOrder first taken number Late = IsRecent first (next_of first taken) number × ¬ Contains taken number
 IsOrder first taken number Old = (number < next_of first taken) × ¬ IsRecent first (next_of first taken) number
+
+-- it is known that a token that stands so wasn't taken before
+abbrev pub IsNew : Order → Type 0
+IsNew order = (order ≢ Repeat) × (order ≢ Old)
 
 -- the numbers of so many tokens that a side sends, the last one in front
 abbrev pub sent_numbers : ℕ → ℕ → List ℕ

@@ -1,8 +1,9 @@
 //! What both sides of a context agreed on.
 
-ghost use Rattle.std.specs.Prelude.{◌≡◌};
-ghost use Rattle.krb_context.specs.Context.{first_of, key_of};
+ghost use Rattle.std.specs.Prelude.{◌≡◌, MatchBool};
+ghost use Rattle.krb_context.specs.Context.{IsRefusedBy, MayTake, first_of, key_of};
 
+use crate::order::Order;
 use crate::role::Role;
 use krb_enc::Key;
 
@@ -58,4 +59,19 @@ pub struct Options {
     pub rotation: u16,
     /// Whether only the next token is taken, and each other one refused.
     pub is_in_order: bool,
+    /// Whether a repeat is refused, and a token that is too old to know whether it is one. One after a
+    /// gap is taken, and a late one (RFC 2743, section 1.2.3: replay detection without sequencing).
+    pub refuses_repeats: bool,
+}
+
+impl Options {
+    // Whether a token is taken that stands so to those before it.
+    pub(crate) fn takes(self, order: Order) -> bool
+        ensures { MatchBool result (MayTake self order) (IsRefusedBy self order) }
+    {
+        if self.is_in_order && !order.is_next() {
+            return false;
+        }
+        !self.refuses_repeats || order.is_new()
+    }
 }

@@ -1,11 +1,11 @@
 //! One side of a context: it sends tokens and takes those of the other side.
 
-ghost use Rattle.std.specs.Prelude.{◌≡◌, ◌≢◌, ◌≤◌, ◌<◌, ◌+◌, ◌-◌, ◌++◌, ◌↔◌, ℕ, List, [], Bool, IfOk, IfErr, IfSome, IsNone, IsTrue, MatchResult, Ok, Some, length, take, drop, replicate};
+ghost use Rattle.std.specs.Prelude.{◌≡◌, ◌≢◌, ◌≤◌, ◌<◌, ◌+◌, ◌-◌, ◌^◌, ◌++◌, ◌↔◌, ℕ, List, [], Bool, IfOk, IfErr, IfSome, IsNone, IsTrue, MatchResult, Ok, Some, length, take, drop, replicate, if◌then◌else◌};
 ghost use Rattle.krb_context.specs.Side.{peer_of, peer_sender};
 ghost use Rattle.krb_context.specs.Mic.{IsMic, mic_token};
 ghost use Rattle.krb_context.specs.Wrap.{IsWrap, wrap_token};
 ghost use Rattle.krb_context.specs.Sequence.{Stands};
-ghost use Rattle.krb_context.specs.Context.{IsMicRefusal, IsOutOfOrder, IsSent, IsWrapRefusal, LeavesToken, Takes, first_of, number_after, sender_in};
+ghost use Rattle.krb_context.specs.Context.{IsBegun, IsMicRefusal, IsOutOfOrder, IsSent, IsWrapRefusal, LeavesToken, Takes, first_of, number_after, sender_in};
 
 use crate::agreed::{Agreed, Options};
 use crate::direction::{Direction, Unwrapped};
@@ -68,6 +68,7 @@ impl Context {
         ensures options { result.options ≡ options }
         ensures next { result.next ≡ Some (first_of agreed.now role) }
         ensures window { Stands result.window (first_of agreed.now (peer_of role)) [] }
+        ensures begun { IsBegun agreed.now role result }
     {
         let key = agreed.key();
         let is_acceptor_subkey = agreed.acceptor_subkey.is_some();
@@ -152,13 +153,14 @@ impl Context {
     }
 
     /// Checks that `token` is a MIC token of `text` from the other side and takes it. Returns its
-    /// number, and how it stands to those that were taken before it. Unless the options ask for
-    /// order, a repeat or an old token is taken, too: look at `order`.
+    /// number, and how it stands to those that were taken before it. Unless the options ask for order
+    /// or refuse repeats, a repeat or an old token is taken, too: look at `order`.
     ///
     /// # Errors
     /// The first that applies. In each case the context is unchanged.
     /// - `NotAccepted`: `token` isn't the other side's for this text (see `Direction::verify_mic`).
-    /// - `OutOfOrder`: it isn't the next one, and the options ask for order.
+    /// - `OutOfOrder`: it isn't the next one, and the options ask for order; or it is a repeat or too
+    ///   old to know, and they refuse repeats.
     ///
     /// Source: RFC 4121, sections 4.2.2, 4.2.4 and 4.2.6.1; RFC 2743, section 1.2.3.
     pub fn verify_mic(&mut self, text: &[u8], token: &[u8]) -> Result<Verified, ReceiveFault>
@@ -175,20 +177,23 @@ impl Context {
     }
 
     /// Opens a Wrap token of the other side in place and takes it. Returns where its text is in
-    /// `token`, and how it stands to those that were taken before it. Unless the options ask for
-    /// order, a repeat or an old token is opened, too: look at `order`.
+    /// `token`, and how it stands to those that were taken before it. Unless the options ask for order
+    /// or refuse repeats, a repeat or an old token is opened, too: look at `order`.
     ///
     /// # Errors
     /// The first that applies. In each case the context is unchanged. After `Integrity` and
     /// `OutOfOrder`, what comes after the header is zeros; otherwise `token` is unchanged.
     /// - `NotAccepted`: `token` isn't the other side's (see `Direction::unwrap`).
-    /// - `OutOfOrder`: it isn't the next one, and the options ask for order.
+    /// - `OutOfOrder`: it isn't the next one, and the options ask for order; or it is a repeat or too
+    ///   old to know, and they refuse repeats.
     ///
     /// Source: RFC 4121, sections 4.2.2 to 4.2.6; RFC 2743, section 1.2.3.
     pub fn unwrap(&mut self, token: &mut [u8]) -> Result<Opened, ReceiveFault>
         ensures ok { IfOk result (λ it. IsWrap (peer_sender self.old.sender) it.text.is_sealed it.text.number
             (take it.text.len (drop it.text.start token.new)) token.old) }
         ensures within { IfOk result (λ it. (16 ≤ it.text.start) × (it.text.start + it.text.len ≤ length token.new)) }
+        ensures start { IfOk result (λ it. it.text.start ≡ (if it.text.is_sealed then 32 else 16)) }
+        ensures length { length token.new ≡ length token.old }
         ensures taken { IfOk result (λ it. Takes self.old it.text.number it.order self.new) }
         ensures found { (is_sealed : Bool) (number : ℕ) (text : List ℕ)
             → IsWrap (peer_sender self.old.sender) is_sealed number text token.old
@@ -219,6 +224,7 @@ impl Context {
             × (self.new ≡ record self.old { next = number_after number })) }
         ensures short { IfErr written (λ short. (result ≡ Err (SendFault.ShortSlice short.needed))
             × (self.new ≡ self.old)) }
+        ensures fits { number < 2 ^ 64 }
     {
         match written {
             Ok(size) => {
@@ -231,14 +237,14 @@ impl Context {
         }
     }
 
-    // Takes a number, unless it isn't the next one and the options ask for order.
+    // Takes a number, unless the options refuse it.
     fn take(&mut self, number: u64) -> Result<Order, ReceiveFault>
         ensures ok { IfOk result (λ order. Takes self.old number order self.new) }
         ensures fault { IfErr result (λ fault. IsOutOfOrder self.old number fault) }
         ensures unchanged { IfErr result (λ _. self.new ≡ self.old) }
     {
         let order = self.window.order(number);
-        if self.options.is_in_order && !order.is_next() {
+        if !self.options.takes(order) {
             return Err(ReceiveFault::OutOfOrder(order));
         }
         self.window.mark(number);

@@ -1,6 +1,6 @@
 //! What protects the tokens that one side sends.
 
-ghost use Rattle.std.specs.Prelude.{◌≡◌, ◌<◌, ◌+◌, ◌%◌, ◌/◌, ◌≤◌, ◌-◌, ◌++◌, ◌↔◌, ℕ, List, IfOk, IfErr, IfSome, IsNone, IsOkAnd, IsErrOf, IsOk, IsTrue, length, take, drop, replicate, Ok, if◌then◌else◌, Bool, true, false};
+ghost use Rattle.std.specs.Prelude.{◌≡◌, ◌==◌, ◌<◌, ◌+◌, ◌%◌, ◌/◌, ◌≤◌, ◌-◌, ◌++◌, ◌↔◌, ℕ, List, IfOk, IfErr, IfSome, IsNone, IsOkAnd, IsErrOf, IsOk, IsTrue, length, take, drop, replicate, Ok, if◌then◌else◌, Bool, true, false};
 ghost use Rattle.krb_enc.specs.Key.{KeyValue, profile_of};
 ghost use Rattle.krb_enc.specs.Written.{IsWritten};
 ghost use Rattle.krb_context.specs.Side.{Sender, HasFlags, flags_of, sender_flag};
@@ -270,6 +270,8 @@ impl Direction {
         ensures ok { IfOk result (λ it.
             IsWrap self.now it.is_sealed it.number (take it.len (drop it.start token.new)) token.old) }
         ensures within { IfOk result (λ it. (16 ≤ it.start) × (it.start + it.len ≤ length token.new)) }
+        ensures start { IfOk result (λ it. it.start ≡ (if it.is_sealed then 32 else 16)) }
+        ensures length { length token.new ≡ length token.old }
         ensures header { take 16 token.new ≡ take 16 token.old }
         ensures found { (is_sealed : Bool) (number : ℕ) (text : List ℕ)
             → IsWrap self.now is_sealed number text token.old
@@ -367,6 +369,7 @@ impl Direction {
         ensures found { IfSome result (λ place.
             Holds self.now header body.old (take place.len (drop place.start body.new))) }
         ensures within { IfSome result (λ place. place.start + place.len ≤ length body.new) }
+        ensures start { IfSome result (λ place. place.start ≡ (if header.flags / 2 % 2 == 1 then 16 else 0)) }
         ensures none { IsNone result → (text : List ℕ) → Holds self.now header body.old text → ⊥ }
     {
         if header.flags / 2 % 2 == 1 {

@@ -1,13 +1,14 @@
 //! Laws over the definitions, for all keys, texts and numbers. Each function has an empty body: its
 //! contract is the law.
 
-ghost use Rattle.std.specs.Prelude.{◌≡◌, ◌⊎◌, ◌<◌, ◌+◌, ◌^◌, ℕ, List, All, Bool, Contains, length};
+ghost use Rattle.std.specs.Prelude.{◌≡◌, ◌⊎◌, ◌<◌, ◌+◌, ◌^◌, ℕ, List, All, Bool, Contains, IsTrue, length};
+ghost use Rattle.krb_enc.specs.Key.{profile_of};
 ghost use Rattle.krb_context.specs.Side.{Sender, peer_of, peer_sender};
 ghost use Rattle.krb_context.specs.Mic.{IsMic, mic_token};
-ghost use Rattle.krb_context.specs.Wrap.{IsWrap, rotated_token, sealed_token, wrap_overhead, wrap_token};
+ghost use Rattle.krb_context.specs.Wrap.{IsInPlain, IsSealed, IsWrap, rotated_token, sealed_token, wrap_overhead, wrap_token};
 ghost use Rattle.krb_context.specs.Faults.{IsMicFault, IsWrapFault};
-ghost use Rattle.krb_context.specs.Sequence.{IsOrder, sent_numbers};
-ghost use Rattle.krb_context.specs.Context.{HasOrder, IsNextFor, IsOutOfOrder, State, Takes, number_after, sender_in};
+ghost use Rattle.krb_context.specs.Sequence.{IsOrder, Stands, sent_numbers};
+ghost use Rattle.krb_context.specs.Context.{HasOrder, IsBegun, IsNextFor, IsOutOfOrder, State, Takes, first_of, number_after, sender_in};
 ghost use Rattle.krb_context.specs.declared.agreed.Agreed.{Agreed};
 ghost use Rattle.krb_context.specs.declared.fault.MessageFault.{MessageFault};
 ghost use Rattle.krb_context.specs.declared.fault.ReceiveFault.{ReceiveFault};
@@ -19,6 +20,14 @@ ghost use Rattle.krb_context.specs.declared.role.Role.{Role};
 pub fn both_sides_agree()
     ensures { (agreed : Agreed) (side : Role)
         → peer_sender (sender_in agreed side) ≡ sender_in agreed (peer_of side) }
+{}
+
+/// Two sides that are made of what both agreed on begin in step: the next token of each is the next
+/// one for the other, which took none.
+pub fn both_begin_in_step()
+    ensures { (agreed : Agreed) (side : Role) (from to : State)
+        → IsBegun agreed side from → IsBegun agreed (peer_of side) to
+        → IsNextFor from to (first_of agreed side) 0 }
 {}
 
 /// What a side writes is a token of it, of that text and with that number. So the other side takes
@@ -72,6 +81,13 @@ pub fn each_number_once()
         → IsOrder first taken number one → IsOrder first taken number other → one ≡ other }
 {}
 
+/// A side whose options refuse repeats takes no number twice.
+pub fn repeats_are_refused()
+    ensures { (old new : State) (first : ℕ) (taken : List ℕ) (number : ℕ) (order : Order)
+        → IsTrue old.options.refuses_repeats → Stands old.window first taken → Contains taken number
+        → Takes old number order new → ⊥ }
+{}
+
 /// The next token that a side sends reaches the other side: if that one took all tokens before it,
 /// in their order, then it takes this one with its text, as the next one, also if it takes tokens
 /// only in order. What it took is never the next one again.
@@ -98,4 +114,15 @@ pub fn wrap_lengths()
     ensures { (sender : Sender) (is_sealed : Bool) (rotation : ℕ) (confounder : List ℕ) (number : ℕ) (text : List ℕ)
         → length confounder ≡ 16
         → length (wrap_token sender is_sealed rotation confounder number text) ≡ length text + wrap_overhead sender is_sealed }
+{}
+
+/// How long a token of a text is: a header of 16 bytes and a checksum, and a Wrap token has the text
+/// besides. A sealed one has a confounder of 16 bytes, the header once more, and EC bytes of filler.
+pub fn token_lengths()
+    ensures mic { (sender : Sender) (number : ℕ) (text token : List ℕ) → IsMic sender number text token
+        → length token ≡ 16 + (profile_of sender.key).tag_len }
+    ensures plain { (sender : Sender) (number : ℕ) (text token : List ℕ) → IsInPlain sender number text token
+        → length token ≡ 16 + length text + (profile_of sender.key).tag_len }
+    ensures sealed { (sender : Sender) (number : ℕ) (text token : List ℕ) → (it : IsSealed sender number text token)
+        → length token ≡ 48 + length text + length it.filler + (profile_of sender.key).tag_len }
 {}

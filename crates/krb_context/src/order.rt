@@ -1,7 +1,7 @@
 //! The order of tokens.
 
 ghost use Rattle.std.specs.Prelude.{◌≡◌, ◌≤◌, ◌+◌, ◌↔◌, ℕ, List, [], ◌∷◌, IsTrue};
-ghost use Rattle.krb_context.specs.Sequence.{IsOrder, Stands};
+ghost use Rattle.krb_context.specs.Sequence.{IsNew, IsOrder, Stands};
 
 use std::marker::Model;
 
@@ -29,6 +29,14 @@ impl Order {
         ensures { IsTrue result ↔ (self ≡ Order.Next) }
     {
         matches!(self, Order::Next)
+    }
+
+    /// Returns whether it is known that the token wasn't taken before: it isn't a repeat, and not too
+    /// old to know.
+    pub fn is_new(self) -> bool
+        ensures { IsTrue result ↔ IsNew self }
+    {
+        matches!(self, Order::Next | Order::AfterGap | Order::Late)
     }
 }
 

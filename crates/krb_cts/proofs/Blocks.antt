@@ -34,7 +34,7 @@ unfolding inv_rounds add_round_key
 length-inv_rounds k zero s = refl
 length-inv_rounds k (suc j) s = length-inv_rounds k j _
 
--- ---- a text of which the first blocks are done
+-- ---- a text whose first blocks are done
 
 -- the first n blocks are done, and the others are as they were
 pub record IsDone (block : ℕ → List ℕ) (n : ℕ) (old text : List ℕ) : Type 0 where

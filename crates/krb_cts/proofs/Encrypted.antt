@@ -51,7 +51,7 @@ IsLonger-cts key text j l =
     let same = length-longer key text j l in
     record { above = omega (arith, same, l.above); within = omega (arith, same, l.within) }
 
--- what stands behind the first j blocks
+-- what stands after the first j blocks
 behind : (key text : List ℕ) (j : ℕ) → List ℕ
 behind key text j = cipher_block key text (suc (suc j)) ++ take (length text - 16 * suc j) (cipher_block key text (suc j))
 
@@ -73,7 +73,7 @@ swapped-block key text j l =
     ∙ ap (λ (t : List ℕ). take 16 t) (drop_at (joined (cipher_block key text) j) (behind key text j) (16 * j) (length-front key text j))
     ∙ take_at (cipher_block key text (suc (suc j))) _ 16 (length-cipher_block key text (suc (suc j)))
 
--- and behind it what is kept of C(m - 1)
+-- and after it what is kept of C(m - 1)
 pub kept-bytes : (key text : List ℕ) (j : ℕ) → IsLonger text j
     → drop (16 * suc j) (cts key text) ≡ take (length text - 16 * suc j) (cipher_block key text (suc j))
 kept-bytes key text j l =

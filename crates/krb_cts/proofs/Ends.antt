@@ -24,7 +24,7 @@ filled bytes le =
     let same : take k zeros ≡ drop (length bytes) zeros = take-replicate k 16 0 (omega arith) ∙ sym (drop-replicate (length bytes) 16 0) in
     ap (λ (n : ℕ). take n (bytes ++ zeros)) split ∙ take-append-add bytes zeros k ∙ ap (λ (t : List ℕ). bytes ++ t) same
 
--- nothing is left behind the one block
+-- nothing is left after the one block
 pub rest_of_one : (text : List ℕ) → length text ≡ 16 → drop 16 text ≡ []
 rest_of_one text one =
     let le : length text ≤ 16 = omega arith in

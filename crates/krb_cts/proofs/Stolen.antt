@@ -28,7 +28,7 @@ chained_last key text j l =
     let this : eqb (suc j) (block_count text - 1) ≡ true = eq-eqb _ _ (omega (arith, count_is text j l)) in
     rw (some, this) refl
 
--- the last bytes of a text, and the end of D behind them
+-- the last bytes of a text, and the end of D after them
 pub stolen_parts : (key text : List ℕ) (j : ℕ) → IsLonger text j
     → stolen_block key text ≡ drop (16 * suc j) text ++ drop (length text - 16 * suc j) (last_undone key text)
 stolen_parts key text j l =

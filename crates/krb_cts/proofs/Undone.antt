@@ -37,7 +37,7 @@ last_undone-cts key text j c =
     ∙ ap (inv_cipher key) (swapped-block key text j c.longer)
     ∙ undone_cipher key text c.good c.bytes (suc j)
 
--- behind the text, P(m) is zeros: there D is C(m - 1)
+-- after the text, P(m) is zeros: there D is C(m - 1)
 end_undone : (key text : List ℕ) (j : ℕ) → IsCase key text j
     → drop (length text - 16 * suc j) (last_undone key (cts key text)) ≡ drop (length text - 16 * suc j) (cipher_block key text (suc j))
 end_undone key text j c =

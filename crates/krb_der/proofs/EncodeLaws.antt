@@ -1,5 +1,5 @@
 -- What is written spells, and writing within the limit.
-use Rattle.std.proofs.Common.{◌≡◌, ℕ, ◌+◌, ◌≤◌, ltb, ℤ, List, [], ◌++◌, length, take, drop, Result, Ok, Err, refl, sym, ap, subst, ◌∙◌, arith, length-append, append_assoc}
+use Rattle.std.proofs.Common.{◌≡◌, ℕ, ◌+◌, ◌≤◌, ltb, ℤ, List, [], ◌∷◌, ◌++◌, length, take, drop, Result, Ok, Err, refl, sym, ap, subst, ◌∙◌, arith, length-append, append_assoc}
 use Rattle.std.specs.Prelude.{OnOk, OnErr, Vec}
 use Rattle.std.proofs.lemmas.Bool.{ltb-true, ltb-false, cond_both}
 use Rattle.std.proofs.lemmas.List.{take_at, take_all, drop_at}
@@ -10,10 +10,11 @@ use Rattle.krb_der.specs.Content.{Written}
 use Rattle.krb_der.specs.Whole.{IsInteger}
 use Rattle.krb_der.specs.Spells.{IsElement, IsJoined, SpellsContent, limit}
 use Rattle.krb_der.specs.Writing.{Appends, AppendsElement, Wraps, Writes, WritesFields, Encodes, IsEncoded}
+use Rattle.krb_der.specs.Inner.HeadView.{without_room}
 use Rattle.krb_der.specs.Inner.Limited.{limited_of, settled}
 use Rattle.krb_der.specs.Size.{element_size, fields_size, size_of}
 use Rattle.krb_der.proofs.PartLaws.{with_content}
-use Rattle.krb_der.proofs.Sizes.{HasSize, element_sized}
+use Rattle.krb_der.proofs.Sizes.{HasSize, element_sized, element-longer}
 use Rattle.krb_der.proofs.Spelled.{spelled_is, fields_is}
 
 pub element-map : (tag : ℕ) (P Q : List ℕ → Type 0) → ((c : List ℕ) → P c → Q c) → (bytes : List ℕ) → IsElement tag P bytes → IsElement tag Q bytes
@@ -80,13 +81,39 @@ wrapped-appends tag start Part old mid new at a w =
       whole = w.whole ∙ ap (λ (l : List ℕ). l ++ w.bytes) front;
     }
 
--- mid has the content, end what was made of it
-pub encodes-wrapped : {E : Type 0} {tag start : ℕ} {Part : List ℕ → Type 0} {size : ℕ} {r : Result (Unit {0}) EncodeFault} {old mid new : List ℕ} → HasSize Part size → (written : Result (Unit {0}) E) (end : List ℕ)
-    → start ≡ length old → Appends Part old mid → OnOk written (Wraps tag start mid end) → OnErr written (end ≡ mid) → r ≡ limited_of written end → new ≡ settled r start end
-    → Encodes (IsElement tag Part) (element_size size) r old new
-encodes-wrapped {E = E} {tag = tag} {start = start} {Part = Part} {size = size} {r = r} {old = old} {mid = mid} {new = new} sized written end at a w kept l n =
-    encodes-limited {E = E} (IsElement tag Part) (element_size size) (element_sized tag Part size sized) written r start old end new at
-    (on_ok_weaker written (wrapped-appends tag start Part old mid end at a) w) (on_err_weaker written (λ same. ap (take start) same ∙ before_appended Part start old mid at a) kept) l n
+-- ---- an element round what was written after room for its head
+room-long : (old room : List ℕ) → room ≡ old ++ (0 ∷ 0 ∷ []) → length room ≡ length old + 2
+room-long old room opened = ap length opened ∙ length-append old (0 ∷ 0 ∷ [])
+
+before_room : (Part : List ℕ → Type 0) (start : ℕ) (old room mid : List ℕ) → start ≡ length old → room ≡ old ++ (0 ∷ 0 ∷ []) → Appends Part room mid → take start mid ≡ old
+before_room Part start old room mid at opened a =
+    ap (take start) (a.whole ∙ ap (λ (l : List ℕ). l ++ a.bytes) opened ∙ append_assoc old (0 ∷ 0 ∷ []) a.bytes) ∙ take_at old (0 ∷ 0 ∷ a.bytes) start (sym at)
+
+-- without the room, the part was appended to what stood before
+appended-without : (Part : List ℕ → Type 0) (start : ℕ) (old room mid : List ℕ) → start ≡ length old → room ≡ old ++ (0 ∷ 0 ∷ []) → Appends Part room mid → Appends Part old (without_room start mid)
+appended-without Part start old room mid at opened a =
+    let front = before_room Part start old room mid at opened a in
+    let rest : drop (start + 2) mid ≡ a.bytes = ap (drop (start + 2)) a.whole ∙ drop_at room a.bytes (start + 2) (omega (arith, room-long old room opened, at)) in
+    record { bytes = a.bytes; is = a.is; whole = ap (λ (l : List ℕ). l ++ drop (start + 2) mid) front ∙ ap (λ (l : List ℕ). old ++ l) rest }
+
+module _ {tag start : ℕ} {Part : List ℕ → Type 0} {size : ℕ} {r : Result (Unit {0}) EncodeFault} {old room mid new : List ℕ} (sized : HasSize Part size) (at : start ≡ length old)
+    (opened : room ≡ old ++ (0 ∷ 0 ∷ [])) where
+  pub encodes-closed : {E : Type 0} (written : Result (Unit {0}) E) (end : List ℕ) → Appends Part room mid → OnOk written (Wraps tag start (without_room start mid) end) → OnErr written (end ≡ mid)
+      → r ≡ limited_of written end → new ≡ settled r start end → Encodes (IsElement tag Part) (element_size size) r old new
+  encodes-closed {E = E} written end a w kept l n =
+      encodes-limited {E = E} (IsElement tag Part) (element_size size) (element_sized tag Part size sized) written r start old end new at
+      (on_ok_weaker written (wrapped-appends tag start Part old (without_room start mid) end at (appended-without Part start old room mid at opened a)) w)
+      (on_err_weaker written (λ same. ap (take start) same ∙ before_room Part start old room mid at opened a) kept)
+      l n
+
+  -- what the part's writing left is removed
+  pub encodes-refused : {f : EncodeFault} → Encodes Part size (Err f) room mid → r ≡ Err f → new ≡ settled r start mid → Encodes (IsElement tag Part) (element_size size) r old new
+  encodes-refused {f = f} e same n =
+      rw (n, same) (record {
+        ok = tt;
+        too_long = λ t. omega (arith, e.too_long t, room-long old room opened, element-longer size);
+        kept = ap (take start) (e.kept ∙ opened) ∙ take_at old (0 ∷ 0 ∷ []) start (sym at);
+      })
 
 pub row_size : (fs : Fields) (v : FieldsOf fs) → HasSize (WritesFields fs v) (fields_size fs v)
 row_size fs v = (fields_is fs v).sized

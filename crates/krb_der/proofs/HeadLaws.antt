@@ -1,12 +1,12 @@
 -- Heads that are written, and bytes whose end is moved.
-use Rattle.std.proofs.Common.{ltb, ◌≡◌, ℕ, false, ◌+◌, ◌-◌, ◌/◌, ◌%◌, ◌^◌, ◌<◌, ◌≤◌, List, [], ◌∷◌, ◌++◌, length, take, drop, refl, sym, ap, ◌∙◌, arith, length-drop, append_assoc}
+use Rattle.std.proofs.Common.{ltb, ◌≡◌, ℕ, false, ◌+◌, ◌-◌, ◌/◌, ◌%◌, ◌^◌, ◌<◌, ◌≤◌, List, [], ◌∷◌, ◌++◌, length, take, drop, refl, sym, ap, ◌∙◌, arith, length-take, length-drop, append_assoc}
 use Rattle.std.proofs.lemmas.Bool.{cond_both, ltb-true, ltb-false, ne_eqb}
 use Rattle.std.proofs.lemmas.List.{take_at, drop_at, take_all, drop_all, take-append-le, drop-append-le, append-nil}
 use Rattle.krb_der.specs.Whole.{AreBytes, number}
 use Rattle.krb_der.specs.Place.{begins}
 use Rattle.krb_der.specs.Spells.{short, long, IsElement}
 use Rattle.krb_der.specs.Writing.{Appends, Wraps}
-use Rattle.krb_der.specs.Inner.HeadView.{IsHeadOf, head_bytes, turned_at}
+use Rattle.krb_der.specs.Inner.HeadView.{IsHeadOf, head_bytes, turned_at, without_room, filled_at}
 
 -- ---- heads
 module _ (tag n : ℕ) where
@@ -75,3 +75,36 @@ wraps-turned tag start old head mid new le h m n =
 pub written_back : (turned' mid : List ℕ) (len : ℕ) → length turned' ≡ length mid → len ≡ length mid → take len (turned' ++ drop (length turned') mid) ≡ turned'
 written_back turned' mid len e l =
     ap (λ (r : List ℕ). take len (turned' ++ r)) (drop_all (length turned') mid (omega (arith, e))) ∙ ap (take len) (append-nil turned') ∙ take_all len turned' (omega (arith, e, l))
+
+-- ---- room filled
+pub short-head : (tag n : ℕ) → n < 128 → IsHeadOf tag n (tag ∷ n ∷ [])
+short-head tag n lt = record { size = n ∷ []; length_is = short lt refl; whole = refl }
+
+pub filled-wraps : (tag start : ℕ) (old head new : List ℕ) → start + 2 ≤ length old → IsHeadOf tag (length (drop (start + 2) old)) head
+    → new ≡ take start old ++ (head ++ drop (start + 2) old) → Wraps tag start (without_room start old) new
+filled-wraps tag start old head new le h n =
+    let front : length (take start old) ≡ start = omega (arith, length-take start old) in
+    record {
+      bytes = head ++ drop (start + 2) old;
+      is = record {
+        size = h.size;
+        content = drop (start + 2) old;
+        length_is = h.length_is;
+        content_is = sym (drop_at (take start old) (drop (start + 2) old) start front);
+        whole = ap (λ (l : List ℕ). l ++ drop (start + 2) old) h.whole;
+      };
+      whole = n ∙ ap (λ (l : List ℕ). l ++ (head ++ drop (start + 2) old)) (sym (take_at (take start old) (drop (start + 2) old) start front));
+    }
+
+-- what stood after the room, up to the end of what was there before the head's further bytes
+pub filled_at-appended : (start end : ℕ) (head old more : List ℕ) → start + 2 ≤ length old → end ≡ length old
+    → filled_at start head end (old ++ more) ≡ take start old ++ (head ++ drop (start + 2) old)
+unfolding filled_at
+filled_at-appended start end head old more le e =
+    let len : length (drop (start + 2) old) ≡ end - (start + 2) = omega (arith, length-drop (start + 2) old, e) in
+    rw (take-append-le start old more (omega (arith, le)), drop-append-le (start + 2) old more le, take_at (drop (start + 2) old) more (end - (start + 2)) len) refl
+
+pub filled_at-whole : (start : ℕ) (head old : List ℕ) → filled_at start head (length old) old ≡ take start old ++ (head ++ drop (start + 2) old)
+unfolding filled_at
+filled_at-whole start head old =
+    ap (λ (l : List ℕ). take start old ++ (head ++ l)) (take_all (length old - (start + 2)) (drop (start + 2) old) (omega (arith, length-drop (start + 2) old)))

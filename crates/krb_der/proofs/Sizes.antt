@@ -87,6 +87,9 @@ element_sized tag IsContent n sized bytes h =
     let size : length h.size ≡ length_size n = length_sized (length h.content) h.size h.length_is ∙ ap length_size content in
     omega (arith, ap length h.whole, length-append h.size h.content, content, size)
 
+pub element-longer : (n : ℕ) → n + 2 ≤ element_size n
+element-longer n = grind (arith, nat_tests)
+
 pub joined_sized : (First Rest : List ℕ → Type 0) (m n : ℕ) → HasSize First m → HasSize Rest n → HasSize (IsJoined First Rest) (m + n)
 joined_sized First Rest m n one rest bytes h =
     omega (arith, ap length h.whole, length-append h.front h.back, one h.front h.first, rest h.back h.rest)

@@ -1,4 +1,4 @@
--- Kinds whose optional fields can be told apart from what may follow them.
+-- Kinds whose optional fields differ from what may follow them.
 use Rattle.std.specs.Prelude.{ℕ, Bool, true, false, not, ◌&&◌, ◌||◌, ◌==◌}
 use Rattle.krb_der.specs.Kind.{Kind, leaf, wrapped, sequence, Fields, ends, must, may, each, tag_of}
 

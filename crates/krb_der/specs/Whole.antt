@@ -31,7 +31,7 @@ abbrev pub IsInteger : ℤ → List ℕ → Type 0
 IsInteger (pos n) content = IsNatural n content
 IsInteger (negsuc m) content = AreBytes content × IsNatural m (turned content)
 
--- no unused bits, and 32 bits, the first of which is the most significant (X.690, section 8.6; RFC
+-- no unused bits, and 32 bits, the most significant first (X.690, section 8.6; RFC
 -- 4120, section 5.2.8)
 pub record AreFlags (n : ℕ) (content : List ℕ) : Type 0 where
   pub bits : List ℕ

@@ -18,7 +18,7 @@ pub trait Element<'a>: Sized {
     fn read(cursor: &mut Cursor<'a>) -> Result<Self, Fault>
         ensures { Gives view result cursor.old cursor.new (element_at kind cursor.old) };
 
-    // Each optional field can be told apart from what may follow it.
+    // Each optional field differs from what may follow it.
     ghost clear: { is_clear kind ≡ true };
 }
 

@@ -93,9 +93,11 @@ fn write_around<P: EncodeParts>(parts: &P, tag: u8, out: &mut Writer) -> Result<
     ensures written { OnOk result (Appends (IsElement tag (P.writes parts.now)) out.old out.new) }
     ensures sized { OnOk result (length out.new ≡ length out.old + element_size (P.size parts.now)) }
 {
-    let start = out.len();
-    parts.write_parts(out)?;
-    out.wrap(tag, start)
+    let Some(size) = parts.size_within() else {
+        unreachable!();
+    };
+    out.head(tag, size as u32)?;
+    parts.write_parts(out)
 }
 
 impl EncodeParts for () {

@@ -23,8 +23,11 @@ pub fn write_sequence<R: EncodeRow>(row: &R, out: &mut Writer) -> Result<(), Enc
     ensures { EncodesValue (sequence R.fields) (R.view row.now) result out.old out.new }
 {
     let start = out.len();
-    row.write_row(out)?;
-    let written = out.wrap(tag::SEQUENCE, start);
+    out.open()?;
+    if let Err(fault) = row.write_row(out) {
+        return out.settle(start, Err(fault));
+    }
+    let written = out.close(tag::SEQUENCE, start);
     out.limited(start, written)
 }
 
@@ -37,8 +40,11 @@ pub fn write_application<R: EncodeRow>(
     ensures { EncodesValue (wrapped tag (sequence R.fields)) (R.view row.now) result out.old out.new }
 {
     let start = out.len();
-    write_sequence(row, out)?;
-    let written = out.wrap(tag, start);
+    out.open()?;
+    if let Err(fault) = write_sequence(row, out) {
+        return out.settle(start, Err(fault));
+    }
+    let written = out.close(tag, start);
     out.limited(start, written)
 }
 
@@ -49,8 +55,11 @@ impl<const TAG: u8, T: Encode> Encode for Field<TAG, T> {
 
     fn write(&self, out: &mut Writer) -> Result<(), EncodeFault> {
         let start = out.len();
-        self.0.write(out)?;
-        let written = out.wrap(TAG, start);
+        out.open()?;
+        if let Err(fault) = self.0.write(out) {
+            return out.settle(start, Err(fault));
+        }
+        let written = out.close(TAG, start);
         out.limited(start, written)
     }
 }

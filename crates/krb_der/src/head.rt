@@ -15,6 +15,7 @@ pub struct Head {
 pub fn head_of(tag: u8, len: u32) -> Head
     ensures is { take result.len result.bytes ≡ head_bytes tag len }
     ensures width { length (take result.len result.bytes) ≡ result.len }
+    ensures some { 2 ≤ result.len }
 {
     let [a, b, c, d] = len.to_be_bytes();
     match len {

@@ -1,11 +1,11 @@
 //! Writing elements.
 
-ghost use Rattle.std.specs.Prelude.{◌≡◌, ℕ, ◌+◌, ◌-◌, ◌≤◌, ◌<◌, ◌^◌, ◌↔◌, List, [], ◌++◌, length, drop, IsTrue, IfOk, OnOk, OnErr};
+ghost use Rattle.std.specs.Prelude.{◌≡◌, ℕ, ◌+◌, ◌-◌, ◌≤◌, ◌<◌, ◌^◌, ◌↔◌, List, [], ◌∷◌, ◌++◌, length, drop, IsTrue, IfOk, OnOk, OnErr};
 ghost use Rattle.krb_der.specs.Kind.{leaf, int32, uint32, microseconds, constant, octets, string, flags, time};
 ghost use Rattle.krb_der.specs.Whole.{IsInteger};
 ghost use Rattle.krb_der.specs.Spells.{IsElement};
 ghost use Rattle.krb_der.specs.Inner.Limited.{limited_of, settled};
-ghost use Rattle.krb_der.specs.Inner.HeadView.{turned_at};
+ghost use Rattle.krb_der.specs.Inner.HeadView.{IsHeadOf, filled_at, turned_at, without_room};
 ghost use Rattle.krb_der.specs.Writing.{Appends, AppendsElement, Wraps};
 
 use crate::cursor::LIMIT;
@@ -15,6 +15,9 @@ use crate::{EncodeFault, Flags, Microseconds, Seconds, tag};
 use std::alloc::{AllocError, Global};
 use std::fmt;
 use std::marker::Model;
+
+/// How many bytes the head of an element has if its content has less than 128 bytes.
+const SHORT_HEAD: usize = 2;
 
 /// The bytes that were written so far.
 #[derive(Drop)]
@@ -85,6 +88,16 @@ impl Writer {
         self.bytes.extend_from_slice(bytes)
     }
 
+    /// Writes the head of an element with this tag and a content of `count` bytes.
+    pub(crate) fn head(&mut self, tag: u8, count: u32) -> Result<(), AllocError>
+        ensures ok { OnOk result (Appends (IsHeadOf tag count) self.old self.new) }
+        ensures kept { OnErr result (self.new ≡ self.old) }
+    {
+        let head = head_of(tag, count);
+        self.bytes.extend_from_slice(&head.bytes[..head.len])?;
+        Ok(())
+    }
+
     /// Writes an element with this tag and content.
     pub(crate) fn element(&mut self, tag: u8, content: &[u8]) -> Result<(), AllocError>
         requires { length content.now < 2 ^ 32 }
@@ -137,6 +150,45 @@ impl Writer {
                 Err(fault)
             }
         }
+    }
+
+    /// Leaves room for the head of an element whose content has less than 128 bytes.
+    pub(crate) fn open(&mut self) -> Result<(), AllocError>
+        ensures ok { OnOk result (self.new ≡ self.old ++ (0 ∷ 0 ∷ [])) }
+        ensures kept { OnErr result (self.new ≡ self.old) }
+    {
+        self.bytes.extend_from_slice(&[0; SHORT_HEAD])
+    }
+
+    /// Makes what was written after the room at `start` the content of an element with this tag.
+    /// It only moves if it has 128 bytes or more.
+    pub(crate) fn close(&mut self, tag: u8, start: usize) -> Result<(), AllocError>
+        requires within { start + 2 ≤ length self.old }
+        requires fits { length (drop (start + 2) self.old) < 2 ^ 32 }
+        ensures ok { OnOk result (Wraps tag start (without_room start self.old) self.new) }
+        ensures kept { OnErr result (self.new ≡ self.old) }
+    {
+        let count = self.bytes.len() - start - SHORT_HEAD;
+        if count >= 0x80 {
+            return self.close_long(tag, start);
+        }
+        fill_short(&mut self.bytes, start, tag, count as u8);
+        Ok(())
+    }
+
+    fn close_long(&mut self, tag: u8, start: usize) -> Result<(), AllocError>
+        requires within { start + 2 ≤ length self.old }
+        requires fits { length (drop (start + 2) self.old) < 2 ^ 32 }
+        ensures ok { OnOk result (Wraps tag start (without_room start self.old) self.new) }
+        ensures kept { OnErr result (self.new ≡ self.old) }
+    {
+        let end = self.bytes.len();
+        let head = head_of(tag, (end - start - SHORT_HEAD) as u32);
+        // which bytes doesn't matter: they are written over
+        self.bytes
+            .extend_from_slice(&head.bytes[..head.len - SHORT_HEAD])?;
+        fill(&mut self.bytes, start, end, &head.bytes[..head.len]);
+        Ok(())
     }
 
     /// Writes a whole number from -2,147,483,648 to 2,147,483,647.
@@ -239,4 +291,24 @@ fn turn(bytes: &mut [u8], start: usize, count: usize)
     head[..count].copy_from_slice(&bytes[end..]);
     bytes.copy_within(start..end, start + count);
     bytes[start..start + count].copy_from_slice(&head[..count]);
+}
+
+/// Writes a tag and a length below 128 into the room at `start`.
+fn fill_short(bytes: &mut [u8], start: usize, tag: u8, count: u8)
+    requires { start + 2 ≤ length bytes.old }
+    ensures { bytes.new ≡ filled_at start (tag ∷ count ∷ []) (length bytes.old) bytes.old }
+{
+    bytes[start..start + SHORT_HEAD].copy_from_slice(&[tag, count]);
+}
+
+/// Writes a head into the room at `start`, and moves what stands between the room and `end` to the
+/// end of the head, which is as much longer than the room as there are bytes from `end` on.
+fn fill(bytes: &mut [u8], start: usize, end: usize, head: &[u8])
+    requires within { start + 2 ≤ end }
+    requires some { 2 ≤ length head.now }
+    requires longer { end + length head.now ≡ length bytes.old + 2 }
+    ensures { bytes.new ≡ filled_at start head.now end bytes.old }
+{
+    bytes.copy_within(start + SHORT_HEAD..end, start + head.len());
+    bytes[start..start + head.len()].copy_from_slice(head);
 }

@@ -9,7 +9,20 @@ use krb_login::{Decision, Given, LetIn, Service};
 use krb_msg::Moment;
 use krb_name::Principal;
 use krb_replay::{ReplayMemory, Skew, TimedMemory, Tuple};
+use krb_tally::Tally;
 use std::alloc::Global;
+
+/// Counts times since a moment.
+pub fn count_times(alloc: Global) -> Result<()> {
+    let mut tally = Tally::new(alloc);
+    tally.add(10)?;
+    tally.add(30)?;
+    tally.add(30)?;
+    tally.since(20); // 2
+    tally.remove(30);
+    tally.since(20); // 1
+    Ok(())
+}
 
 /// Remembers a tuple.
 pub fn remember(alloc: Global, tuple: Tuple, now: Moment, skew: Skew) -> Result<()> {

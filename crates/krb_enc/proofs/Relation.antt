@@ -23,7 +23,7 @@ IsText-plain confounder plain block bytes = record {
   bytes = All-append (λ byte. byte < 256) confounder plain block.bytes bytes;
 }
 
--- a text with a tag behind it
+-- a text with a tag after it
 tagged : (p : Profile) (front tag : List ℕ) → length tag ≡ p.tag_len → (body_of p (front ++ tag) ≡ front) × (end_of p (front ++ tag) ≡ tag)
 tagged p front tag size =
     let at : length (front ++ tag) - p.tag_len ≡ length front = omega (arith, length-append front tag, size) in (

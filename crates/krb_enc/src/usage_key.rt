@@ -39,8 +39,10 @@ impl Model for UsageKey {
 }
 
 impl UsageKey {
-    // Derives the keys of a base key of type 19, which is had ready as well.
+    // Derives the keys of a base key of type 19, whose prepared HMAC key is `base`. Its frame holds the keys
+    // of this type alone.
     #[tactic(auto, unfolding(krb_kdf::specs::Kdf::kdf, krb_kdf::specs::Kdf::kdf_of, krb_kdf::specs::Hmac::hmac))]
+    #[inline(never)]
     pub(crate) fn new_19(bytes: &[u8; 16], base: &HmacSha256, usage: u32) -> UsageKey
         requires { base.now ≡ block_key sha256_hash bytes.now }
         ensures { result ≡ record { key = record { etype = pos 19; bytes = bytes.now }; usage = usage } }
@@ -53,8 +55,10 @@ impl UsageKey {
         }
     }
 
-    // Derives the keys of a base key of type 20, which is had ready as well.
+    // Derives the keys of a base key of type 20, whose prepared HMAC key is `base`. Its frame holds the keys
+    // of this type alone.
     #[tactic(auto, unfolding(krb_kdf::specs::Kdf::kdf, krb_kdf::specs::Kdf::kdf_of, krb_kdf::specs::Hmac::hmac))]
+    #[inline(never)]
     pub(crate) fn new_20(bytes: &[u8; 32], base: &HmacSha384, usage: u32) -> UsageKey
         requires { base.now ≡ block_key sha384_hash bytes.now }
         ensures { result ≡ record { key = record { etype = pos 20; bytes = bytes.now }; usage = usage } }

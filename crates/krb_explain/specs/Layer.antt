@@ -2,6 +2,7 @@
 use Rattle.std.specs.Prelude.{◌≡◌, ℕ, Bool, true, false, List, [], ◌∷◌, ◌++◌, Option, Some, None, codes}
 use Rattle.krb_der.specs.Place.{begins}
 use Rattle.krb_gss.specs.declared.fault.TokenFault.{TokenFault}
+use Rattle.krb_gss.specs.declared.fault.TokenFault.TheVariants.{Malformed, NotToken, Response, OtherMechanism, NoToken, TokenId, Unframed, Ended}
 use Rattle.krb_gss.specs.declared.mechanism.Mechanism.{Mechanism}
 use Rattle.krb_gss.specs.declared.mechanism.Mechanism.TheVariants.{Kerberos, Microsoft, Draft}
 use Rattle.krb_gss.specs.declared.opening.Wrapping.{Wrapping}
@@ -60,6 +61,26 @@ carried (asks wrapping mechanism request) = Some (Request, request)
 carried (answers wrapping mechanism answer) = Some (form_of answer, bytes_of answer)
 carried (says verdict) = None
 carried (other fault) = None
+
+-- bytes that don't begin as a token are judged, and a token with a fault isn't
+abbrev pub judged_in : List ℕ → TokenFault → Option (List ℕ)
+judged_in bytes NotToken = Some bytes
+judged_in bytes (Malformed fault) = None
+judged_in bytes Response = None
+judged_in bytes (OtherMechanism mechanism at) = None
+judged_in bytes (NoToken at) = None
+judged_in bytes (TokenId at) = None
+judged_in bytes (Unframed at) = None
+judged_in bytes Ended = None
+
+-- what a service that takes requests judges: the message in a client's token, or bytes that don't begin as a token; nothing of what a
+-- service sends in one
+abbrev pub judged : List ℕ → Layer → Option (List ℕ)
+judged bytes (alone form message) = Some message
+judged bytes (asks wrapping mechanism request) = Some request
+judged bytes (answers wrapping mechanism answer) = None
+judged bytes (says verdict) = None
+judged bytes (other fault) = judged_in bytes fault
 
 -- ---- lines
 abbrev pub mechanism_text : Mechanism → List ℕ

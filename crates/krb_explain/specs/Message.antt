@@ -98,7 +98,7 @@ abbrev pub client_lines : Option (List ℕ) → Option (ValueOf principal_name) 
 client_lines (Some realm) (Some name) = name_line (codes "client") (principal_in realm name) ∷ []
 client_lines _ _ = []
 
--- more about the error, of which only the size is said
+-- more about the error: only its size is said
 abbrev pub data_lines : Option (List ℕ) → List (List ℕ)
 data_lines None = []
 data_lines (Some bytes) = (codes "data: " ++ (decimal (length bytes) ++ codes " bytes")) ∷ []

@@ -109,7 +109,7 @@ later_name code = name_in later_codes code
 abbrev pub error_name : ℤ → Option (List ℕ)
 error_name code = first_name (first_name (kdc_name code) (account_name code)) (first_name (exchange_name code) (later_name code))
 
--- ---- flags, of which bit 0 is the most significant
+-- ---- flags; bit 0 is the most significant
 
 -- the options of a request (RFC 4120, section 5.5.1)
 abbrev pub option_names : List (ℕ × List ℕ)

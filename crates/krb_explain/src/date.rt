@@ -10,7 +10,7 @@ use std::alloc::{AllocError, Global};
 use std::fmt::Write;
 
 /// Makes a line of what comes before a date, and the date.
-pub(crate) fn date_line(alloc: Global, before: &str, seconds: Seconds) -> Result<Text, AllocError>
+pub fn date_line(alloc: Global, before: &str, seconds: Seconds) -> Result<Text, AllocError>
     ensures { IfOk result (λ line. IsDateLine before.now seconds line) }
 {
     let digits = seconds.to_text();
@@ -54,7 +54,7 @@ fn write_part(text: &mut String, before: char, digits: &[u8]) -> Result<(), Allo
 }
 
 /// Writes bytes of a message: those that aren't printable, and the backslash, as `\x` and two hexadecimal digits.
-pub(crate) fn write_shown(text: &mut String, bytes: &[u8]) -> Result<(), AllocError>
+pub fn write_shown(text: &mut String, bytes: &[u8]) -> Result<(), AllocError>
     ensures { OnOk result (string_bytes text.new ≡ string_bytes text.old ++ shown bytes.now) }
 {
     for byte in bytes {

@@ -6,7 +6,7 @@ ghost use Rattle.krb_msg.specs.Borrowed.{krb_error_of, name_of};
 ghost use Rattle.krb_explain.specs.Message.{AreErrorLines, AreTimes, MayHaveTimes, AreClientTimes, client_lines, code_line, data_lines, difference_line, error_body, error_names, error_values, order_text, text_lines};
 
 use crate::date::{date_line, write_shown};
-use crate::error_name::error_name;
+use crate::error_codes::error_name;
 use crate::line::listed;
 use crate::parts::{head_line, name_line, with_name};
 use krb_msg::{KrbErrorRef, NameRef, Seconds};

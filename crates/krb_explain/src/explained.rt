@@ -25,18 +25,33 @@ use std::alloc::{AllocError, Global};
 pub fn explain(alloc: Global, bytes: &[u8]) -> Result<String, AllocError>
     ensures { IfOk result (λ text. IsExplanation bytes.now (string_bytes text)) }
 {
-    let lines = explained(alloc, bytes)?;
-    page(alloc, lines.as_slice())
+    let explained = explain_lines(alloc, bytes)?;
+    page(alloc, explained.lines.as_slice())
 }
 
-fn explained(alloc: Global, bytes: &[u8]) -> Result<Vec<Text>, AllocError>
-    ensures { IfOk result (λ lines. Explains bytes.now lines.items) }
+/// The lines that explain bytes, and what a service judges of them.
+#[derive(Drop)]
+pub struct Explained<'a> {
+    /// The lines of the page.
+    pub lines: Vec<Text>,
+    /// What a service that takes requests judges: the message in a client's token, or bytes that don't begin as a token. `None` if
+    /// the bytes are what a service sends in a token, or a token with a fault.
+    pub request: Option<&'a [u8]>,
+}
+
+/// Explains bytes as [`explain`] does, and returns the lines of the page.
+///
+/// # Errors
+/// `AllocError` if there is no memory for the lines.
+pub fn explain_lines<'a>(alloc: Global, bytes: &'a [u8]) -> Result<Explained<'a>, AllocError>
+    ensures { IfOk result (λ e. Explains bytes.entry.now e.lines.items (option_map (λ x. x.now) e.request)) }
 {
     let layer = Layer::of(bytes);
     let mut lines = listed(alloc, [size_line(alloc, bytes.len())?])?;
     lines.append(&mut layer_lines(alloc, &layer)?)?;
     lines.append(&mut carried_lines(alloc, layer.carried())?)?;
-    Ok(lines)
+    let request = layer.judged(bytes);
+    Ok(Explained { lines, request })
 }
 
 fn size_line(alloc: Global, size: usize) -> Result<Text, AllocError>

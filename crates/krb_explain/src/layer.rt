@@ -4,7 +4,7 @@ ghost use Rattle.std.specs.Prelude.{◌≡◌, if◌then◌else◌};
 ghost use Rattle.std.specs.Option.{option_map};
 ghost use Rattle.krb_der.specs.Place.{begins};
 ghost use Rattle.krb_gss.specs.Answer.{bytes_of, message_of};
-ghost use Rattle.krb_explain.specs.Layer.{IsLayer, carried, form_of};
+ghost use Rattle.krb_explain.specs.Layer.{IsLayer, carried, form_of, judged, judged_in};
 ghost use Rattle.krb_explain.specs.Inner.Borrowed.{layer_of, message_in};
 
 use crate::form::Form;
@@ -58,6 +58,36 @@ impl<'a> Layer<'a> {
             Layer::Says(_) => None,
             Layer::Other(_) => None,
         }
+    }
+
+    /// Returns what a service that takes requests judges of these bytes, if they are neither another service's answer nor a token
+    /// with a fault.
+    pub(crate) fn judged(&self, bytes: &'a [u8]) -> Option<&'a [u8]>
+        ensures { option_map (λ x. x.now) result ≡ judged bytes.entry.now (layer_of self.now) }
+    {
+        match *self {
+            Layer::Alone(_, message) => Some(message),
+            Layer::Asks(opened) => Some(opened.request),
+            Layer::Answers(_) => None,
+            Layer::Says(_) => None,
+            Layer::Other(fault) => judged_in(bytes, fault),
+        }
+    }
+}
+
+// The bytes, if they don't begin as a token.
+fn judged_in<'a>(bytes: &'a [u8], fault: TokenFault) -> Option<&'a [u8]>
+    ensures { option_map (λ x. x.now) result ≡ judged_in bytes.entry.now fault }
+{
+    match fault {
+        TokenFault::NotToken => Some(bytes),
+        TokenFault::Malformed(_) => None,
+        TokenFault::Response => None,
+        TokenFault::OtherMechanism(_, _) => None,
+        TokenFault::NoToken(_) => None,
+        TokenFault::TokenId(_) => None,
+        TokenFault::Unframed(_) => None,
+        TokenFault::Ended => None,
     }
 }
 

@@ -2,7 +2,8 @@
 //!
 //! [`message_bytes`] reads the bytes that a text spells: in hexadecimal, in base64, or in a header line such as
 //! `Authorization: Negotiate YII..`. [`explain`] returns a page of lines about them, without any key: the layers around a
-//! message, and what can be read in it.
+//! message, and what can be read in it. [`explain_lines`] returns these lines one by one. The functions that make lines are public, for
+//! pages that say more.
 //!
 //! ```text
 //! size: 345 bytes
@@ -16,7 +17,7 @@
 
 mod date;
 mod error;
-mod error_name;
+mod error_codes;
 mod explained;
 mod faults;
 mod flags;
@@ -30,6 +31,11 @@ mod named;
 mod parts;
 mod request;
 
-pub use explained::explain;
+pub use date::{date_line, write_shown};
+pub use error_codes::error_name;
+pub use explained::{Explained, explain, explain_lines};
+pub use flags::ticket_flags_text;
 pub use form::Form;
 pub use input::{InputFault, message_bytes};
+pub use line::{listed, page};
+pub use parts::{name_line, type_text, with_name};

@@ -7,17 +7,14 @@ use krb_readable::Text;
 use std::alloc::{AllocError, Global};
 
 /// Makes a list of these lines.
-pub(crate) fn listed<const N: usize>(
-    alloc: Global,
-    lines: [Text; N],
-) -> Result<Vec<Text>, AllocError>
+pub fn listed<const N: usize>(alloc: Global, lines: [Text; N]) -> Result<Vec<Text>, AllocError>
     ensures { IfOk result (λ made. made.items ≡ lines.entry) }
 {
     Ok(Vec::from_array(alloc, lines)?)
 }
 
 /// Returns a page: the lines, each with a line feed after it.
-pub(crate) fn page(alloc: Global, lines: &[Text]) -> Result<String, AllocError>
+pub fn page(alloc: Global, lines: &[Text]) -> Result<String, AllocError>
     ensures { IfOk result (λ text. string_bytes text ≡ page_of lines.now) }
 {
     let mut text = String::new(alloc);

@@ -19,7 +19,7 @@ pub(crate) fn head_line(alloc: Global, name: &str, size: usize) -> Result<Text, 
 }
 
 /// Makes the line of a principal: a label, and the name in a realm.
-pub(crate) fn name_line(
+pub fn name_line(
     alloc: Global,
     label: &str,
     realm: &[u8],
@@ -60,18 +60,14 @@ fn sealed_text(
 }
 
 /// Returns the number of an encryption type, and its name in parentheses if it has one.
-pub(crate) fn type_text(alloc: Global, etype: i32) -> Result<String, AllocError>
+pub fn type_text(alloc: Global, etype: i32) -> Result<String, AllocError>
     ensures { IfOk result (λ text. string_bytes text ≡ type_text etype) }
 {
     with_name(alloc, etype, enctype_name(etype))
 }
 
 /// Returns a number, and its name in parentheses if it has one.
-pub(crate) fn with_name(
-    alloc: Global,
-    number: i32,
-    name: Option<&str>,
-) -> Result<String, AllocError>
+pub fn with_name(alloc: Global, number: i32, name: Option<&str>) -> Result<String, AllocError>
     ensures { IfOk result (λ text. string_bytes text ≡ with_name number (option_map (λ x. x.now) name.entry)) }
 {
     match name {

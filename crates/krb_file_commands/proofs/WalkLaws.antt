@@ -119,7 +119,7 @@ module _ {S : Type 0} where
 
 -- ---- a cache
 
--- what is told of the bytes that a source gave holds of all that were to come
+-- what holds of the bytes that a source gave holds of all that were to come
 abbrev pub SourceTells : Type 0
 SourceTells = (whole bytes : List ℕ) (left : Option (List ℕ)) (answer : Result Cache CacheFault) → IsGiven (Some whole) left bytes → cache.IsAnswerOf bytes answer → cache.IsAnswerOf whole answer
 

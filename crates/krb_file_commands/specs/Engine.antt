@@ -26,7 +26,7 @@ pub record Makes {X E : Type 0} (Holds : X → Type 0) (Faults : List ℕ → E 
 
 -- ---- what the engine answers
 
--- nothing was made, for a reason of which this holds
+-- nothing was made, for a reason that this holds of
 abbrev pub IfUnmade : {X E : Type 0} → Result X (Ended E) → (E → Type 0) → Type 0
 IfUnmade (Err (Unmade e)) Holds = Holds e
 IfUnmade (Err Write) Holds = ⊤

@@ -3,9 +3,11 @@ pub mod Status
 pub mod Engine
 pub mod FaultText
 pub mod Converting
+pub mod OfType
 pub mod Picking
 pub mod Removing
 pub mod Adding
 pub mod Replacing
 pub mod Words
+pub mod Tasks
 pub mod Inner

@@ -1,23 +1,23 @@
 //! The commands on files, by the words of the command line.
 
-ghost use Rattle.std.specs.Prelude.{◌≡◌, ◌≤◌, IfErr, IfSome};
-ghost use Rattle.krb_file_commands.specs.Words.{Asks, AsksListing, IsEtype, IsNumber};
+ghost use Rattle.std.specs.Prelude.{◌≡◌, ◌≢◌, ◌≤◌, IfErr};
+ghost use Rattle.krb_file_commands.specs.OfType.{IsUsableType};
 
 use crate::add::add_keys;
 use crate::checking::{CheckCcache, CheckKeytab};
 use crate::converting::{ConvertCcache, ConvertKeytab};
 use crate::engine::Product;
-use crate::failure::WRONG_WORDS;
-use crate::fault::AddFault;
-use crate::fault_lines::word_line;
-use crate::listing::{CacheListing, ListKeytab};
-use crate::pick::PickKey;
-use crate::remove::RemoveKey;
+use crate::failure::{REFUSED, WRONG_WORDS};
+use crate::fault::{AddFault, service_status};
+use crate::fault_lines::{name_line, type_line, word_line};
+use crate::of_type::is_usable_type;
 use crate::run::{complain, complain_of, open_file, run_product, source_of};
-use crate::service::service_of;
-use crate::store::{Out, run_storing, store};
+use crate::store::{run_storing, store};
+use crate::task::{
+    Addition, Task, To, UnreadPick, addition_of, ccache_listing_of, copy_of, keytab_listing_of,
+    pick_of_words, removal_of,
+};
 use krb_command_line::{AddWords, CacheForm, PickWords, RemoveWords};
-use krb_readable::enctype_number;
 use std::random::RandomSource;
 use std::rt::Files;
 
@@ -29,7 +29,7 @@ pub fn run_list_keytab<R: AllocGlobal + Files + Print + Eprint>(
 ) -> u8
     ensures { result ≤ 3 }
 {
-    run_product(rt, &ListKeytab { readable }, "list-keytab", file, None)
+    print_task(rt, "list-keytab", &keytab_listing_of(file, readable))
 }
 
 /// Lists a credential cache, and returns the exit status.
@@ -40,22 +40,9 @@ pub fn run_list_ccache<R: AllocGlobal + Files + Print + Eprint>(
 ) -> u8
     ensures { result ≤ 3 }
 {
-    match listing_of(form) {
-        Some(listing) => run_product(rt, &listing, "list-ccache", file, None),
+    match ccache_listing_of(file, form) {
+        Some(task) => print_task(rt, "list-ccache", &task),
         None => WRONG_WORDS,
-    }
-}
-
-// The words of the command line were read as a number in this range.
-fn listing_of(form: CacheForm<'_>) -> Option<CacheListing>
-    ensures { IfSome result (AsksListing form.entry) }
-{
-    match form {
-        CacheForm::Lines => Some(CacheListing::Lines),
-        CacheForm::Table { now: None } => Some(CacheListing::Table { now: None }),
-        CacheForm::Table { now: Some(text) } => Some(CacheListing::Table {
-            now: Some(text.parse::<u64>().ok()?),
-        }),
     }
 }
 
@@ -82,7 +69,8 @@ pub fn run_convert_keytab<R: AllocGlobal + Files + RandomSource + Print + Eprint
 ) -> u8
     ensures { result ≤ 3 }
 {
-    run_converting(rt, &ConvertKeytab, "convert-keytab", file, out, replace)
+    let (task, to) = copy_of(ConvertKeytab, file, out, replace);
+    write_task(rt, "convert-keytab", &task, to)
 }
 
 /// Writes a credential cache again, into OUT, and returns the exit status. OUT is emptied first, or replaced.
@@ -94,61 +82,64 @@ pub fn run_convert_ccache<R: AllocGlobal + Files + RandomSource + Print + Eprint
 ) -> u8
     ensures { result ≤ 3 }
 {
-    run_converting(rt, &ConvertCcache, "convert-ccache", file, out, replace)
+    let (task, to) = copy_of(ConvertCcache, file, out, replace);
+    write_task(rt, "convert-ccache", &task, to)
 }
 
-fn run_converting<R: AllocGlobal + Files + RandomSource + Print + Eprint, P: Product>(
+// Prints what a command of this name makes, and returns the exit status.
+fn print_task<R: AllocGlobal + Files + Print + Eprint, P: Product>(
     rt: &R,
-    product: &P,
     command: &str,
-    file: &str,
-    out: &str,
-    replace: bool,
+    task: &Task<'_, P>,
 ) -> u8
     ensures { result ≤ 3 }
 {
-    if replace {
-        run_storing(rt, product, command, file, Out::Named(out))
-    } else {
-        run_product(rt, product, command, file, Some(out))
+    run_product(rt, &task.product, command, task.file, None)
+}
+
+// Writes what a command of this name makes, and returns the exit status.
+fn write_task<R: AllocGlobal + Files + RandomSource + Print + Eprint, P: Product>(
+    rt: &R,
+    command: &str,
+    task: &Task<'_, P>,
+    to: To<'_>,
+) -> u8
+    ensures { result ≤ 3 }
+{
+    match to {
+        To::Emptied(out) => run_product(rt, &task.product, command, task.file, Some(out)),
+        To::Replaced(out) => run_storing(rt, &task.product, command, task.file, out),
     }
 }
 
-/// Prints the entry of the keytab that is picked, and returns the exit status.
+/// Prints the entry of the keytab that is picked, and returns the exit status. If the encryption type isn't usable, that is printed after
+/// the entry, and the status is 1.
 pub fn run_pick<R: AllocGlobal + Files + Print + Eprint>(rt: &R, words: PickWords<'_>) -> u8
     ensures { result ≤ 3 }
 {
-    let Some(etype) = etype_of(words.etype) else {
-        return complain(rt, word_line("etype"), WRONG_WORDS);
-    };
-    let Some(kvno) = version_of(words.kvno) else {
-        return WRONG_WORDS;
-    };
-    let name = match service_of(rt, "name", words.name) {
-        Ok(name) => name,
-        Err(status) => return status,
-    };
-    let wanted = PickKey { name, etype, kvno };
-    run_product(rt, &wanted, "pick-key", words.keytab, None)
-}
-
-// The encryption type that has this name, or else this number in decimal.
-fn etype_of(text: &str) -> Option<i32>
-    ensures { IfSome result (IsEtype text.now) }
-{
-    match enctype_number(text) {
-        Some(etype) => Some(etype),
-        None => i32::try_from(text.parse::<u32>().ok()?).ok(),
+    match pick_of_words(rt.alloc(), words) {
+        Ok(task) => {
+            let status = print_task(rt, "pick-key", &task);
+            noted(rt, status, task.product.etype)
+        }
+        Err(UnreadPick::Etype) => complain(rt, word_line("etype"), WRONG_WORDS),
+        Err(UnreadPick::Version) => WRONG_WORDS,
+        Err(UnreadPick::Name(fault)) => {
+            complain(rt, name_line("name", &fault), service_status(&fault))
+        }
     }
 }
 
-// The words of the command line were read as a number in this range.
-fn version_of(text: Option<&str>) -> Option<Option<u32>>
-    ensures { IfSome result (Asks IsNumber text.entry) }
+// A line of a type that isn't usable was printed: so is that it isn't.
+fn noted<R: Eprint>(rt: &R, status: u8, etype: i32) -> u8
+    ensures usable { IsUsableType etype → result ≡ status }
+    ensures unusable { ¬ IsUsableType etype → status ≡ 0 → result ≡ 1 }
+    ensures failed { status ≢ 0 → result ≡ status }
 {
-    match text {
-        Some(text) => Some(Some(text.parse::<u32>().ok()?)),
-        None => Some(None),
+    if status == 0 && !is_usable_type(etype) {
+        complain(rt, type_line("pick-key"), REFUSED)
+    } else {
+        status
     }
 }
 
@@ -159,10 +150,9 @@ pub fn run_remove<R: AllocGlobal + Files + RandomSource + Print + Eprint>(
 ) -> u8
     ensures { result ≤ 3 }
 {
-    let out = Out::of(words.out, words.keytab);
-    match words.index.parse::<usize>() {
-        Ok(index) => run_storing(rt, &RemoveKey { index }, "remove-key", words.keytab, out),
-        Err(_) => WRONG_WORDS,
+    match removal_of(words) {
+        Some((task, out)) => run_storing(rt, &task.product, "remove-key", task.file, out),
+        None => WRONG_WORDS,
     }
 }
 
@@ -173,28 +163,23 @@ pub fn run_add<R: AllocGlobal + Files + RandomSource + Print + Eprint>(
 ) -> u8
     ensures { result ≤ 3 }
 {
-    match extended(rt, words) {
-        Ok(Ok(bytes)) => store(rt, &bytes, "add-keys", Out::of(words.out, words.keytab)),
-        Ok(Err(fault)) => {
-            let file = match fault {
-                AddFault::Keytab(_) => words.keytab,
-                AddFault::Added(_) => words.from,
-            };
-            complain_of(rt, &fault, file, "add-keys")
-        }
+    let files = addition_of(words);
+    match extended(rt, files) {
+        Ok(Ok(bytes)) => store(rt, &bytes, "add-keys", files.out),
+        Ok(Err(fault)) => complain_of(rt, &fault, files.faulty(&fault), "add-keys"),
         Err(status) => status,
     }
 }
 
-// The keytab with the keys of the other. If a file can't be had, that is printed, and the exit status is the error.
+// The keytab with the keys of the other. If a file can't be read, that is printed, and the exit status is the error.
 fn extended<R: AllocGlobal + Files + Eprint>(
     rt: &R,
-    words: AddWords<'_>,
+    files: Addition<'_>,
 ) -> Result<Result<Vec<u8>, AddFault>, u8>
     ensures { IfErr result (λ status. status ≡ 3) }
 {
-    let keytab = open_file(rt, words.keytab)?;
-    let from = open_file(rt, words.from)?;
+    let keytab = open_file(rt, files.keytab)?;
+    let from = open_file(rt, files.from)?;
     let mut source = source_of(rt, keytab, "add-keys")?;
     let mut others = source_of(rt, from, "add-keys")?;
     Ok(add_keys(rt.alloc(), &mut source, &mut others))

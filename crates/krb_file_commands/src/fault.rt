@@ -20,7 +20,7 @@ pub enum PickFault {
     Keytab(KeytabFault),
     /// No entry has the name.
     NoName,
-    /// No entry of that name has the encryption type, and a key that is usable with it.
+    /// No entry of that name has the encryption type. If the type is 19 or 20, an entry whose key hasn't the type's length doesn't count.
     NoKey,
     /// None of these entries has the version number.
     NoVersion,

@@ -86,6 +86,13 @@ pub fn word_line(argument: &str) -> FaultLine<'_>
     plain(argument, "BadWord")
 }
 
+/// Gives the line for a command that picked an entry of a type that isn't usable. It takes no memory.
+pub(crate) fn type_line(command: &str) -> FaultLine<'_>
+    ensures { result ≡ line_of command.entry.now (codes "UnusableType", None) }
+{
+    plain(command, "UnusableType")
+}
+
 /// Gives the line for an argument of this name that isn't in hexadecimal, or not of the right length. It takes no memory.
 pub fn hex_line(argument: &str) -> FaultLine<'_>
     ensures { result ≡ line_of argument.entry.now (codes "BadHex", None) }

@@ -2,22 +2,24 @@
 
 ghost use Rattle.std.specs.Prelude.{◌≡◌, IfErr, IfOk};
 ghost use Rattle.krb_keytab.specs.Format.{IsKeytab};
-ghost use Rattle.krb_keytab.specs.Pick.{IsChosen};
+ghost use Rattle.krb_keytab.specs.Pick.{chosen};
 ghost use Rattle.krb_file_commands.specs.Engine.{OfFile};
 ghost use Rattle.krb_file_commands.specs.Lines.{keytab_line};
-ghost use Rattle.krb_file_commands.specs.Picking.{AllowsUnpicked, IsPickedLine, IsUnmet, IsUnpicked};
+ghost use Rattle.krb_file_commands.specs.Picking.{AllowsUnpicked, IsChoiceOf, IsPickedLine, IsUnmet, IsUnpicked};
 ghost use Rattle.krb_file_commands.specs.Status.{pick_reads};
 
 use crate::engine::Product;
 use crate::fault::PickFault;
 use crate::lines::write_entry;
+use crate::of_type::pick_of;
 use krb_keytab::laws::{each_choice_is_one, each_file_has_one_answer};
 use krb_keytab::{Entry, Keytab, Picked};
 use krb_name::{Principal, Source};
 use std::alloc::{AllocError, Global};
 
-/// `pick-key` makes the line of the entry of a keytab that a ticket for `name` would be opened with, which `Keytab::pick` picks. The
-/// line is that of `list-keytab`.
+/// `pick-key` makes the line of the entry of a keytab that has the key of a ticket for `name`. `Keytab::pick` picks it if the type is 19 or
+/// 20. An entry of another type, whose key opens no ticket, is picked by the same rule, whatever the length of its key. The line is that of
+/// `list-keytab`.
 #[derive(Drop)]
 pub struct PickKey {
     /// The name of the service.
@@ -50,11 +52,11 @@ impl Product for PickKey {
 }
 
 fn picked<'a>(keytab: &'a Keytab, wanted: &PickKey) -> Result<&'a Entry, PickFault>
-    ensures chosen { IfOk result (λ entry. IsChosen keytab.entry.now wanted.now.name wanted.now.etype wanted.now.kvno entry.now) }
+    ensures chosen { IfOk result (λ entry. IsChoiceOf wanted.now keytab.entry.now (chosen entry.now)) }
     ensures unpicked { IfErr result (IsUnmet wanted.now keytab.entry.now) }
 {
     let etype = wanted.etype;
-    match keytab.pick(&wanted.name, etype, wanted.kvno) {
+    match pick_of(keytab, &wanted.name, etype, wanted.kvno) {
         Picked::Entry(entry) => Ok(entry),
         Picked::NoName => Err(PickFault::NoName),
         Picked::NoKey => Err(PickFault::NoKey),

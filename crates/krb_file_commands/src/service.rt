@@ -1,6 +1,7 @@
 //! The name of a service on the command line.
 
-ghost use Rattle.std.specs.Prelude.{◌≡◌, ◌⊎◌, Result, Ok, pos, IfErr, IfOk};
+ghost use Rattle.std.specs.Prelude.{◌≡◌, ◌⊎◌, Result, Ok, Err, pos, IfErr, IfOk};
+ghost use Rattle.krb_file_commands.specs.Status as status_of;
 ghost use Rattle.krb_name.specs.Reading.{IsReadAs, SameAnswer};
 ghost use Rattle.krb_name.specs.declared.principal.Principal.{Principal};
 ghost use Rattle.krb_name.specs.declared.text_fault.TextFault.{TextFault};
@@ -27,7 +28,7 @@ pub fn read_service(alloc: Global, text: &str) -> Result<Principal, TextFault>
     Principal::from_text(alloc, text, SERVICE_NAME_TYPE)
 }
 
-/// Reads a service's name off the words of the command line. If it is none, that is printed, and the exit status is the error.
+/// Reads a service's name off the words of the command line. If they aren't a name, that is printed, and the exit status is the error.
 pub fn service_of<R: AllocGlobal + Eprint>(
     rt: &R,
     argument: &str,
@@ -35,6 +36,7 @@ pub fn service_of<R: AllocGlobal + Eprint>(
 ) -> Result<Principal, u8>
     ensures read { IfOk result (λ name. IsReadAs text.now (Ok name) × (name.name_type ≡ pos 3)) }
     ensures status { IfErr result (λ status. (status ≡ 2) ⊎ (status ≡ 3)) }
+    ensures fault { IfErr result (λ status. (fault : TextFault) × (IsReadAs text.now (Err fault) × (status ≡ status_of.service_status fault))) }
 {
     match read_service(rt.alloc(), text) {
         Ok(name) => Ok(name),

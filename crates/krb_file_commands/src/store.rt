@@ -1,6 +1,7 @@
 //! Writing what a command made into a file that it may have read.
 
 ghost use Rattle.std.specs.Prelude.{◌≡◌, ◌≤◌, ◌⊎◌, IfErr};
+ghost use Rattle.krb_file_commands.specs.Tasks.{name_of, out_of};
 
 use crate::engine::Product;
 use crate::failure::FAILED;
@@ -30,14 +31,18 @@ pub(crate) enum Out<'a> {
 
 impl<'a> Out<'a> {
     /// What this option names, or else the file that is read.
-    pub(crate) fn of(option: Option<&'a str>, file: &'a str) -> Out<'a> {
+    pub(crate) fn of(option: Option<&'a str>, file: &'a str) -> Out<'a>
+        ensures { result ≡ out_of option.entry file.entry }
+    {
         match option {
             Some(name) => Out::Named(name),
             None => Out::Input(file),
         }
     }
 
-    fn name(self) -> &'a str {
+    fn name(self) -> &'a str
+        ensures { result ≡ name_of self.entry }
+    {
         match self {
             Out::Input(name) | Out::Named(name) => name,
         }
@@ -70,7 +75,7 @@ pub(crate) fn run_storing<R: AllocGlobal + Files + RandomSource + Print + Eprint
     }
 }
 
-// What the command makes of the file. If the file can't be had, that is printed, and the exit status is the error.
+// What the command makes of the file. If the file can't be read, that is printed, and the exit status is the error.
 fn make<R: AllocGlobal + Files + Eprint, P: Product>(
     rt: &R,
     product: &P,

@@ -3,4 +3,5 @@ pub mod OpenLaws
 pub mod ChecksumLaws
 pub mod WrittenLaws
 pub mod NegotiationLaws
+pub mod ListingLaws
 pub mod AloneLaws

@@ -21,15 +21,15 @@ use Rattle.krb_gss.specs.Inner.Reading.{begun, ok_of, init_at, said_at, spnego_f
 use Rattle.krb_gss.proofs.ReadLaws.{reads-begun, reads-fields}
 
 -- what is there exactly if something is found
-record Gets {V : Type 0} (o : Option V) (Is : V → Type 0) : Type 0 where
+pub record Gets {V : Type 0} (o : Option V) (Is : V → Type 0) : Type 0 where
   pub found : IfSome o Is
   pub only : (v : V) → Is v → o ≡ Some v
 
-gets : {V E : Type 0} {Is : V → Type 0} {IsFault : E → Type 0} (r : Result V E) → Reads r Is IsFault → Gets (ok_of r) Is
+pub gets : {V E : Type 0} {Is : V → Type 0} {IsFault : E → Type 0} (r : Result V E) → Reads r Is IsFault → Gets (ok_of r) Is
 gets (Ok v) h = record { found = h.found; only = λ w k. ap ok_of (h.only w k) }
 gets (Err e) h = record { found = tt; only = λ w k. ap ok_of (h.only w k) }
 
-gets-then : {V W : Type 0} {Is : V → Type 0} {Next : V → W → Type 0} {Whole : W → Type 0} (o : Option V) (next : V → Option W) → Gets o Is → ((v : V) → Is v → Gets (next v) (Next v))
+pub gets-then : {V W : Type 0} {Is : V → Type 0} {Next : V → W → Type 0} {Whole : W → Type 0} (o : Option V) (next : V → Option W) → Gets o Is → ((v : V) → Is v → Gets (next v) (Next v))
     → ((v : V) (w : W) → Is v → Next v w → Whole w) → ((w : W) → Whole w → (v : V) × Is v × Next v w) → Gets (o >>? next) Whole
 gets-then {V = V} {W = W} {Is = Is} {Next = Next} {Whole = Whole} o next h n join split =
     record { found = by o h.found; only = λ w k. let s = split w k in ap (λ (x : Option V). x >>? next) (h.only s.0 s.1) ∙ (n s.0 s.1).only w s.2 }
@@ -46,7 +46,7 @@ pub match-map : {V : Type 0} {N M : Type 0} {S T : V → Type 0} (r : Option V) 
 match-map None h f g = f h
 match-map (Some v) h f g = g v h
 
-some_none : {V : Type 0} (v : V) → ◌≡◌ {A = Option V} None (Some v) → ⊥
+pub some_none : {V : Type 0} (v : V) → ◌≡◌ {A = Option V} None (Some v) → ⊥
 some_none v e = cc
 
 matched : {V : Type 0} {Is : V → Type 0} (o : Option V) → Gets o Is → MatchOption o ((v : V) → Is v → ⊥) Is
@@ -54,7 +54,7 @@ matched None h = λ v k. some_none v (h.only v k)
 matched (Some v) h = h.found
 
 -- ---- a client that asks
-gets-spnego : (r : Result Mechanism Foreign) (after : Place) → Gets (spnego_from r after) (λ p. (r ≡ Err Negotiation) × (after ≡ p))
+pub gets-spnego : (r : Result Mechanism Foreign) (after : Place) → Gets (spnego_from r after) (λ p. (r ≡ Err Negotiation) × (after ≡ p))
 gets-spnego (Ok m) after = record { found = tt; only = λ p k. absurd (other k.0) }
   where
     other : ◌≡◌ {A = Result Mechanism Foreign} (Ok m) (Err Negotiation) → ⊥

@@ -41,7 +41,7 @@ either-both : {V U W E : Type 0} {Is : V → Type 0} {Next : V → U → Type 0}
     → ((w : W) → Whole w → (v : V) × (u : U) × Is v × Next v u × (made v u ≡ w)) → Reads (r >>= λ v. next v >>= λ u. Ok (made v u)) Whole (IsEither Is IsFault NextFault)
 either-both made r next h n join split = reads-both made r next h n join split (λ e k. of_first k) (λ v e is k. of_next v is k)
 
-of-token : {V : Type 0} {Is : V → Type 0} {IsFault : Fault → Type 0} (r : Result V Fault) → Reads r Is IsFault → Reads (as_token r) Is (IsMalformed IsFault)
+pub of-token : {V : Type 0} {Is : V → Type 0} {IsFault : Fault → Type 0} (r : Result V Fault) → Reads r Is IsFault → Reads (as_token r) Is (IsMalformed IsFault)
 of-token (Ok v) h = record { found = h.found; only = λ w k. ap as_token (h.only w k); faulty = tt }
 of-token (Err f) h = record { found = tt; only = λ w k. ap as_token (h.only w k); faulty = record { broken = f; is = h.faulty; fault_is = refl } }
 

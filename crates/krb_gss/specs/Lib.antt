@@ -11,4 +11,6 @@ pub mod Answered
 pub mod Later
 pub mod Said
 pub mod Negotiation
+pub mod Listing
+pub mod ListMic
 pub mod Inner

@@ -3,6 +3,7 @@
 ghost use Rattle.std.specs.Prelude.{◌≡◌, List, ℕ};
 ghost use Rattle.krb_gss.specs.Answer.{WritesVerdict};
 ghost use Rattle.krb_gss.specs.Checksum.{Content, IsChecksum};
+ghost use Rattle.krb_gss.specs.Listing.{IsListing};
 ghost use Rattle.krb_gss.specs.Negotiation.{IsAlone};
 ghost use Rattle.krb_gss.specs.Said.{Says};
 ghost use Rattle.krb_gss.specs.Token.{IsToken};
@@ -20,6 +21,13 @@ pub fn one_checksum()
 pub fn list_decides_nothing()
     ensures { (first mechanism : Mechanism) (request bytes : List ℕ)
         → IsToken (Wrapping.Negotiated first) mechanism request bytes → IsAlone mechanism request bytes }
+{}
+
+/// A token has at most one list that names Kerberos after another mechanism, and one first name of Kerberos in it. So a mechListMIC is
+/// over the very bytes that the client's first token holds.
+pub fn one_listing()
+    ensures { (first second : Mechanism) (one other bytes : List ℕ)
+        → IsListing first one bytes → IsListing second other bytes → (first ≡ second) × (one ≡ other) }
 {}
 
 /// What is written for a verdict says that verdict. So `read_verdict` reads what `wrap_verdict` writes.

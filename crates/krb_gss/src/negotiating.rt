@@ -19,6 +19,9 @@ pub enum Negotiation {
     /// No token of the client was taken.
     Begun,
     /// The client named Kerberos first, by this name, and was asked for its token.
+    ///
+    /// A caller that sets this state after [`open_listing`](crate::open_listing) has to check the client's mechListMIC itself:
+    /// [`take`](Negotiation::take) doesn't look at it.
     Asked(Mechanism),
     /// A request was taken, or a token was refused.
     Ended,
@@ -119,8 +122,12 @@ fn asked_here(bytes: &[u8]) -> Option<Mechanism>
     }
 }
 
-/// Opens a client's later token.
-fn open_later<'a>(bytes: &'a [u8]) -> Result<Later<'a>, TokenFault>
+/// Opens a client's later token, in a negotiation that it has begun. A mechListMIC in it isn't looked at:
+/// [`later_mic`](crate::later_mic) reads that.
+///
+/// # Errors
+/// A fault by the rules of `specs::Later`.
+pub fn open_later<'a>(bytes: &'a [u8]) -> Result<Later<'a>, TokenFault>
     ensures found { IfOk result (λ l. IsLaterToken l.mechanism l.request.now bytes.entry.now) }
     ensures only { (mechanism : Mechanism) (request : List ℕ) → IsLaterToken mechanism request bytes.entry.now
         → IsOkAnd result (λ l. (l.mechanism ≡ mechanism) × (l.request.now ≡ request)) }

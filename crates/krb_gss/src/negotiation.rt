@@ -4,12 +4,13 @@ ghost use Rattle.std.specs.Prelude.{◌≡◌};
 ghost use Rattle.std.specs.Option.{option_map};
 ghost use Rattle.krb_der.specs.Computed.Parts.{parts_at};
 ghost use Rattle.krb_gss.specs.Module.{negotiation_token};
-ghost use Rattle.krb_gss.specs.Inner.Reading.{init_at, response_at, later_at, said_at, held_at, held_from, named_at, negotiated_by, going_on_at};
+ghost use Rattle.krb_gss.specs.Listing.{mech_type_names};
+ghost use Rattle.krb_gss.specs.Inner.Reading.{init_at, response_at, later_at, said_at, held_at, held_from, named_at, negotiated_by, going_on_at, mic_at, types_at};
 
 use crate::framing::{REQUEST, begins, kerberos, name};
 use crate::messages::{BareResponse, FirstResponse, LaterResponse, NegTokenInit};
 use crate::{Mechanism, TokenFault};
-use krb_der::{Cursor, Fault, Last};
+use krb_der::{Cursor, Fault, Field, Last};
 
 /// Where the fields stand of the message with this tag.
 fn fields<'a, const TAG: u8>(cursor: Cursor<'a>) -> Result<Cursor<'a>, Fault>
@@ -43,6 +44,28 @@ pub fn init<'a>(cursor: Cursor<'a>) -> Result<(Cursor<'a>, Option<Cursor<'a>>), 
     }
 }
 
+/// Reads where the list of a NegTokenInit stands: its mechTypes.
+#[tactic(auto, unfolding(crate::specs::Inner::Reading::fields_at))]
+pub fn types<'a>(cursor: Cursor<'a>) -> Result<Cursor<'a>, Fault>
+    ensures { result ≡ types_at cursor.entry }
+{
+    let fields = fields::<0xa0>(cursor)?;
+    match fields.parts::<(Field<0xa0, Cursor>, Cursor)>() {
+        Ok((list, _)) => Ok(list.0),
+        Err(fault) => Err(fault),
+    }
+}
+
+/// Reads where the names of a list stand.
+pub fn names<'a>(list: Cursor<'a>) -> Result<Cursor<'a>, Fault>
+    ensures { result ≡ parts_at mech_type_names list.entry }
+{
+    match list.parts::<Last<0x30, Cursor>>() {
+        Ok(names) => Ok(names.0),
+        Err(fault) => Err(fault),
+    }
+}
+
 /// Reads a service's first NegTokenResp: the supportedMech and the responseToken.
 #[tactic(auto, unfolding(crate::specs::Inner::Reading::fields_at))]
 fn response<'a>(cursor: Cursor<'a>) -> Result<(Cursor<'a>, Option<Cursor<'a>>), Fault>
@@ -63,6 +86,18 @@ fn later<'a>(cursor: Cursor<'a>) -> Result<(Cursor<'a>, Option<Cursor<'a>>), Fau
     let fields = fields::<0xa1>(cursor)?;
     match fields.again().parts::<LaterResponse>() {
         Ok(response) => Ok((fields, content(response.token))),
+        Err(fault) => Err(fault),
+    }
+}
+
+/// Reads the mechListMIC of a client's later NegTokenResp.
+#[tactic(auto, unfolding(crate::specs::Inner::Reading::fields_at))]
+pub fn mic<'a>(cursor: Cursor<'a>) -> Result<Option<Cursor<'a>>, Fault>
+    ensures { result ≡ mic_at cursor.entry }
+{
+    let fields = fields::<0xa1>(cursor)?;
+    match fields.parts::<LaterResponse>() {
+        Ok(response) => Ok(content(response.mic)),
         Err(fault) => Err(fault),
     }
 }
@@ -100,7 +135,7 @@ fn held<'a>(oid: &Cursor, token: Option<Cursor<'a>>) -> Result<(Mechanism, Curso
     }
 }
 
-/// The mechanism of that name and that of the token, of which the identifier stands at the place.
+/// The negotiated mechanism, the token's own, and where the token's identifier begins.
 #[tactic(auto, unfolding(crate::specs::Inner::Reading::named_at))]
 fn named<'a>(
     oid: Cursor,

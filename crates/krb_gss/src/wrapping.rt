@@ -1,9 +1,10 @@
 //! Wrapping a request in the first token of a client, and the service's answers to its tokens.
 
-ghost use Rattle.std.specs.Prelude.{◌≡◌, ◌<◌, ◌≤◌, length, None, IfOk, OnOk, IsErrOf};
+ghost use Rattle.std.specs.Prelude.{◌≡◌, ◌<◌, ◌≤◌, [], length, None, IfOk, OnOk, IsErrOf};
 ghost use Rattle.krb_der.specs.Spells.{limit};
 ghost use Rattle.krb_gss.specs.Token.{IsToken};
-ghost use Rattle.krb_gss.specs.Wrapping.{Writes, written_size, WritesRequest};
+ghost use Rattle.krb_gss.specs.Wrapping.{IsResponding, Writes, written_size, WritesRequest};
+ghost use Rattle.krb_gss.specs.ListMic.{WritesRequestMic};
 ghost use Rattle.krb_gss.specs.Answer.{message_of, bytes_of, id_of, state_of, said_state, said_name, IsAnswer, WritesAnswer, WritesLater, WritesVerdict, answer_size, later_size};
 ghost use Rattle.krb_gss.specs.Inner.Putting.{of_token};
 
@@ -35,7 +36,7 @@ impl From<AllocError> for WrapFault {
 }
 
 /// Returns the bytes of these parts.
-fn encoded<P: EncodeParts>(alloc: Global, parts: &P) -> Result<Vec<u8>, WrapFault>
+pub(crate) fn encoded<P: EncodeParts>(alloc: Global, parts: &P) -> Result<Vec<u8>, WrapFault>
     ensures written { IfOk result (λ bytes. P.writes parts.now bytes.items) }
     ensures within { IfOk result (λ bytes. length bytes.items ≤ limit) }
     ensures fits { OnOk result (P.size parts.now ≤ limit) }
@@ -189,6 +190,24 @@ pub fn wrap_verdict(alloc: Global, verdict: Verdict) -> Result<Vec<u8>, AllocErr
     ensures { IfOk result (λ bytes. WritesVerdict verdict bytes.items) }
 {
     let (state, first) = said(verdict);
+    without_token(alloc, state, first)
+}
+
+/// Asks a client for its token of this mechanism and a mechListMIC (request-mic), after a first token as of
+/// [`open_listing`](crate::open_listing).
+///
+/// # Errors
+/// `AllocError`: out of memory.
+pub fn wrap_request_mic(alloc: Global, mechanism: Mechanism) -> Result<Vec<u8>, AllocError>
+    ensures { IfOk result (λ bytes. WritesRequestMic mechanism bytes.items) }
+{
+    without_token(alloc, 3, Some(mechanism))
+}
+
+/// Writes a NegTokenResp without a token.
+fn without_token(alloc: Global, state: u8, first: Option<Mechanism>) -> Result<Vec<u8>, AllocError>
+    ensures { IfOk result (λ bytes. IsResponding state first (λ none. none ≡ []) bytes.items) }
+{
     let mut out = Writer::new(alloc);
     let response = Response {
         state,

@@ -12,7 +12,7 @@ pub(crate) trait BlockHash<const N: usize>: Digest<Output = [u8; N]> + Clone {
     ghost digest_is: { (message digest : List ℕ) → Self.digest_of message digest
         → digest ≡ hash.digest message };
 
-    // A copy of a hasher is had always, and is the same hasher.
+    // Cloning a hasher never fails, and gives the same hasher.
     ghost copy_is_had: { (hasher : Self) → Self.is_infallible hasher };
 
     ghost copy_is: { (hasher copy : Self) → Self.is_clone hasher copy → copy ≡ hasher };

@@ -26,7 +26,7 @@ use Rattle.krb_keytab.proofs.SomeChoice.{same_bytes}
 abbrev pub HasAnswer : List ℕ → Type 0
 HasAnswer bytes = (answer : Result (List KeytabEntry) KeytabFault) × IsAnswerOf bytes answer
 
--- a record begins at an offset, and more comes behind it
+-- a record begins at an offset, and more follows
 record Whole (at : ℕ) (rest : List ℕ) : Type 0 where
   piece : List ℕ
   more : List ℕ

@@ -23,7 +23,7 @@ use Rattle.krb_keytab.proofs.MadeLaws.{made_keytab}
 pub flat_split : {A : Type 0} (f : KeytabRecord → List A) (before : List KeytabRecord) (one : KeytabRecord) (after : List KeytabRecord) → flat_map f (before ++ one ∷ after) ≡ flat_map f before ++ (f one ++ flat_map f after)
 flat_split f before one after = flat_map-append f before (one ∷ after)
 
--- the bytes before a record, the record, and the bytes behind it
+-- the bytes before a record, the record, and the bytes after it
 parts : (before : List KeytabRecord) (one : KeytabRecord) (after : List KeytabRecord) (end : List ℕ)
     → version ++ (flat_map record_bytes (before ++ one ∷ after) ++ end) ≡ (version ++ flat_map record_bytes before) ++ (record_bytes one ++ (flat_map record_bytes after ++ end))
 parts before one after end =

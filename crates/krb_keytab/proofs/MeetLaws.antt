@@ -32,7 +32,7 @@ use Rattle.krb_name.specs.declared.cursor.Short.{Short}
 pub cut_behind : (first later : List ℕ) (room : ℕ) → length first ≤ room → take room (first ++ later) ≡ first ++ take (room - length first) later
 cut_behind first later room fits = ap (λ (n : ℕ). take n (first ++ later)) (omega arith) ∙ take-append-add first later (room - length first)
 
--- no record stands behind, whatever came after the first bytes
+-- no record follows, whatever came after the first bytes
 pub ran : {T : Type 0} (P : Result T KeytabFault → Type 0) (last answer : Result T KeytabFault) (left : Option (List ℕ)) (at given : ℕ) (first later : List ℕ) (why : Option KeytabFault)
     → RanOut last answer left given → at + length first ≤ file_limit → given ≡ at + length (first ++ later) → ((more : List ℕ) → at + length (first ++ more) ≤ file_limit → LacksRecord at why (first ++ more))
     → (IsLastAt left at (first ++ later) why → P last) → (IsLongAt at (first ++ later) → P (Err TooLong)) → P (Err Read) → P answer

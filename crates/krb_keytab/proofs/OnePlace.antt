@@ -1,4 +1,4 @@
--- Two readers of one file stand at one place behind as many entries.
+-- Two readers of one file stand at one place after as many entries.
 use Rattle.std.proofs.Common.{◌≡◌, ℕ, ◌+◌, List, [], ◌∷◌, ◌++◌, length, Option, Some, None, refl, sym, ap, ◌∙◌, append_assoc, append-nil, arith}
 use Rattle.std.specs.List.{flat_map, AllByRecursion}
 use Rattle.std.specs.Io.KnownBytes.{Consumes}
@@ -41,7 +41,7 @@ same_front (one ∷ ones) (other ∷ others) last final x y p q f g l m e c =
 
 -- ---- two readers
 
--- what the source gave, and what was given of it, are told by the records
+-- the records say what the source gave, and what was returned of it
 abbrev bytes_of : List KeytabRecord → KeytabRecord → List ℕ
 bytes_of ones last = (version ++ (flat_map record_bytes ones ++ [])) ++ record_bytes last
 

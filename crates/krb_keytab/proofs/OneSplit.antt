@@ -29,7 +29,7 @@ module _ (ones others : List KeytabRecord) (b c : List ℕ) (p : All FitsRecord 
   pub first_records : NoRecord c → (more : List KeytabRecord) × (others ≡ ones ++ more)
   first_records none = first_among ones others b c (recursion_from_All FitsRecord ones p) (recursion_from_All FitsRecord others q) (append_cancel_left version _ _ same) none
 
--- records behind which no record stands are one list
+-- records that no record follows are one list
 same_split : (ones others : List KeytabRecord) (b c : List ℕ) → All FitsRecord ones → All FitsRecord others → version ++ (flat_map record_bytes ones ++ b) ≡ version ++ (flat_map record_bytes others ++ c) → NoRecord b → NoRecord c → (ones ≡ others) × (b ≡ c)
 same_split ones others b c p q same none never =
     let m = first_records ones others b c p q same never in

@@ -20,7 +20,7 @@ use Rattle.krb_keytab.proofs.ToldLaws.{fault_told}
 
 -- ---- the records that were read
 
--- of the bytes these records were read, and the place is behind them
+-- of the bytes these records were read, and the place is after them
 pub record Spans (bytes : List ℕ) (place : AtHand (List ℕ)) (records : List KeytabRecord) : Type 0 where
   pub fit : All FitsRecord records
   pub bytes_are : bytes ≡ version ++ (flat_map record_bytes records ++ place.source)

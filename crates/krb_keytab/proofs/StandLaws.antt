@@ -23,7 +23,7 @@ use Rattle.krb_keytab.specs.declared.stage.Stage.TheVariants.{Start, Records}
 use Rattle.krb_keytab.proofs.FileLaws.{reach_start, record_first, flat_push}
 use Rattle.krb_keytab.proofs.MeetLaws.{cut_behind}
 
--- ---- whole records, and what lies behind them
+-- ---- whole records, and what lies after them
 
 module _ (bytes : List ℕ) (entries : List KeytabEntry) (reached : IsReached bytes (length bytes) entries []) where
   pub reach_piece : (piece : List ℕ) → IsReached (bytes ++ piece) (length bytes) entries piece

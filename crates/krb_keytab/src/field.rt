@@ -39,7 +39,7 @@ impl<'a> Field<'a> for u8 {
     }
 }
 
-/// A count, and a row of fields of which one has so many parts.
+/// A count, and a row of fields, one of which has so many parts.
 #[derive(Drop)]
 pub(crate) struct Counted<R> {
     pub(crate) count: u16,

@@ -52,7 +52,7 @@ impl<'a> Listed<'a> {
         let mut cursor = FileCursor::new(self.bytes);
         let mut components = Components::with_room(alloc, usize::from(count))?;
         for _ in 0..count {
-            // There are so many, so each can be read.
+            // Can't fail: the invariant says that `count` components are here.
             let Ok(component) = cursor.read_data16() else {
                 break;
             };

@@ -55,7 +55,7 @@ impl<S> Model for EntryReader<S> {
 }
 
 impl<S: Source> EntryReader<S> {
-    /// Reads from `source`, of which nothing has been read yet. Allocates no memory.
+    /// Reads from `source`. Nothing of it has been read yet. Allocates no memory.
     pub fn new(alloc: Global, source: S) -> Self
         ensures source { result.source ≡ source }
         ensures start { HasRead (S.remaining source) result [] [] }
@@ -209,7 +209,7 @@ fn read_first<S: Source>(
     read_entry(alloc, window)
 }
 
-// Reads the version, and then on to the first entry, of which it answers only whether there is one.
+// Reads the version, and then on to the first entry, and returns whether there is one.
 fn pass_first<S: Source>(window: &mut Window<S>) -> Result<bool, KeytabFault>
     requires reads { S.failure_count window.old.source < 2 ^ 64 - 1 }
     requires start { window.old.given ≡ 0 }

@@ -10,18 +10,24 @@ use Rattle.krb_gss.specs.declared.verdict.Verdict.TheVariants.{Completed}
 use Rattle.krb_gss.specs.Answer.{error, WritesVerdict}
 use Rattle.krb_gss.specs.Said.{Means, Says}
 use Rattle.krb_gss.specs.Wrapping.{IsResponding}
+use Rattle.krb_ap.specs.Answer.{taken_of}
 use Rattle.krb_ap.specs.ErrorReply.{IsErrorReply}
+use Rattle.krb_ap.specs.declared.accepted.Accepted.{Accepted}
 use Rattle.krb_ap.specs.declared.refusal.Refusal.{Refusal}
+use Rattle.krb_ap.specs.declared.reply.ReplyOptions.{ReplyOptions}
 use Rattle.krb_name.specs.declared.principal.Principal.{Principal}
 use Rattle.krb_login.specs.Carrying.{GoesBack, Says as SaysIn, completed}
-use Rattle.krb_login.specs.Laws.{IsIn, IsOpen, SaysCompleted, SendsBack, reject, by_error}
-use Rattle.krb_login.specs.Login.{Call, Decides}
+use Rattle.krb_login.specs.Laws.{IsIn, IsOpen, SaysCompleted, SendsBack, at_moment, reject, by_error}
+use Rattle.krb_login.specs.Login.{Call, Decides, IsAnswered}
+use Rattle.krb_login.specs.Store.{IsWaiting, Settles, is_new, is_late, is_known, has_failed}
+use Rattle.krb_login.specs.Waiting.{Waiting}
 use Rattle.krb_login.specs.declared.carrier.Carrier.{Carrier}
 use Rattle.krb_login.specs.declared.carrier.Carrier.TheVariants.{Alone, First, Later}
 use Rattle.krb_login.specs.declared.decision.Decision.{Decision}
 use Rattle.krb_login.specs.declared.decision.Decision.TheVariants as decisions
 use Rattle.krb_login.specs.declared.decision.LetIn.{LetIn}
-use Rattle.krb_login.proofs.Following.{shows}
+use Rattle.krb_login.specs.declared.store.StoreSays.{StoreSays}
+use Rattle.krb_login.proofs.Following.{settled_shows, shows}
 use Rattle.krb_login.proofs.Written.{state_is}
 
 -- what says so begins as an answer of a negotiation, and has the state 0
@@ -75,6 +81,17 @@ only_in call (decisions.LetIn login) bytes is sends s = tt
 only_in call (decisions.GoOn sent) bytes is sends s = other_state 1 (Some is.0) _ sent.items is.1.1.1 one (subst SaysCompleted (sym sends) s)
 only_in call (decisions.Refused refused) bytes is sends s = sent_not call bytes refused.answer (shows call refused is).answer sends s
 
+-- and after a store has spoken
+pub settled_in_only : (call : Call) (waiting : Waiting) (said : StoreSays) (looked : ℤ) (confounder : List ℕ) (choice : ReplyOptions) (decision : Decision)
+    (bytes : List ℕ) → IsWaiting call waiting → Settles waiting said looked confounder choice decision → SendsBack decision bytes → SaysCompleted bytes → IsIn decision
+settled_in_only call waiting said looked confounder choice (decisions.LetIn login) bytes is settles sends s = tt
+settled_in_only call waiting said looked confounder choice (decisions.GoOn sent) bytes is (is_new e t never) sends s = never
+settled_in_only call waiting said looked confounder choice (decisions.GoOn sent) bytes is (is_late e t never) sends s = never
+settled_in_only call waiting said looked confounder choice (decisions.GoOn sent) bytes is (is_known e never) sends s = never
+settled_in_only call waiting said looked confounder choice (decisions.GoOn sent) bytes is (has_failed e never) sends s = never
+settled_in_only call waiting said looked confounder choice (decisions.Refused refused) bytes is settles sends s =
+    sent_not (at_moment call looked) bytes refused.answer (settled_shows call waiting is looked said confounder choice refused settles).answer sends s
+
 -- ---- what goes back to a client that is let in, and awaits no reply
 no_answer : (bytes : List ℕ) (sent : Option (Vec ℕ Global)) → sent ≡ None → IsSomeAnd sent (λ it. it.items ≡ bytes) → SaysCompleted bytes
 no_answer bytes None e sends = absurd sends
@@ -97,3 +114,13 @@ module _ (read : (verdict : Verdict) (bytes : List ℕ) → WritesVerdict verdic
   pub says_so : (call : Call) (login : LetIn) (bytes : List ℕ) → Decides call (decisions.LetIn login) → login.accepted.mutual ≡ false
       → SendsBack (decisions.LetIn login) bytes → SaysCompleted bytes
   says_so call login bytes is silent sends = says_in is.carrier bytes login.answer (is.answered.silent silent) sends
+
+  pub settled_says : (waiting : Waiting) (said : StoreSays) (looked : ℤ) (confounder : List ℕ) (choice : ReplyOptions) (login : LetIn) (bytes : List ℕ)
+      → Settles waiting said looked confounder choice (decisions.LetIn login) → login.accepted.mutual ≡ false
+      → SendsBack (decisions.LetIn login) bytes → SaysCompleted bytes
+  settled_says waiting told looked confounder choice login bytes (is_new e t s) silent sends =
+      says_in waiting.carrier bytes login.answer
+      ((subst (λ (it : Accepted). IsAnswered waiting.carrier (taken_of it) confounder choice login.answer) (sym s.0) s.1).silent silent) sends
+  settled_says waiting told looked confounder choice login bytes (is_late e t never) silent sends = absurd never
+  settled_says waiting told looked confounder choice login bytes (is_known e never) silent sends = absurd never
+  settled_says waiting told looked confounder choice login bytes (has_failed e never) silent sends = absurd never

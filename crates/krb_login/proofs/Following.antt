@@ -1,5 +1,5 @@
 -- What follows from a decision.
-use Rattle.std.proofs.Common.{◌≡◌, true, ℕ, List, Vec, Option, Some, None, refl, sym, ap, ◌∙◌, subst}
+use Rattle.std.proofs.Common.{◌≡◌, true, ℕ, ℤ, List, Vec, Option, Some, None, refl, sym, ap, ◌∙◌, subst}
 use Rattle.std.specs.Prelude.{IfSome, IsSomeAnd}
 use Rattle.std.specs.declared.alloc.Global.{Global}
 use Rattle.krb_time.specs.Moments.{micros_of}
@@ -18,8 +18,10 @@ use Rattle.krb_ap.specs.declared.reply.ReplyOptions.{ReplyOptions}
 use Rattle.krb_ap.proofs.Sending.{reply_opens}
 use Rattle.krb_login.specs.Asked.{Asks}
 use Rattle.krb_login.specs.Carrying.{GoesBack, rejected}
-use Rattle.krb_login.specs.Laws.{AnswersThat, AsksSo, Gives, IsOpen, IsRightlyIn, ShowsWhatIsOpen, reject, by_error as open_error}
+use Rattle.krb_login.specs.Laws.{AnswersThat, AsksSo, Gives, IsOpen, IsRightlyIn, ShowsWhatIsOpen, at_moment, reject, by_error as open_error}
 use Rattle.krb_login.specs.Login.{Call, Decides, HasCause, HoldsRequest, IsLetIn, IsRefusalOf, IsRefusedSo, by_error, by_reject, unread}
+use Rattle.krb_login.specs.Store.{IsRefusedFor, IsWaiting, Settles, is_new, is_late, is_known, has_failed}
+use Rattle.krb_login.specs.Waiting.{Waiting}
 use Rattle.krb_login.specs.declared.asked.Asked.{Asked}
 use Rattle.krb_login.specs.declared.carrier.Carrier.{Carrier}
 use Rattle.krb_login.specs.declared.carrier.Carrier.TheVariants.{Alone, First, Later}
@@ -29,6 +31,7 @@ use Rattle.krb_login.specs.declared.decision.Decision.{Decision}
 use Rattle.krb_login.specs.declared.decision.Decision.TheVariants as decisions
 use Rattle.krb_login.specs.declared.decision.LetIn.{LetIn}
 use Rattle.krb_login.specs.declared.decision.Refused.{Refused}
+use Rattle.krb_login.specs.declared.store.StoreSays.{StoreSays}
 
 -- ---- who is let in
 by_right : (call : Call) (login : LetIn) → IsLetIn call login → IsRightlyIn call login.accepted
@@ -113,9 +116,25 @@ nothing P o e = subst (λ x. IfSome x P) (sym e) tt
 by_cause : (call : Call) (refused : Refused) (cause : Cause) → HasCause call refused cause → ShowsWhatIsOpen call refused
 by_cause call refused (Token fault) h = record { asked = nothing _ refused.asked h.asked; answer = open_reject call _ refused.answer h.answer }
 by_cause call refused (Request refusal) h = of_request call h.0 h.1.0 refusal h.1.1.0 refused h.1.1.1.1.1
-by_cause call refused (Breached breach) h = of_request call h.0 h.1.0 _ h.1.1.1.0 refused h.1.1.1.1.1.1
+by_cause call refused (Breached breach) h = of_request call h.0 h.1.0 _ h.1.1.1.0 refused h.1.1.1.1.1.1.0
 by_cause call refused OutOfMemory h = record { asked = nothing _ refused.asked h.1.asked; answer = nothing _ refused.answer h.1.answer }
 by_cause call refused StoreFailed h = absurd h
 
 pub shows : (call : Call) (refused : Refused) → Decides call (decisions.Refused refused) → ShowsWhatIsOpen call refused
 shows call refused is = by_cause call refused refused.cause is
+
+-- ---- a refusal after a store has spoken
+module _ (call : Call) (waiting : Waiting) (is : IsWaiting call waiting) (looked : ℤ) where
+  for_cause : (cause : Cause) (refusal : Refusal) (refused : Refused) → IsRefusedFor waiting looked cause refusal refused → ShowsWhatIsOpen (at_moment call looked) refused
+  for_cause cause refusal refused h =
+      of_request (at_moment call looked) waiting.carrier is.request refusal
+      (subst (λ (carrier : Carrier). HoldsRequest call carrier is.request) (sym is.held.carrier_is) is.holds)
+      refused (h.so is.request is.held.asks)
+
+  pub settled_shows : (said : StoreSays) (confounder : List ℕ) (choice : ReplyOptions) (refused : Refused)
+      → Settles waiting said looked confounder choice (decisions.Refused refused) → ShowsWhatIsOpen (at_moment call looked) refused
+  settled_shows said confounder choice refused (is_new e t s) =
+      record { asked = nothing _ refused.asked s.1.0.asked; answer = nothing _ refused.answer s.1.0.answer }
+  settled_shows said confounder choice refused (is_late e t r) = for_cause _ _ refused r
+  settled_shows said confounder choice refused (is_known e r) = for_cause _ _ refused r
+  settled_shows said confounder choice refused (has_failed e r) = for_cause _ _ refused r

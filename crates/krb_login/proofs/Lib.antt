@@ -4,3 +4,4 @@ pub mod Written
 pub mod Completed
 pub mod Stepping
 pub mod AtTheStore
+pub mod Remembering

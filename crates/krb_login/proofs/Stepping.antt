@@ -1,12 +1,17 @@
 -- What follows from the first of two steps.
-use Rattle.std.proofs.Common.{◌≡◌, ℕ, List, ◌∷◌, length, Result, Ok, Err, sym, ap, ◌∙◌, subst, arith}
-use Rattle.krb_ap.specs.Setup.{Arrival}
+use Rattle.std.proofs.Common.{◌≡◌, ℕ, List, ◌∷◌, length, Result, Ok, Err, inl, inr, sym, ap, ◌∙◌, subst, arith}
+use Rattle.krb_replay.specs.Limit.{Limits}
+use Rattle.krb_replay.specs.Stamp.{Stamp}
+use Rattle.krb_ap.specs.Service.{HeedsLimits as HeedsLimitsAt}
+use Rattle.krb_ap.specs.Setup.{Setup, Arrival, arrival}
 use Rattle.krb_ap.specs.declared.accepted.Accepted.{Accepted}
 use Rattle.krb_ap.specs.declared.refusal.Refusal.{Refusal}
 use Rattle.krb_gss.specs.declared.negotiating.Negotiation.{Negotiation}
 use Rattle.krb_login.specs.Carrying.{Carries}
 use Rattle.krb_login.specs.Laws.{IsIn}
-use Rattle.krb_login.specs.Login.{Call, IsAfter, IsOfNone, IsOfRequest, IsUndecided, left, added, unanswered}
+use Rattle.krb_login.specs.Limits.{HeedsLimits, of_none, of_request}
+use Rattle.krb_login.specs.Login.{Call, Decides, HasCause, IsAfter, IsDecided, IsOfNone, IsOfRequest, IsUndecided, left, added, unanswered}
+use Rattle.krb_login.specs.Store.{IsSettled, IsSettledFor}
 use Rattle.krb_login.specs.declared.carrier.Carrier.{Carrier}
 use Rattle.krb_login.specs.declared.cause.Cause.{Cause}
 use Rattle.krb_login.specs.declared.cause.Cause.TheVariants.{Token, Request, Breached, OutOfMemory, StoreFailed}
@@ -54,3 +59,34 @@ pub undecided_if_same : (call : Call) (refused : Refused) (after : List Arrival)
 undecided_if_same call refused after (left undecided e) same own = of_one_kind refused.cause undecided own
 undecided_if_same call refused after (added carrier request decided holds e) same own = no_longer _ call.history (sym e ∙ same)
 undecided_if_same call refused after (unanswered carrier request taken out holds accept meets due e) same own = no_longer _ call.history (sym e ∙ same)
+
+-- ---- the limits of the memory
+-- what is lacking may be said otherwise
+pub heeds_at : (Has : Stamp → Type 0) (limits : List Limits) (old new : List ℕ) (setup : Setup) (history : List Arrival) (call : Arrival) (A B : Type 0)
+    → (A → B) → HeedsLimitsAt Has limits old new setup history call A → HeedsLimitsAt Has limits old new setup history call B
+heeds_at Has limits old new setup history call A B so h = record {
+  full = λ stamp shows. so (h.full stamp shows);
+  counted = elim h.counted [
+    | inl same ↦ inl same
+    | inr one ↦ inr (one.0, (so one.1.0, one.1.1))
+  ];
+}
+
+pub heeds : (Has : Stamp → Type 0) (limits : List Limits) (old new : List ℕ) (call : Call) (A B : Type 0)
+    → (A → B) → HeedsLimits Has limits old new call A → HeedsLimits Has limits old new call B
+heeds Has limits old new call A B so (of_none none same) = of_none none same
+heeds Has limits old new call A B so (of_request carrier request holds at uncounted) =
+    of_request carrier request holds (heeds_at Has limits old new call.setup call.history (arrival request call.now) A B so at) uncounted
+
+-- ---- a decision without the store isn't for its failure
+decided_for : (call : Call) (refused : Refused) (cause : Cause) → HasCause call refused cause → IsSettledFor cause → IsOfRequest cause
+decided_for call refused (Token fault) has settled = settled
+decided_for call refused (Request refusal) has settled = tt
+decided_for call refused (Breached breach) has settled = tt
+decided_for call refused OutOfMemory has settled = settled
+decided_for call refused StoreFailed has settled = has
+
+pub decided_if_settled : (call : Call) (decision : Decision) → Decides call decision → IsSettled decision → IsDecided decision
+decided_if_settled call (decisions.LetIn login) decides settled = tt
+decided_if_settled call (decisions.GoOn bytes) decides settled = settled
+decided_if_settled call (decisions.Refused refused) decides settled = decided_for call refused refused.cause decides settled

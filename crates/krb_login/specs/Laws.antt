@@ -1,5 +1,5 @@
 -- What follows from a service's decision.
-use Rattle.std.specs.Prelude.{◌≡◌, ℕ, List, Vec, Option, Some, IfSome, IsSomeAnd}
+use Rattle.std.specs.Prelude.{◌≡◌, ℕ, ℤ, List, Vec, Option, Some, IfSome, IsSomeAnd}
 use Rattle.std.specs.declared.alloc.Global.{Global}
 use Rattle.krb_der.specs.Kind.{ValueOf}
 use Rattle.krb_msg.specs.Module.{ap_req, enc_ticket_part}
@@ -79,6 +79,19 @@ pub record AsksSo (call : Call) (asked : Asked) : Type 0 where
   pub request : List ℕ
   pub holds : HoldsRequest call carrier request
   pub asks : Asks request asked
+
+-- the same call when the clock shows a later moment
+abbrev pub at_moment : Call → ℤ → Call
+at_moment call now = record {
+  terms = call.terms;
+  setup = call.setup;
+  history = call.history;
+  negotiation = call.negotiation;
+  bytes = call.bytes;
+  now = now;
+  confounder = call.confounder;
+  choice = call.choice;
+}
 
 pub record ShowsWhatIsOpen (call : Call) (refused : Refused) : Type 0 where
   pub asked : IfSome refused.asked (AsksSo call)

@@ -3,7 +3,10 @@ pub mod Terms
 pub mod Asked
 pub mod Carrying
 pub mod Login
+pub mod Limits
 pub mod Laws
 pub mod Waiting
 pub mod Store
+pub mod Happening
+pub mod Remembering
 pub mod Inner

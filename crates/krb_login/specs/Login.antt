@@ -20,7 +20,7 @@ use Rattle.krb_ap.specs.declared.refusal.Refusal.TheVariants as refusals
 use Rattle.krb_ap.specs.declared.reply.ReplyOptions.{ReplyOptions}
 use Rattle.krb_name.specs.declared.principal.Principal.{Principal}
 use Rattle.krb_login.specs.Terms.{Meets, IsFirstBroken, code_of as breach_code}
-use Rattle.krb_login.specs.Asked.{Asks, AsksNothing}
+use Rattle.krb_login.specs.Asked.{Asks, AsksNothing, AsksSomething}
 use Rattle.krb_login.specs.Carrying.{BeginsRequest, Carries, FitsInto, GoesBack, IsNegotiating, Says, completed, rejected}
 use Rattle.krb_login.specs.declared.terms.Terms.{Terms}
 use Rattle.krb_login.specs.declared.asked.Asked.{Asked as AskedFor}
@@ -106,14 +106,14 @@ pub record IsFaultOf (negotiation : Negotiation) (bytes : List ℕ) (fault : Tok
   pub faulty : Takes bytes negotiation (Err fault) Ended
 
 -- A reject goes back to a client that is in a negotiation (RFC 4178, section 4.2.2). To others nothing
--- goes back, since it isn't known what they await. It is missing only if memory ran out, and then the
--- service says so.
+-- goes back, since it isn't known what they await. A reject that is due is missing only if memory ran
+-- out, and then the service says so.
 pub record IsFaultySo (negotiation : Negotiation) (bytes : List ℕ) (fault : TokenFault) (refused : Refused) : Type 0 where
   pub faulty : IsFaultOf negotiation bytes fault
   pub asked : refused.asked ≡ None
   pub answer : IfSome refused.answer (λ sent. IsNegotiating negotiation bytes × WritesVerdict Rejected sent.items)
   pub due : refused.answer ≡ None → refused.unsent ≡ None → IsNegotiating negotiation bytes → ⊥
-  pub unsent : IfSome refused.unsent (λ why. (why ≡ unsent.OutOfMemory) × (refused.answer ≡ None))
+  pub unsent : IfSome refused.unsent (λ why. (why ≡ unsent.OutOfMemory) × ((refused.answer ≡ None) × IsNegotiating negotiation bytes))
 
 -- The error of a refusal goes back to a client that awaits a reply (RFC 4120, section 3.2.3), and
 -- else a reject, in a negotiation.
@@ -130,26 +130,35 @@ pub data IsNothingDue (carrier : Carrier) (request : List ℕ) : Type 0 where
   silent : (asked : AskedFor) → Asks request asked → asked.wants_reply ≡ false → rejected carrier ≡ None → IsNothingDue carrier request
   unread_alone : AsksNothing request → rejected carrier ≡ None → IsNothingDue carrier request
 
+-- An error is due to a client that awaits a reply, and else a reject in a negotiation.
+abbrev pub IsErrorDue : List ℕ → Type 0
+IsErrorDue request = (asked : AskedFor) × (Asks request asked × (asked.wants_reply ≡ true))
+
+abbrev pub IsDue : Carrier → List ℕ → Type 0
+IsDue carrier request = IsErrorDue request ⊎ (rejected carrier ≢ None)
+
 -- the error of a refusal would be longer than messages may be, or its token would
 abbrev pub IsErrorLong : Refusal → ℤ → Carrier → Principal → Type 0
 IsErrorLong refusal now carrier service =
     IsErrorTooLong refusal now service
     ⊎ ((message : List ℕ) × (IsErrorReply refusal now service message × (FitsInto carrier (length message) → ⊥)))
 
--- why what is due doesn't go back
-abbrev pub IsUnsentSo : ℤ → Carrier → List ℕ → Refusal → Unsent → Type 0
-IsUnsentSo now carrier request refusal unsent.TooLong =
-    (asked : AskedFor) × (Asks request asked × ((asked.wants_reply ≡ true) × IsErrorLong refusal now carrier asked.service))
-IsUnsentSo now carrier request refusal unsent.OutOfMemory = Unit {0}
+-- Why what is due doesn't go back, if this is said of what the request asks for: the error is too
+-- long, or memory ran out.
+abbrev pub IsUnsentSo : ℤ → Carrier → List ℕ → Refusal → Option AskedFor → Unsent → Type 0
+IsUnsentSo now carrier request refusal said unsent.TooLong =
+    (asked : AskedFor) × ((said ≡ Some asked) × ((asked.wants_reply ≡ true) × IsErrorLong refusal now carrier asked.service))
+IsUnsentSo now carrier request refusal said unsent.OutOfMemory = IsDue carrier request
 
--- What is said of a request that is refused: what it asks for, and what goes back. Either is missing
--- only if memory ran out, and what goes back if it would be too long; the service says which.
+-- What is said of a request that is refused: what it asks for, and what goes back. What it asks for is
+-- missing only if the bytes aren't a request or memory ran out for it, and in this case nothing goes
+-- back. If anything is due that doesn't go back, and only then, the service says why.
 pub record IsRefusedSo (now : ℤ) (carrier : Carrier) (request : List ℕ) (refusal : Refusal) (refused : Refused) : Type 0 where
   pub asked : IfSome refused.asked (Asks request)
-  pub read : refused.asked ≡ None → AsksNothing request ⊎ (refused.unsent ≡ Some unsent.OutOfMemory)
+  pub read : refused.asked ≡ None → AsksNothing request ⊎ (AsksSomething request × (refused.answer ≡ None))
   pub answer : IfSome refused.answer (λ bytes. IsRefusalOf now carrier request refusal bytes.items)
   pub due : refused.answer ≡ None → refused.unsent ≡ None → IsNothingDue carrier request
-  pub unsent : IfSome refused.unsent (λ why. IsUnsentSo now carrier request refusal why × (refused.answer ≡ None))
+  pub unsent : IfSome refused.unsent (λ why. IsUnsentSo now carrier request refusal refused.asked why × (refused.answer ≡ None))
 
 -- nothing is said, since memory ran out
 pub record SaysNothing (refused : Refused) : Type 0 where
@@ -163,8 +172,8 @@ pub data MayRunOut (call : Call) : Type 0 where
   asking : (first : Mechanism) → call.negotiation ≡ Begun → IsAsking first call.bytes → MayRunOut call
   deciding : (carrier : Carrier) (request : List ℕ) → HoldsRequest call carrier request → IsOrdinary request → MayRunOut call
 
--- A refusal tells no place outside of the request. The error of a breach of the terms has the code of
--- `Authorization`, KRB_ERR_GENERIC.
+-- A refusal names no place outside of the request. The error of a breach of the terms has the code of
+-- `Authorization`, KRB_ERR_GENERIC. With a breach it is always said what the request asks for.
 abbrev pub HasCause : Call → Refused → Cause → Type 0
 HasCause call refused (Token fault) = IsFaultySo call.negotiation call.bytes fault refused
 HasCause call refused (Request refusal) =
@@ -174,7 +183,8 @@ HasCause call refused (Request refusal) =
 HasCause call refused (Breached breach) =
     (carrier : Carrier) × ((request : List ℕ) × ((taken : Taken) × (HoldsRequest call carrier request
     × (Accept call.setup call.history (arrival request call.now) taken
-    × (IsFirstBroken call.terms taken breach × IsRefusedSo call.now carrier request refusals.Authorization refused)))))
+    × (IsFirstBroken call.terms taken breach × (IsRefusedSo call.now carrier request refusals.Authorization refused
+    × (refused.asked ≢ None)))))))
 HasCause call refused OutOfMemory = MayRunOut call × SaysNothing refused
 HasCause call refused StoreFailed = ⊥
 

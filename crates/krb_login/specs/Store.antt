@@ -1,10 +1,9 @@
 -- A login with a store of stamps that several services share: what a service asks, and what it decides by what the store says.
-use Rattle.std.specs.Prelude.{◌≡◌, ◌≢◌, ◌⊎◌, ◌≤ℤ◌, ◌+ℤ◌, ℕ, ℤ, pos, List, ◌∷◌, Bool, true, false, Option}
+use Rattle.std.specs.Prelude.{◌≡◌, ◌≢◌, ◌⊎◌, ◌≤ℤ◌, ◌+ℤ◌, ℕ, ℤ, pos, List, ◌∷◌}
 use Rattle.std.specs.Option.{MatchOption}
 use Rattle.krb_ap.specs.Answer.{taken_of}
 use Rattle.krb_ap.specs.Opened.{IsOrdinary}
 use Rattle.krb_ap.specs.Setup.{Arrival, arrival}
-use Rattle.krb_ap.specs.Sharing.{Asked as Question, Outcome, asked_by}
 use Rattle.krb_ap.specs.Taken.{Accept, Taken, taken_stamp}
 use Rattle.krb_ap.specs.declared.accepted.Accepted.{Accepted}
 use Rattle.krb_ap.specs.declared.refusal.Refusal.{Refusal}
@@ -76,9 +75,11 @@ SettlesNew waiting confounder choice (decisions.GoOn bytes) = ⊥
 SettlesNew waiting confounder choice (decisions.Refused refused) =
     (refused.cause ≡ causes.OutOfMemory) × (SaysNothing refused × IsAnswerDue waiting.carrier (taken_of waiting.accepted))
 
--- The client is refused for a cause, and what goes back is the error of this refusal, as for any other request.
+-- The client is refused for a cause. What its request asks for is said, and what goes back is the error of this refusal, as for any
+-- other request.
 pub record IsRefusedFor (waiting : Waiting) (now : ℤ) (cause : Cause) (refusal : Refusal) (refused : Refused) : Type 0 where
   pub cause_is : refused.cause ≡ cause
+  pub asked_is : refused.asked ≡ waiting.asked
   pub so : (request : List ℕ) → AsksFor waiting request → IsRefusedSo now waiting.carrier request refusal refused
 
 abbrev pub Refuses : Waiting → ℤ → Cause → Refusal → Decision → Type 0
@@ -107,6 +108,7 @@ pub record IsUnasked (call : Call) (decision : Decision) (after : List Arrival) 
   pub taken : Taken
   pub ran_out : RanOut decision
   pub holds : HoldsRequest call carrier request
+  pub ordinary : IsOrdinary request
   pub accepted : Accept call.setup call.history (arrival request call.now) taken
   pub meets : Meets call.terms taken
   pub after_is : after ≡ arrival request call.now ∷ call.history
@@ -126,6 +128,11 @@ abbrev pub IsJudgedBy : Step → Type 0
 IsJudgedBy (Decided decision) = IsDecided decision
 IsJudgedBy (Ask waiting) = Unit {0}
 
+-- memory ran out in the first step
+abbrev pub RanOutBefore : Step → Type 0
+RanOutBefore (Decided decision) = RanOut decision
+RanOutBefore (Ask waiting) = ⊥
+
 pub record StepsOn (Stands : List Arrival → Type 0) (call : Call) (step : Step) : Type 0 where
   pub after : List Arrival
   pub is_after : IsAfterStep call step after
@@ -133,18 +140,22 @@ pub record StepsOn (Stands : List Arrival → Type 0) (call : Call) (step : Step
 
 -- ---- all steps in their order
 
--- The store is asked for the bytes of the stamp, until the moment up to which it is kept. It can't be asked if that is after the year 9999.
-abbrev pub SaysOf : {S : Type 0} → (S → List ℕ → ℤ → StoreSays → S → Type 0) → Waiting → S → List ℕ → StoreSays → S → Type 0
-SaysOf adds waiting old bytes said new =
-    adds old bytes (kept_until waiting.stamp waiting.skew) said new
-    ⊎ ((IsMoment (kept_until waiting.stamp waiting.skew) → ⊥) × ((said ≡ Failed) × (new ≡ old)))
+-- The store can be asked: there is a moment up to which the stamp is kept, since it isn't after the year 9999.
+abbrev pub IsAskable : Waiting → Type 0
+IsAskable waiting = IsMoment (kept_until waiting.stamp waiting.skew)
 
--- The store is asked, the clock is looked at after that, and this is decided then; or memory ran out before.
+-- The store is asked for the bytes of the stamp, until that moment. A store that can't be asked counts as failed.
+pub data SaysOf {S : Type 0} (adds : S → List ℕ → ℤ → StoreSays → S → Type 0) (waiting : Waiting) (old : S) (said : StoreSays) (new : S) : Type 0 where
+  added : (bytes : List ℕ) → IsBytesOf waiting.stamp bytes → IsAskable waiting → adds old bytes (kept_until waiting.stamp waiting.skew) said new
+      → SaysOf adds waiting old said new
+  unaskable : (IsAskable waiting → ⊥) → said ≡ Failed → new ≡ old → SaysOf adds waiting old said new
+
+-- The store is asked, the clock is looked at after that, and this is decided then. Or memory ran out before, for the bytes of the stamp.
 pub data SettlesBy {S : Type 0} (adds : S → List ℕ → ℤ → StoreSays → S → Type 0) (shows : S → ℤ → S → Type 0) (waiting : Waiting) (old : S)
     (confounder : List ℕ) (choice : ReplyOptions) (decision : Decision) (new : S) : Type 0 where
-  asked : (bytes : List ℕ) (said : StoreSays) (after : S) (looked : ℤ) → IsBytesOf waiting.stamp bytes → SaysOf adds waiting old bytes said after
+  asked : (said : StoreSays) (after : S) (looked : ℤ) → SaysOf adds waiting old said after
       → shows after looked new → Settles waiting said looked confounder choice decision → SettlesBy adds shows waiting old confounder choice decision new
-  unasked : (refused : Refused) → decision ≡ decisions.Refused refused → refused.cause ≡ causes.OutOfMemory → SaysNothing refused → new ≡ old
+  unasked : (refused : Refused) → IsAskable waiting → decision ≡ decisions.Refused refused → refused.cause ≡ causes.OutOfMemory → SaysNothing refused → new ≡ old
       → SettlesBy adds shows waiting old confounder choice decision new
 
 -- The service decides by itself, and lets nobody in, or the store is asked.
@@ -155,16 +166,14 @@ pub data AnswersShared {S : Type 0} (adds : S → List ℕ → ℤ → StoreSays
   by_the_store : (waiting : Waiting) → Steps call (Ask waiting) → LeadsTo call.bytes (Ask waiting) negotiation → StepsOn Stands call (Ask waiting)
       → SettlesBy adds shows waiting old call.confounder call.choice decision new → AnswersShared adds shows call old Stands negotiation decision new
 
--- ---- what happens at the store (krb_ap's `Sharing`)
+-- A request was accepted, or refused for a cause of its own, or the store failed after that.
+abbrev pub IsSettledFor : Cause → Type 0
+IsSettledFor (causes.Request refusal) = Unit {0}
+IsSettledFor (causes.Breached breach) = Unit {0}
+IsSettledFor causes.StoreFailed = Unit {0}
+IsSettledFor _ = ⊥
 
-abbrev pub says_new : StoreSays → Bool
-says_new New = true
-says_new Known = false
-says_new Failed = false
-
--- the question of a service, and what comes of it
-abbrev pub question_of : (call : Call) (waiting : Waiting) → IsWaiting call waiting → Question
-question_of call waiting is = asked_by call.setup call.history (arrival is.request call.now) (taken_of is.known)
-
-abbrev pub outcome_of : StoreSays → ℤ → Outcome
-outcome_of said looked = record { is_new = says_new said; looked = looked }
+abbrev pub IsSettled : Decision → Type 0
+IsSettled (decisions.LetIn login) = Unit {0}
+IsSettled (decisions.GoOn bytes) = ⊥
+IsSettled (decisions.Refused refused) = IsSettledFor refused.cause

@@ -1,8 +1,11 @@
 //! What a request asks for, as anyone can read it.
 
-ghost use Rattle.std.specs.Prelude.{IfOk, OnErr};
+ghost use Rattle.std.specs.Prelude.{◌≡◌, IfOk, OnErr, IsSomeAnd};
 ghost use Rattle.std.specs.Option.{MatchOption};
+ghost use Rattle.krb_ap.specs.Opened.{AsksFor as AsksForService, service_of};
+ghost use Rattle.krb_ap.specs.Taken.{is_mutual};
 ghost use Rattle.krb_login.specs.Asked.{Asks, AsksNothing, AsksSomething, IsAsked};
+ghost use Rattle.krb_login.specs.Inner.{Awaits};
 ghost use Rattle.krb_msg.specs.Borrowed.{ap_req_of};
 
 use krb_msg::{ApReqRef, MUTUAL_REQUIRED, Principal};
@@ -38,15 +41,50 @@ pub fn asked_by(alloc: Global, bytes: &[u8]) -> Result<Option<Asked>, AllocError
     }
 }
 
+/// Says what a request asks for, whose ticket is for this service; or nothing if the bytes aren't a
+/// request.
+pub(crate) fn asked_of(service: Principal, bytes: &[u8]) -> Option<Asked>
+    ensures { AsksForService bytes.now service → IsSomeAnd result (Asks bytes.now) }
+{
+    krb_msg::laws::one_value();
+    let Ok(request) = ApReqRef::parse(bytes) else {
+        return None;
+    };
+    Some(asked_with(service, &request))
+}
+
+/// Whether the client of a request awaits a reply.
+pub(crate) fn wants_reply(bytes: &[u8]) -> bool
+    ensures { Awaits bytes.now result }
+{
+    let Ok(request) = ApReqRef::parse(bytes) else {
+        return false;
+    };
+    is_mutual(&request)
+}
+
 fn of_request(alloc: Global, request: &ApReqRef) -> Result<Asked, AllocError>
     ensures { IfOk result (IsAsked (ap_req_of request.now)) }
 {
     let ticket = &request.ticket;
     let service = ticket.sname.to_principal(alloc, ticket.realm)?;
-    Ok(Asked {
+    Ok(asked_with(service, request))
+}
+
+fn asked_with(service: Principal, request: &ApReqRef) -> Asked
+    ensures { service ≡ service_of (ap_req_of request.now) → IsAsked (ap_req_of request.now) result }
+{
+    let ticket = &request.ticket;
+    Asked {
         service,
         etype: ticket.enc_part.etype,
         kvno: ticket.enc_part.kvno,
-        wants_reply: request.options.has(MUTUAL_REQUIRED),
-    })
+        wants_reply: is_mutual(request),
+    }
+}
+
+fn is_mutual(request: &ApReqRef) -> bool
+    ensures { result ≡ is_mutual (ap_req_of request.now) }
+{
+    request.options.has(MUTUAL_REQUIRED)
 }

@@ -7,7 +7,7 @@ ghost use Rattle.krb_replay.specs.Bytes.{IsBytesOf};
 ghost use Rattle.krb_replay.specs.Keeping.{kept_until};
 ghost use Rattle.krb_time.specs.Moments.{IsMoment};
 ghost use Rattle.krb_login.specs.Login.{IsRefusedSo};
-ghost use Rattle.krb_login.specs.Store.{AsksFor, IsHeldOf, IsInTime, SaysOf, Settles, SettlesBy, SettlesNew};
+ghost use Rattle.krb_login.specs.Store.{AsksFor, IsHeldOf, IsInTime, IsAskable, SaysOf, Settles, SettlesBy, SettlesNew};
 
 use crate::asked::{Asked, asked_by};
 use crate::carrier::Carrier;
@@ -146,21 +146,23 @@ impl Asking {
     ) -> Decision
         ensures { SettlesBy S.adds S.shows self store.old confounder.now choice result store.new }
     {
-        let Ok(stamp) = self.stamp(alloc) else {
+        let Ok(said) = self.add_to(alloc, store) else {
             return Decision::Refused(out_of_memory());
         };
-        let said = self.add_to(store, stamp.as_slice());
         let now = store.now();
         self.settle(alloc, said, now, confounder, choice)
     }
 
-    fn add_to<S: Store>(&self, store: &mut S, stamp: &[u8]) -> StoreSays
-        ensures { SaysOf S.adds self.now store.old stamp.now result store.new }
+    // Asks the store for the stamp. It can't be asked if no moment is the last at which it must have it.
+    fn add_to<S: Store>(&self, alloc: Global, store: &mut S) -> Result<StoreSays, AllocError>
+        ensures said { IfOk result (λ said. SaysOf S.adds self.now store.old said store.new) }
+        ensures memory { OnErr result (IsAskable self.now × (store.new ≡ store.old)) }
     {
-        match self.keep_until() {
-            Some(keep_until) => store.add(stamp, keep_until),
-            None => StoreSays::Failed,
-        }
+        let Some(keep_until) = self.keep_until() else {
+            return Ok(StoreSays::Failed);
+        };
+        let stamp = self.stamp(alloc)?;
+        Ok(store.add(stamp.as_slice(), keep_until))
     }
 
     fn is_in_time(&self, now: Moment) -> bool
@@ -183,6 +185,7 @@ impl Asking {
 
     fn refuse(self, alloc: Global, now: Moment, cause: Cause, refusal: &Refusal) -> Refused
         ensures cause { result.cause ≡ cause }
+        ensures asked { result.asked ≡ self.asked }
         ensures so { (request : List ℕ) → AsksFor self request → IsRefusedSo now self.carrier request refusal.now result }
     {
         refused_as(alloc, self.carrier, self.asked, now, cause, refusal)

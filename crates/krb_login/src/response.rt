@@ -1,16 +1,17 @@
 //! What goes back to a client that is let in, and to one that isn't.
 
-ghost use Rattle.std.specs.Prelude.{◌≡◌, List, ℕ, None, Some, IfErr, IfOk, IsErrOf, OnErr, IsSomeAnd};
+ghost use Rattle.std.specs.Prelude.{◌≡◌, ◌≢◌, List, ℕ, ℤ, false, None, Some, IfErr, IfOk, IsErrOf, IsTrue, OnErr, IsSomeAnd};
 ghost use Rattle.std.specs.Option.{MatchOption};
 ghost use Rattle.krb_ap.specs.Answer.{taken_of};
 ghost use Rattle.krb_ap.specs.ErrorReply.{IsErrorReply};
+ghost use Rattle.krb_ap.specs.declared.refusal.Refusal.{Refusal as RefusalValue};
 ghost use Rattle.krb_gss.specs.Answer.{error};
-ghost use Rattle.krb_login.specs.Asked.{Asks, AsksNothing};
+ghost use Rattle.krb_login.specs.Asked.{Asks, AsksNothing, AsksSomething};
 ghost use Rattle.krb_login.specs.Carrying.{GoesBack, Says, rejected};
 ghost use Rattle.krb_login.specs.Inner.{IsSentSo};
-ghost use Rattle.krb_login.specs.Login.{IsAnswerDue, IsAnswered, IsErrorLong, IsRefusedSo, SaysNothing};
+ghost use Rattle.krb_login.specs.Login.{IsAnswerDue, IsAnswered, IsDue, IsErrorLong, IsNothingDue, IsRefusedSo, SaysNothing};
 
-use crate::asked::{Asked, asked_by};
+use crate::asked::{Asked, asked_by, wants_reply};
 use crate::carrier::{Carrier, said};
 use crate::cause::Cause;
 use crate::decision::{Refused, Unsent};
@@ -64,13 +65,34 @@ pub(crate) fn refused(
 {
     match asked_by(alloc, request) {
         Ok(asked) => refused_as(alloc, carrier, asked, now, cause, refusal),
-        Err(_) => Refused {
-            cause,
-            asked: None,
-            answer: None,
-            unsent: Some(Unsent::OutOfMemory),
-        },
+        Err(_) => refused_unread(carrier, request, cause),
     }
+}
+
+// Says only the cause, since there is no memory for what the request asks for.
+fn refused_unread(carrier: Carrier, request: &[u8], cause: Cause) -> Refused
+    ensures cause { result.cause ≡ cause }
+    ensures so { AsksSomething request.now → (now : ℤ) (refusal : RefusalValue) → IsRefusedSo now carrier request.now refusal result }
+{
+    let unsent = if is_due(carrier, request) {
+        Some(Unsent::OutOfMemory)
+    } else {
+        None
+    };
+    Refused {
+        cause,
+        asked: None,
+        answer: None,
+        unsent,
+    }
+}
+
+// Whether an error or a reject is due to the client of a request.
+fn is_due(carrier: Carrier, request: &[u8]) -> bool
+    ensures due { IsTrue result → AsksSomething request.now → IsDue carrier request.now }
+    ensures none { result ≡ false → AsksSomething request.now → IsNothingDue carrier request.now }
+{
+    wants_reply(request) || carrier.rejected().is_some()
 }
 
 /// Says why the client of a request that asked for this isn't let in, and makes what goes back to it.
@@ -83,6 +105,7 @@ pub(crate) fn refused_as(
     refusal: &Refusal,
 ) -> Refused
     ensures cause { result.cause ≡ cause }
+    ensures asked { result.asked ≡ asked }
     ensures so { (request : List ℕ) → MatchOption asked (AsksNothing request) (Asks request)
         → IsRefusedSo now carrier request refusal.now result }
 {
@@ -111,7 +134,7 @@ fn refusal_of(
     refusal: &Refusal,
 ) -> Result<Option<Vec<u8>>, Unsent>
     ensures { (request : List ℕ) → MatchOption asked.now (AsksNothing request) (Asks request)
-        → IsSentSo now carrier request refusal.now result }
+        → IsSentSo now carrier request refusal.now asked.now result }
 {
     match asked {
         None => rejection(alloc, carrier),
@@ -126,7 +149,7 @@ fn refusal_to(
     asked: &Asked,
     refusal: &Refusal,
 ) -> Result<Option<Vec<u8>>, Unsent>
-    ensures { (request : List ℕ) → Asks request asked.now → IsSentSo now carrier request refusal.now result }
+    ensures { (request : List ℕ) → Asks request asked.now → IsSentSo now carrier request refusal.now (Some asked.now) result }
 {
     if asked.wants_reply {
         error_to(alloc, carrier, now, &asked.service, refusal)
@@ -138,7 +161,7 @@ fn refusal_to(
 /// Rejects a client that is in a negotiation.
 pub(crate) fn rejection(alloc: Global, carrier: Carrier) -> Result<Option<Vec<u8>>, Unsent>
     ensures sent { IfOk result (Says (rejected carrier)) }
-    ensures unsent { IfErr result (λ why. why ≡ Unsent.OutOfMemory) }
+    ensures unsent { IfErr result (λ why. (why ≡ Unsent.OutOfMemory) × (rejected carrier ≢ None)) }
 {
     match said(alloc, carrier.rejected()) {
         Ok(sent) => Ok(sent),

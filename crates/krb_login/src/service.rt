@@ -3,29 +3,32 @@
 ghost use Rattle.std.specs.Prelude.{◌≡◌, ◌↔◌, ℕ, List, ◌∷◌, None, Some, IsTrue, IfErr, IfOk, IfSome, OnOk};
 ghost use Rattle.krb_replay.specs.Memory.{SameStamps, later_of};
 ghost use Rattle.krb_ap.specs.History.{IsShownLately};
-ghost use Rattle.krb_login.specs.Inner.{IsJudged};
+ghost use Rattle.krb_login.specs.Inner.{HasRunOut, IsJudged};
+ghost use Rattle.krb_login.specs.Limits.{HeedsLimits};
 ghost use Rattle.krb_ap.specs.Answer.{taken_of};
-ghost use Rattle.krb_ap.specs.Opened.{IsOrdinary};
-ghost use Rattle.krb_ap.specs.Service.{SameMemory, Stands};
+ghost use Rattle.krb_ap.specs.Opened.{AsksFor as AsksForService, IsOrdinary};
+ghost use Rattle.krb_ap.specs.Service.{HeedsLimits as HeedsLimitsAt, SameMemory, Stands};
 ghost use Rattle.krb_ap.specs.Setup.{Arrival, arrival};
 ghost use Rattle.krb_ap.specs.Taken.{Accept};
 ghost use Rattle.krb_gss.specs.Negotiation.{IsAsking};
 ghost use Rattle.krb_login.specs.Terms.{IsFirstBroken, Meets};
 ghost use Rattle.krb_gss.specs.declared.negotiating.Negotiation.{Negotiation as NegotiationValue};
-ghost use Rattle.krb_ap.specs.Causes.{Cause as IsCause, TellsPlaceWithin};
+ghost use Rattle.krb_ap.specs.Causes.{Cause as IsCause, IsRemembered, TellsPlaceWithin};
+ghost use Rattle.krb_ap.specs.declared.refusal.Refusal.{Refusal as RefusalValue};
 ghost use Rattle.krb_ap.specs.declared.reply.ReplyOptions.{ReplyOptions as ReplyOptionsValue};
 ghost use Rattle.krb_gss.specs.Answer.{WritesVerdict};
 ghost use Rattle.krb_login.specs.Carrying.{Carries, IsNegotiating};
-ghost use Rattle.krb_login.specs.Store.{AnswersShared, IsAfterStep, IsJudgedBy, LeadsTo, Steps, StepsOn};
-ghost use Rattle.krb_login.specs.Login.{Call, Decides, GoesOn, GoesTo, HasCause, HoldsRequest, IsAfter, IsDecided, IsOfRequest, IsUndecided, call_for, call_of, call_with};
+ghost use Rattle.krb_login.specs.Store.{AnswersShared, IsAfterStep, IsJudgedBy, IsSettled, LeadsTo, RanOutBefore, Steps, StepsOn};
+ghost use Rattle.krb_login.specs.Login.{Call, Decides, GoesOn, GoesTo, HasCause, HoldsRequest, IsAfter, IsDecided, IsOfRequest, IsUndecided, RanOut, call_for, call_of, call_with};
 
+use crate::asked::asked_of;
 use crate::breach::Breach;
 use crate::carrier::Carrier;
 use crate::cause::Cause;
 use crate::decision::{Decision, LetIn, Refused, Unsent};
 use crate::opening::{Held, is_negotiating, open};
 use crate::question::{Asking, Step};
-use crate::response::{answer_of, out_of_memory, refused};
+use crate::response::{answer_of, out_of_memory, refused, refused_as};
 use crate::store::Store;
 use crate::terms::Terms;
 use krb_ap::{Accepted, Acceptor, Refusal, ReplyOptions};
@@ -93,6 +96,12 @@ impl<M: ReplayMemory> Service<M> {
             → Stands M.has M.newest self.old.acceptor history
             → GoesOn (λ after. after ≡ history → SameMemory M.has M.newest self.old.acceptor.memory self.new.acceptor.memory)
             (call_of self.old.terms self.old.acceptor.setup history negotiation.old given.entry) result }
+
+        // A request past a limit of the memory is refused for lack of memory, and counted. No other is counted.
+        ensures limit { (history : List Arrival)
+            → Stands M.has M.newest self.old.acceptor history
+            → HeedsLimits (M.has self.old.acceptor.memory) (M.limits self.old.acceptor.memory) (M.refusals self.old.acceptor.memory) (M.refusals self.new.acceptor.memory)
+            (call_of self.old.terms self.old.acceptor.setup history negotiation.old given.entry) (RanOut result) }
         ensures limits { M.limits self.new.acceptor.memory ≡ M.limits self.old.acceptor.memory }
     {
         let stage = *negotiation;
@@ -139,6 +148,16 @@ impl<M: ReplayMemory> Service<M> {
             → (confounder : List ℕ) (choice : ReplyOptionsValue) → IsJudgedBy result
             → StepsOn (λ after. SameStamps (IsShownLately self.old.acceptor.setup after) (M.has self.new.acceptor.memory))
             (call_for self.old.terms self.old.acceptor.setup history negotiation.old bytes.now now confounder choice) result }
+        ensures unchanged { (history : List Arrival)
+            → Stands M.has M.newest self.old.acceptor history
+            → (confounder : List ℕ) (choice : ReplyOptionsValue)
+            → StepsOn (λ after. after ≡ history → SameMemory M.has M.newest self.old.acceptor.memory self.new.acceptor.memory)
+            (call_for self.old.terms self.old.acceptor.setup history negotiation.old bytes.now now confounder choice) result }
+        ensures limit { (history : List Arrival)
+            → Stands M.has M.newest self.old.acceptor history
+            → (confounder : List ℕ) (choice : ReplyOptionsValue)
+            → HeedsLimits (M.has self.old.acceptor.memory) (M.limits self.old.acceptor.memory) (M.refusals self.old.acceptor.memory) (M.refusals self.new.acceptor.memory)
+            (call_for self.old.terms self.old.acceptor.setup history negotiation.old bytes.now now confounder choice) (RanOutBefore result) }
         ensures limits { M.limits self.new.acceptor.memory ≡ M.limits self.old.acceptor.memory }
     {
         let stage = *negotiation;
@@ -166,6 +185,24 @@ impl<M: ReplayMemory> Service<M> {
             → Stands M.has M.newest self.old.acceptor history
             → AnswersShared S.adds S.shows (call_of self.old.terms self.old.acceptor.setup history negotiation.old given.entry)
             store.old (Stands M.has M.newest self.new.acceptor) negotiation.new result store.new }
+
+        // The memory changes as by `answer`, whatever the store says.
+        ensures moves { (history : List Arrival)
+            → Stands M.has M.newest self.old.acceptor history → IsSettled result
+            → M.newest self.new.acceptor.memory ≡ Some (later_of (M.newest self.old.acceptor.memory) given.entry.now) }
+        ensures forgets { IsTrue M.FORGETS → (history : List Arrival)
+            → Stands M.has M.newest self.old.acceptor history → IsSettled result
+            → AnswersShared S.adds S.shows (call_of self.old.terms self.old.acceptor.setup history negotiation.old given.entry)
+            store.old (λ after. SameStamps (IsShownLately self.old.acceptor.setup after) (M.has self.new.acceptor.memory)) negotiation.new result store.new }
+        ensures unchanged { (history : List Arrival)
+            → Stands M.has M.newest self.old.acceptor history
+            → AnswersShared S.adds S.shows (call_of self.old.terms self.old.acceptor.setup history negotiation.old given.entry)
+            store.old (λ after. after ≡ history → SameMemory M.has M.newest self.old.acceptor.memory self.new.acceptor.memory) negotiation.new result store.new }
+        ensures limit { (history : List Arrival)
+            → Stands M.has M.newest self.old.acceptor history
+            → HeedsLimits (M.has self.old.acceptor.memory) (M.limits self.old.acceptor.memory) (M.refusals self.old.acceptor.memory) (M.refusals self.new.acceptor.memory)
+            (call_of self.old.terms self.old.acceptor.setup history negotiation.old given.entry) (RanOut result) }
+        ensures limits { M.limits self.new.acceptor.memory ≡ M.limits self.old.acceptor.memory }
     {
         let Given {
             bytes,
@@ -212,6 +249,14 @@ impl<M: ReplayMemory> Service<M> {
             → Carries negotiation carrier request.now bytes
             → GoesOn (λ after. after ≡ history → SameMemory M.has M.newest self.old.acceptor.memory self.new.acceptor.memory)
             (call_with self.old.terms self.old.acceptor.setup history negotiation bytes given.entry) result }
+        ensures limit { (history : List Arrival)
+            → Stands M.has M.newest self.old.acceptor history
+            → HeedsLimitsAt (M.has self.old.acceptor.memory) (M.limits self.old.acceptor.memory) (M.refusals self.old.acceptor.memory) (M.refusals self.new.acceptor.memory)
+            self.old.acceptor.setup history (arrival request.now given.entry.now) (RanOut result) }
+        ensures uncounted { (history : List Arrival) (cause : RefusalValue)
+            → Stands M.has M.newest self.old.acceptor history
+            → IsCause self.old.acceptor.setup history (arrival request.now given.entry.now) cause → ¬ IsRemembered cause
+            → M.refusals self.new.acceptor.memory ≡ M.refusals self.old.acceptor.memory }
         ensures limits { M.limits self.new.acceptor.memory ≡ M.limits self.old.acceptor.memory }
     {
         let Given {
@@ -247,6 +292,20 @@ impl<M: ReplayMemory> Service<M> {
             → Carries negotiation carrier request.now bytes
             → StepsOn (λ after. SameStamps (IsShownLately self.old.acceptor.setup after) (M.has self.new.acceptor.memory))
             (call_for self.old.terms self.old.acceptor.setup history negotiation bytes now confounder choice) result }
+        ensures unchanged { (history : List Arrival)
+            → Stands M.has M.newest self.old.acceptor history
+            → (negotiation : NegotiationValue) (bytes confounder : List ℕ) (choice : ReplyOptionsValue)
+            → Carries negotiation carrier request.now bytes
+            → StepsOn (λ after. after ≡ history → SameMemory M.has M.newest self.old.acceptor.memory self.new.acceptor.memory)
+            (call_for self.old.terms self.old.acceptor.setup history negotiation bytes now confounder choice) result }
+        ensures limit { (history : List Arrival)
+            → Stands M.has M.newest self.old.acceptor history
+            → HeedsLimitsAt (M.has self.old.acceptor.memory) (M.limits self.old.acceptor.memory) (M.refusals self.old.acceptor.memory) (M.refusals self.new.acceptor.memory)
+            self.old.acceptor.setup history (arrival request.now now) (RanOutBefore result) }
+        ensures uncounted { (history : List Arrival) (cause : RefusalValue)
+            → Stands M.has M.newest self.old.acceptor history
+            → IsCause self.old.acceptor.setup history (arrival request.now now) cause → ¬ IsRemembered cause
+            → M.refusals self.new.acceptor.memory ≡ M.refusals self.old.acceptor.memory }
         ensures limits { M.limits self.new.acceptor.memory ≡ M.limits self.old.acceptor.memory }
     {
         let skew = self.acceptor.skew();
@@ -290,6 +349,14 @@ impl<M: ReplayMemory> Service<M> {
             → SameStamps (IsShownLately self.old.acceptor.setup (arrival request.now now ∷ history)) (M.has self.new.acceptor.memory) }
         ensures unchanged { IfErr result (λ refused. (IsOfRequest refused.cause → ⊥)
             → SameMemory M.has M.newest self.old.acceptor.memory self.new.acceptor.memory) }
+        ensures limit { (history : List Arrival)
+            → Stands M.has M.newest self.old.acceptor history
+            → HeedsLimitsAt (M.has self.old.acceptor.memory) (M.limits self.old.acceptor.memory) (M.refusals self.old.acceptor.memory) (M.refusals self.new.acceptor.memory)
+            self.old.acceptor.setup history (arrival request.now now) (HasRunOut result) }
+        ensures uncounted { (history : List Arrival) (cause : RefusalValue)
+            → Stands M.has M.newest self.old.acceptor history
+            → IsCause self.old.acceptor.setup history (arrival request.now now) cause → ¬ IsRemembered cause
+            → M.refusals self.new.acceptor.memory ≡ M.refusals self.old.acceptor.memory }
         ensures limits { M.limits self.new.acceptor.memory ≡ M.limits self.old.acceptor.memory }
     {
         let accepted = match self.acceptor.accept(alloc, request, now) {
@@ -335,12 +402,13 @@ fn turn_away(
     breach: Breach,
 ) -> Refused
     ensures decides { IsOfRequest result.cause }
-    ensures cause { (call : Call) → HoldsRequest call carrier request.now → call.now ≡ now
+    ensures cause { AsksForService request.now accepted.service → (call : Call) → HoldsRequest call carrier request.now → call.now ≡ now
         → Accept call.setup call.history (arrival request.now call.now) (taken_of accepted)
         → IsFirstBroken call.terms (taken_of accepted) breach → HasCause call result result.cause }
 {
     let cause = Cause::Breached(breach);
-    refused(alloc, carrier, request, now, cause, &Refusal::Authorization)
+    let asked = asked_of(accepted.service, request);
+    refused_as(alloc, carrier, asked, now, cause, &Refusal::Authorization)
 }
 
 // Answers bytes that aren't taken, at this point of a negotiation.
@@ -349,7 +417,7 @@ fn not_opened(alloc: Global, negotiation: Negotiation, bytes: &[u8], fault: Toke
     ensures asked { result.asked ≡ None }
     ensures answer { IfSome result.answer (λ sent. IsNegotiating negotiation bytes.now × WritesVerdict Verdict.Rejected sent.items) }
     ensures due { result.answer ≡ None → result.unsent ≡ None → IsNegotiating negotiation bytes.now → ⊥ }
-    ensures unsent { IfSome result.unsent (λ why. (why ≡ Unsent.OutOfMemory) × (result.answer ≡ None)) }
+    ensures unsent { IfSome result.unsent (λ why. (why ≡ Unsent.OutOfMemory) × ((result.answer ≡ None) × IsNegotiating negotiation bytes.now)) }
 {
     let cause = Cause::Token(fault);
     if !is_negotiating(negotiation, bytes) {
@@ -419,7 +487,7 @@ fn held(alloc: Global, carrier: Carrier, request: &[u8], accepted: Accepted, ske
     ensures steps { (call : Call) → HoldsRequest call carrier request.now → IsOrdinary request.now → skew ≡ call.setup.skew
         → Accept call.setup call.history (arrival request.now call.now) (taken_of accepted) → Meets call.terms (taken_of accepted)
         → Steps call result }
-    ensures after { (call : Call) → HoldsRequest call carrier request.now
+    ensures after { (call : Call) → HoldsRequest call carrier request.now → IsOrdinary request.now
         → Accept call.setup call.history (arrival request.now call.now) (taken_of accepted) → Meets call.terms (taken_of accepted)
         → IsAfterStep call result (arrival request.now call.now ∷ call.history) }
 {

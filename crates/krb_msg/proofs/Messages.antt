@@ -1,4 +1,4 @@
--- The messages' tags, that each message can be told from what follows it, and how many sequence numbers it holds.
+-- The messages' tags, that each message differs from what follows it, and how many sequence numbers it holds.
 use Rattle.std.proofs.Common.{◌≡◌, ℕ, ◌≤◌, List, [], ◌∷◌, ◌++◌, refl, sym, ap, ◌∙◌, true, if◌then◌else◌, nat_eq, lit≤}
 use Rattle.krb_der.specs.Kind.{Kind, ValueOf, tag_of}
 use Rattle.krb_der.specs.Spells.{Spells}

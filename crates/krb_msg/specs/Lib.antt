@@ -7,3 +7,4 @@ pub mod Fields
 pub mod Numbers
 pub mod Borrowed
 pub mod Owned
+pub mod Spelled

@@ -1,4 +1,4 @@
--- The parts of which the fields of messages are made, as kinds of elements and their values (RFC
+-- The parts that the fields of messages are made of, as kinds of elements and their values (RFC
 -- 4120, sections 5.2 and 5.3). Each has a type and, in a second field, what is of that type.
 use Rattle.std.specs.Prelude.{ℕ, ℤ, List}
 use Rattle.krb_name.specs.declared.principal.Principal.{Principal}

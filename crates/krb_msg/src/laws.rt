@@ -8,9 +8,10 @@ ghost use Rattle.krb_der.specs.Spells.{Spells, IsMessage};
 ghost use Rattle.krb_der.specs.Size.{size_of};
 ghost use Rattle.krb_der.specs.Writing.{Writes};
 ghost use Rattle.krb_der.specs.Numbers.{SpellsNegative};
-ghost use Rattle.krb_msg.specs.Fields.{bytes_of, encrypted_fields, reply_enc_part, reply_fields};
+ghost use Rattle.krb_msg.specs.Fields.{RequestFields, ap_req_value, bytes_of, encrypted_fields, reply_enc_part, reply_fields};
 ghost use Rattle.krb_msg.specs.Numbers.{HasHighNumber};
-ghost use Rattle.krb_msg.specs.Module.{IsMessageKind, ap_req, ap_rep, enc_ap_rep_part, encryption_key};
+ghost use Rattle.krb_msg.specs.Module.{IsMessageKind, ap_req, ap_rep, enc_ap_rep_part, encryption_key, ticket};
+ghost use Rattle.krb_msg.specs.Spelled.{WritesOver};
 
 /// A spelling of a message has only one value.
 pub fn one_value()
@@ -80,3 +81,17 @@ pub fn reply_size()
         → size_of enc_ap_rep_part v ≤ 82 + length (bytes_of key) }
     ensures reply { (v : ValueOf ap_rep) → size_of ap_rep v ≤ 64 + length (encrypted_fields (reply_enc_part v)).cipher }
 {}
+
+/// A request over a ticket has the ticket's bytes in it as they are: they are the whole content of
+/// its field \[3\].
+///
+/// Source: RFC 4120, section 5.5.1.
+pub fn ticket_as_it_is()
+    ensures content { (v : RequestFields) (bytes request : List ℕ) → IsMessage ticket v.ticket bytes
+        → Writes ap_req (ap_req_value v) request → WritesOver v.options bytes v.authenticator request }
+    ensures inside { (v : RequestFields) (bytes request : List ℕ) → IsMessage ticket v.ticket bytes
+        → Writes ap_req (ap_req_value v) request
+        → (before : List ℕ) × (after : List ℕ) × (request ≡ before ++ bytes ++ after) }
+{
+    krb_der::laws::one_spelling()
+}

@@ -38,7 +38,7 @@ found x = Some x
 pub some_is : {A : Type 0} (x y : A) → found x ≡ found y → x ≡ y
 some_is x y e = cc
 
--- one text behind another
+-- one text after another
 pub Takes-then : (a : Place) (x : List ℕ) (b : Place) (y : List ℕ) (c : Place) → Takes a x b → Takes b y c → Takes a (x ++ y) c
 Takes-then a x b y c p q = record {
   parts = p.parts ∙ ap (λ (t : List ℕ). x ++ t) q.parts ∙ sym (append_assoc x y c.rest);
@@ -166,7 +166,7 @@ IsField-i16 = signed_field w16 IsField-u16
 pub IsField-i32 : IsField (signed_at w32) (signed_bytes w32) (FitsSigned w32)
 IsField-i32 = signed_field w32 IsField-u32
 
--- ---- bytes behind their length
+-- ---- bytes after their length
 
 data_takes : (w : Width) (limit : ℕ) → IsField (number_at w) (number_bytes w) (λ n. n < limit) → (place : Place) (x : List ℕ) (behind : Place) → IsBytes place.rest
     → data_at w place ≡ Some (x, behind) → Takes place (data_bytes w x) behind × (length x < limit)

@@ -1,4 +1,4 @@
--- Names as rows of symbols, their spelling and their order, and behind what no symbol goes on.
+-- Names as rows of symbols, their spelling and their order, and after what no symbol goes on.
 use Rattle.std.proofs.Common.{◌≡◌, ℕ, suc, Bool, true, false, eqb, ◌⊎◌, inl, inr, List, [], ◌∷◌, ◌++◌, map, refl, sym, ap, subst, ◌∙◌, append_assoc, append-nil}
 use Rattle.std.specs.List.{AllByRecursion}
 use Rattle.std.proofs.lemmas.Bool.{eq-eqb}
@@ -96,7 +96,7 @@ no_escape_stuck rest (Byte b) behind h fits e = h.none b behind fits e
 no_escape_stuck rest Slash behind h fits e = other_byte 0x5c 0x2f (first_is 0x5c 0x2f h.others behind (sym h.rest_is ∙ e)) refl
 no_escape_stuck rest Sign behind h fits e = other_byte 0x5c 0x40 (first_is 0x5c 0x40 h.others behind (sym h.rest_is ∙ e)) refl
 
--- behind the sign of a name there is no separator
+-- after the sign of a name there is no separator
 pub no_sign_in : (xs ys : List Symbol) → ArePlain (xs ++ Sign ∷ ys) → ⊥
 no_sign_in [] ys p = p
 no_sign_in (Byte b ∷ xs) ys p = no_sign_in xs ys p.1

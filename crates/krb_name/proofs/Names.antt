@@ -1,4 +1,4 @@
--- What a test of two names tells, and that the same names have the same hash.
+-- What a test of two names means, and that the same names have the same hash.
 use Rattle.std.proofs.Common.{◌≡◌, ℕ, ◌%◌, ◌^◌, eqb, List, Decides, refl, ap, ◌∙◌}
 use Rattle.std.specs.List.{fold}
 use Rattle.std.specs.Hash.FoldHasher.{initial, write, finish}

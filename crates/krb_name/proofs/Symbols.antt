@@ -121,7 +121,7 @@ ArePlain (Byte b ∷ symbols) = (b < 256) × ArePlain symbols
 ArePlain (Slash ∷ symbols) = ⊥
 ArePlain (Sign ∷ symbols) = ⊥
 
--- components, and behind a `@` only a realm
+-- components, and after a `@` only a realm
 abbrev pub InOrder : List Symbol → Type 0
 InOrder [] = Unit {0}
 InOrder (Byte b ∷ symbols) = (b < 256) × InOrder symbols
@@ -154,7 +154,7 @@ InOrder-symbols (Sign ∷ xs) p = (tt, ArePlain-symbols xs p)
 
 -- ---- texts that are read to where they stop
 
--- symbols in order, behind which none goes on in order
+-- symbols in order, after which none goes on in order
 pub record Stops (text : List ℕ) (symbols : List Symbol) (rest : List ℕ) : Type 0 where
   pub order : InOrder symbols
   pub parts : text ≡ spelling symbols ++ rest

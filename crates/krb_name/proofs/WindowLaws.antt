@@ -42,7 +42,7 @@ one_more Comes join remaining failure_count lender old mid new count left came f
   lent = lent ∙ first.lent;
 }
 
--- ---- one read into the room behind the bytes at hand
+-- ---- one read into the room after the bytes at hand
 
 -- the front of that room is what was there
 pub room_behind : (old all room : List ℕ) (at most more : ℕ) → at ≡ length old → all ≡ room → room ≡ take (at + most) old ++ replicate more 0 → take at all ≡ old

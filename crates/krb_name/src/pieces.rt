@@ -1,4 +1,4 @@
-//! Sources and sinks for tests. They move a few bytes in each call, and can be told to fail.
+//! Sources and sinks for tests. They move a few bytes in each call, and fail if a test asks for it.
 
 ghost use Rattle.std.specs.Prelude.{ℕ, ◌≡◌, ◌≢◌, ◌+◌, ◌-◌, ◌^◌, ◌<◌, ◌≤◌, ◌↔◌, min, Some, None, IfOk, IsErr, IsOk, is_ok, length, take, [], if◌then◌else◌};
 ghost use Rattle.std.specs.Option.{ForSome};

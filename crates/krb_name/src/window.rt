@@ -203,7 +203,7 @@ impl<S: Source> Window<S> {
         Ok(came)
     }
 
-    // Asks the source once for at most `most` bytes, of which nothing is kept.
+    // Asks the source once for at most `most` bytes, and keeps none of them.
     fn skip_some(&mut self, most: usize) -> Result<usize, SourceFailed>
         requires reads { S.failure_count self.old.source < 2 ^ 64 - 1 }
         requires some { 0 < most }

@@ -1,11 +1,10 @@
 -- What is held, and what of it isn't too old.
-use Rattle.std.proofs.Common.{◌≡◌, ◌⊎◌, inl, inr, ℕ, ℤ, zero, ◌+◌, ◌-◌, min, ◌<◌, ◌≤◌, ◌≤ℤ◌, ◌<ℤ◌, Bool, true, false, not, cond, Option, Some, None, List, [], ◌∷◌, length, get_or, Contains, ◌||◌, refl, sym, subst, ap, ◌∙◌, arith}
+use Rattle.std.proofs.Common.{◌≡◌, ◌⊎◌, inl, inr, ℕ, ℤ, zero, ◌+◌, ◌-◌, min, ◌<◌, ◌≤◌, ◌≤ℤ◌, ◌<ℤ◌, Bool, true, false, not, cond, Option, None, List, [], ◌∷◌, length, get_or, Contains, ◌||◌, refl, sym, subst, ap, ◌∙◌, arith}
 use Rattle.std.specs.List.{All, filter, list_any}
 use Rattle.std.specs.List.Sorted.{IsStrictlySortedBy}
 use Rattle.std.specs.BTreeMap.Range.{IsLeBy}
 use Rattle.std.proofs.lemmas.List.Elements.{All-head, All-tail, filter_passes}
 use Rattle.std.proofs.lemmas.Map.Views.{All-after_first}
-use Rattle.std.proofs.lemmas.Cmp.{tied_itself}
 use Rattle.krb_replay.proofs.OrderLaws.{not_earlier, not_later}
 use Rattle.std.specs.Ordering.{match_ordering, is_eq, is_gt, is_lt}
 use Rattle.std.specs.declared.cmp.Ordering.{Ordering}
@@ -14,8 +13,11 @@ use Rattle.std.specs.BTreeMap.{BTreeMap, is_at}
 use Rattle.std.specs.BTreeSet.{insert_key}
 use Rattle.std.proofs.lemmas.Int.{ints}
 use Rattle.krb_replay.specs.Stamp.{RealmAndName, Stamp}
-use Rattle.krb_replay.specs.Inner.Order.{TwoNames, names_of, client_total, stamp_cmp}
-use Rattle.krb_replay.specs.Inner.Held.{AreCounted, count_of, is_before, is_of, number_before, number_of, one_of, since}
+use Rattle.std.specs.Cmp.{IsTotalOrder}
+use Rattle.krb_replay.specs.Inner.Counts.{AddsOne, HasNoZero, SameCounts, TakesOne, count_by, one_by}
+use Rattle.krb_replay.specs.Inner.Order.{TwoNames, names_of, stamp_cmp}
+use Rattle.krb_replay.specs.Inner.Held.{AreCounted, is_before, is_of, number_before, number_of, since}
+use Rattle.krb_replay.proofs.CountLaws.{own}
 use Rattle.krb_replay.proofs.DropLaws.{first_or_rest, among_rest}
 
 -- one more, if it passes
@@ -122,15 +124,32 @@ all_of_none [] = refl
 all_of_none (x ∷ xs) = let rest = all_of_none xs in omega arith
 
 -- the counts after one more stamp
-pub counted_more : (old new : List Stamp) (before after : BTreeMap TwoNames ℕ) (added : Stamp) → AreCounted old before
+pub counted_more : (cmp : TwoNames → TwoNames → Ordering) (old new : List Stamp) (before after : BTreeMap TwoNames ℕ) (added : Stamp) → AreCounted cmp old before
     → list_any (is_at (stamp_cmp added)) old ≡ false → new ≡ insert_key stamp_cmp old added
-    → ((other : TwoNames) → count_of after other ≡ count_of before other + one_of (names_of added) other) → AreCounted new after
-counted_more old new before after added counted absent is more names =
-    let placed = placed_weighs stamp_cmp (is_of (Some names.1)) old added absent in
-    let same : one_of (names_of added) names ≡ weighed (is_of (Some names.1) added) = refl in
-    let was = counted names in
-    let now = more names in
-    subst (λ (stamps : List Stamp). count_of after names ≡ number_of (Some names.1) stamps) (sym is) (omega arith)
+    → AddsOne cmp before after (names_of added) → AreCounted cmp new after
+counted_more cmp old new before after added counted absent is more = record {
+  each = λ names.
+      let placed = placed_weighs stamp_cmp (λ stamp. is_at (cmp (names_of stamp)) names) old added absent in
+      let same : one_by cmp (names_of added) names ≡ weighed (is_at (cmp (names_of added)) names) = refl in
+      let was = counted.each names in
+      let now = more.counts names in
+      subst (λ (stamps : List Stamp). count_by cmp after names ≡ length (filter (λ stamp. is_at (cmp (names_of stamp)) names) stamps)) (sym is) (omega arith);
+  no_zero = more.no_zero counted.no_zero;
+}
+
+pub counted_still : (cmp : TwoNames → TwoNames → Ordering) (stamps : List Stamp) (before after : BTreeMap TwoNames ℕ) → AreCounted cmp stamps before
+    → SameCounts cmp before after → AreCounted cmp stamps after
+counted_still cmp stamps before after counted same = record {
+  each = λ names. same.counts names ∙ counted.each names;
+  no_zero = same.no_zero counted.no_zero;
+}
+
+pub counted_none : (cmp : TwoNames → TwoNames → Ordering) (stamps : List Stamp) (counts : BTreeMap TwoNames ℕ) → stamps ≡ []
+    → ((names : TwoNames) → count_by cmp counts names ≡ 0) → HasNoZero cmp counts → AreCounted cmp stamps counts
+counted_none cmp stamps counts is none no_zero = record {
+  each = λ names. none names ∙ ap (λ (list : List Stamp). length (filter (λ stamp. is_at (cmp (names_of stamp)) names) list)) (sym is);
+  no_zero = no_zero;
+}
 
 -- one more that isn't before a moment
 pub none_before : (oldest : ℤ) (old new now : List Stamp) (added : Stamp) → list_any (is_at (stamp_cmp added)) old ≡ false
@@ -143,27 +162,26 @@ none_before oldest old new now added absent is same recent =
     subst (λ (stamps : List Stamp). number_before None oldest stamps ≡ number_before None oldest now) (sym is)
     (subst (λ (stamps : List Stamp). number_before None oldest (insert_key stamp_cmp old added) ≡ number_before None oldest stamps) same (omega arith))
 
--- each has its own client
-pub own : (names : TwoNames) → one_of names names ≡ 1
-own names = ap (λ (o : Ordering). cond (is_eq o) 1 0) (tied_itself client_total names)
-
 -- and after one less
-pub counted_less : (first : Stamp) (rest : List Stamp) (before after : BTreeMap TwoNames ℕ) → AreCounted (first ∷ rest) before
-    → ((other : TwoNames) → count_of after other + one_of (names_of first) other ≡ count_of before other) → AreCounted rest after
-counted_less first rest before after counted less names =
-    let all = filter_longer (is_of (Some names.1)) first rest in
-    let same : one_of (names_of first) names ≡ weighed (is_of (Some names.1) first) = refl in
-    let was = counted names in
-    let now = less names in
-    omega arith
+pub counted_less : (cmp : TwoNames → TwoNames → Ordering) (first : Stamp) (rest : List Stamp) (before after : BTreeMap TwoNames ℕ)
+    → AreCounted cmp (first ∷ rest) before → TakesOne cmp before after (names_of first) → AreCounted cmp rest after
+counted_less cmp first rest before after counted less = record {
+  each = λ names.
+      let all = filter_longer (λ stamp. is_at (cmp (names_of stamp)) names) first rest in
+      let same : one_by cmp (names_of first) names ≡ weighed (is_at (cmp (names_of first)) names) = refl in
+      let was = counted.each names in
+      let now = less.counts names in
+      omega arith;
+  no_zero = less.no_zero counted.no_zero;
+}
 
-pub first_counts : (first : Stamp) (rest : List Stamp) (counts : BTreeMap TwoNames ℕ) → AreCounted (first ∷ rest) counts
-    → 0 < count_of counts (names_of first)
-first_counts first rest counts counted =
-    let all = filter_longer (is_of (Some first.client)) first rest in
-    let same : one_of (names_of first) (names_of first) ≡ weighed (is_of (Some first.client) first) = refl in
-    let one = own (names_of first) in
-    let was = counted (names_of first) in
+pub first_counts : (cmp : TwoNames → TwoNames → Ordering) → IsTotalOrder cmp → (first : Stamp) (rest : List Stamp) (counts : BTreeMap TwoNames ℕ)
+    → AreCounted cmp (first ∷ rest) counts → 0 < count_by cmp counts (names_of first)
+first_counts cmp total first rest counts counted =
+    let all = filter_longer (λ stamp. is_at (cmp (names_of stamp)) (names_of first)) first rest in
+    let same : one_by cmp (names_of first) (names_of first) ≡ weighed (is_at (cmp (names_of first)) (names_of first)) = refl in
+    let one = own cmp total (names_of first) in
+    let was = counted.each (names_of first) in
     omega arith
 
 keep_all : (p : Stamp → Bool) (xs : List Stamp) → All (λ x. p x ≡ true) xs → filter p xs ≡ xs

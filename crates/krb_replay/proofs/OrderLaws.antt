@@ -1,4 +1,4 @@
--- The order of stamps tells every two apart, and goes by time.
+-- The order of stamps is strict, and goes by time.
 use Rattle.std.proofs.Common.{◌≡◌, ◌≢◌, ◌≤ℤ◌, List, [], ◌∷◌, get_or, AllPairs, arith, refl, sym, ap, ◌∙◌, false}
 use Rattle.std.specs.declared.cmp.Ordering.{Ordering}
 use Rattle.std.specs.Ordering.{ordering_then, int_cmp, nat_cmp, is_gt, is_lt}

@@ -10,12 +10,12 @@ use Rattle.std.proofs.lemmas.List.Elements.{Contains-get_or}
 use Rattle.std.proofs.lemmas.Map.Views.{tells_apart}
 use Rattle.krb_replay.specs.Stamp.{RealmAndName, Stamp}
 use Rattle.krb_replay.specs.Limit.{HasAtLeast, IsOf, Since}
-use Rattle.krb_replay.specs.Memory.{AddsStamp, FreesSome, IsSizeOf, SameStamps}
+use Rattle.krb_replay.specs.Memory.{AddsStamp, FreesSome, IsSizeOf, SameStamps, earlier_of, later_of}
 use Rattle.krb_replay.specs.Inner.Order.{name_cmp, name_total, stamp_cmp}
-use Rattle.krb_replay.specs.Inner.Held.{AreLive, IsLater, is_before, is_of, number_before, number_of, since}
+use Rattle.krb_replay.specs.Inner.Held.{AreLive, FreesAtMost, IsLater, is_before, is_of, number_before, number_of, since}
 use Rattle.krb_replay.proofs.HeldLaws.{all_of_none, from_filter, into_filter, recent_from, recent_is, two_sides}
 use Rattle.krb_replay.proofs.OrderLaws.{exact_names, once_from_ordered}
-use Rattle.krb_replay.proofs.SizeLaws.{AreOnce, first_apart, no_longer, once_rest}
+use Rattle.krb_replay.proofs.SizeLaws.{AreOnce, first_apart, no_longer, once_rest, one_size}
 
 -- what is in the set
 pub in_set : (oldest : ℤ) (held : List Stamp) (stamp : Stamp) → Contains (since oldest held) stamp → Contains held stamp × (oldest ≤ℤ stamp.time)
@@ -183,6 +183,12 @@ pub same_reached : {E : Type 0} (oldest reached : ℤ) (old between new stamps :
 same_reached oldest reached old between new stamps (Ok x) same is unchanged = unchanged
 same_reached oldest reached old between new stamps (Err e) same is unchanged = reached_same oldest reached old between new stamps same is unchanged
 
+pub same_list : {E : Type 0} (oldest reached : ℤ) (old between new stamps : List Stamp) (answer : Result (Unit {0}) E)
+    → since reached between ≡ since oldest old → since oldest old ≡ stamps → OnErr answer (new ≡ between)
+    → OnErr answer (since reached new ≡ stamps)
+same_list oldest reached old between new stamps (Ok x) same is unchanged = unchanged
+same_list oldest reached old between new stamps (Err e) same is unchanged = ap (λ (list : List Stamp). since reached list) unchanged ∙ (same ∙ is)
+
 -- the test of a number of stamps
 pub decided : (client : Option RealmAndName) (since_when : ℤ) (stamps : List Stamp) (count : ℕ) (answer : Bool) → AreOnce stamps
     → (answer ≡ true → count ≤ number_of client (since since_when stamps)) × (count ≤ number_of client (since since_when stamps) → answer ≡ true)
@@ -192,12 +198,17 @@ decided client since_when stamps count answer once decides =
     let both = at_least client since_when stamps count once in
     (λ yes. both.0 (decides.0 yes), λ has. decides.1 (both.1 has))
 
--- the set is no larger than what is held
-pub set_fits : (oldest : ℤ) (held : List Stamp) (size : ℕ) → IsSizeOf (Contains (since oldest held)) size → size ≤ length held
-set_fits oldest held size is =
-    let fewer = no_longer is.stamps held is.once (λ stamp there. (in_set oldest held stamp ((is.members stamp).0 there)).0) in
-    let length_is = is.size_is in
-    omega arith
+-- the set is as large as its list
+pub set_size : (oldest : ℤ) (held : List Stamp) (size : ℕ) → IsStrictlySortedBy stamp_cmp held → IsSizeOf (Contains (since oldest held)) size
+    → length (since oldest held) ≡ size
+set_size oldest held size ordered is =
+    one_size (since oldest held) (length (since oldest held)) size
+    (record {
+      stamps = since oldest held;
+      once = once_kept (λ one. not (is_before oldest one)) held (once_from_ordered held ordered);
+      members = λ stamp. (λ h. h, λ h. h);
+      size_is = refl;
+    }) is
 
 -- ---- what takes room: what is held, and what is aside
 
@@ -209,6 +220,10 @@ all_held oldest held aside =
     let live = all_of_none (since oldest held) in
     omega arith
 
+some_or_none : (back old new : ℕ) → new ≡ back - 16 → back ≤ old → FreesSome 16 old new
+some_or_none back old zero is less = inl refl
+some_or_none back old (suc new) is less = inr (omega arith)
+
 -- nothing is left to free
 none_unfreed : (oldest : ℤ) (held aside : List Stamp) → AreLive oldest held aside → number_before None oldest held + length aside ≡ 0
 none_unfreed oldest held aside live =
@@ -217,47 +232,90 @@ none_unfreed oldest held aside live =
     let none : length aside ≡ 0 = ap (λ (stamps : List Stamp). length stamps) live.1 in
     omega arith
 
--- what a new stamp frees: the set may reach back, some are freed, and the stamp is added
-pub frees_some : (oldest reached : ℤ) (old back between new aside left : List Stamp) → since reached back ≡ since oldest old → length back ≤ length old
-    → since reached between ≡ since reached back → AreLive reached between left ⊎ (length between + length left + 16 ≤ length back + length aside)
-    → number_before None reached new ≡ number_before None reached between
-    → FreesSome 16 (number_before None oldest old + length aside) (number_before None reached new + length left)
-frees_some oldest reached old back between new aside left same fewer still either is = elim either [
-  | inl live ↦ (let none = none_unfreed reached between left live in inl (omega arith))
-  | inr some ↦ (let before = all_held oldest old aside in
-      let after = all_held reached between left in
-      let kept : length (since reached between) ≡ length (since oldest old) = ap (λ (stamps : List Stamp). length stamps) (still ∙ same) in
-      inr (omega arith))
+-- no more is held and aside
+pub fewer_left : (oldest : ℤ) (old aside new left : List Stamp) → FreesAtMost 16 oldest old aside new left
+    → length new + length left ≤ length old + length aside
+fewer_left oldest old aside new left either = elim either [
+  | inl some ↦ omega arith
+  | inr live ↦ live.1.0
 ]
 
--- what is freed between two stamps
-pub frees_between : (oldest : ℤ) (old new aside left : List Stamp) → since oldest new ≡ since oldest old
-    → AreLive oldest new left ⊎ (length new + length left + 16 ≤ length old + length aside)
-    → FreesSome 16 (number_before None oldest old + length aside) (number_before None oldest new + length left)
-frees_between oldest old new aside left same either = frees_some oldest oldest old old new new aside left refl (omega arith) same either refl
+-- so many fewer are left to free
+pub frees_16 : (oldest : ℤ) (old aside new left : List Stamp) → since oldest new ≡ since oldest old → FreesAtMost 16 oldest old aside new left
+    → number_before None oldest new + length left ≡ number_before None oldest old + length aside - 16
+frees_16 oldest old aside new left same either =
+    let before = all_held oldest old aside in
+    let after = all_held oldest new left in
+    let kept : length (since oldest new) ≡ length (since oldest old) = ap (λ (stamps : List Stamp). length stamps) same in
+    elim either [
+      | inl some ↦ omega arith
+      | inr live ↦ (let none = none_unfreed oldest new left live.0 in let less = live.1.1 in omega arith)
+    ]
+
+-- what a new stamp frees: the set may reach back, some are freed, and the stamp is added
+pub frees_some : (oldest reached : ℤ) (old back between new aside left : List Stamp) → since reached back ≡ since oldest old → length back ≤ length old
+    → since reached between ≡ since reached back → FreesAtMost 16 reached back aside between left
+    → number_before None reached new ≡ number_before None reached between
+    → FreesSome 16 (number_before None oldest old + length aside) (number_before None reached new + length left)
+frees_some oldest reached old back between new aside left same fewer still either is =
+    let frees = frees_16 reached back aside between left still either in
+    let before = all_held oldest old aside in
+    let after = all_held reached back aside in
+    let kept : length (since reached back) ≡ length (since oldest old) = ap (λ (stamps : List Stamp). length stamps) same in
+    some_or_none (number_before None reached back + length aside) (number_before None oldest old + length aside) (number_before None reached new + length left)
+    (omega arith) (omega arith)
+
+-- and if the set reaches the stamp already
+pub frees_16_for : (oldest : ℤ) (old between new aside left : List Stamp) → since oldest between ≡ since oldest old
+    → FreesAtMost 16 oldest old aside between left → number_before None oldest new ≡ number_before None oldest between
+    → number_before None oldest new + length left ≡ number_before None oldest old + length aside - 16
+frees_16_for oldest old between new aside left still either is =
+    let frees = frees_16 oldest old aside between left still either in
+    omega arith
 
 pub grows_by_one : (oldest reached : ℤ) (old back between new aside left : List Stamp) → length back ≤ length old
-    → length between + length left ≤ length back + length aside → length new ≤ length between + 1
+    → FreesAtMost 16 reached back aside between left → length new ≤ length between + 1
     → length (since reached new) + (number_before None reached new + length left) ≤ length (since oldest old) + (number_before None oldest old + length aside) + 1
-grows_by_one oldest reached old back between new aside left fewer less one =
+grows_by_one oldest reached old back between new aside left fewer either one =
+    let less = fewer_left reached back aside between left either in
     let before = all_held oldest old aside in
     let after = all_held reached new left in
     omega arith
 
 -- what a moment frees: all may be put aside, and some are freed
 pub frees_dropped : (oldest later : ℤ) (old between new aside put left : List Stamp) → length between + length put ≡ length old + length aside
-    → AreLive later new left ⊎ (length new + length left + 16 ≤ length between + length put)
-    → (number_before None later new + length left ≡ 0)
-    ⊎ (length (since later new) + (number_before None later new + length left) + 16 ≤ length (since oldest old) + (number_before None oldest old + length aside))
-frees_dropped oldest later old between new aside put left all either = elim either [
-  | inl live ↦ inl (none_unfreed later new left live)
-  | inr some ↦ (let before = all_held oldest old aside in let after = all_held later new left in inr (omega arith))
-]
+    → since later new ≡ since later between → FreesAtMost 16 later between put new left
+    → number_before None later new + length left
+    ≡ length (since oldest old) + (number_before None oldest old + length aside) - length (since later new) - 16
+frees_dropped oldest later old between new aside put left all same either =
+    let frees = frees_16 later between put new left same either in
+    let kept : length (since later new) ≡ length (since later between) = ap (λ (stamps : List Stamp). length stamps) same in
+    let before = all_held oldest old aside in
+    let after = all_held later between put in
+    omega arith
 
 pub shrinks : (oldest later : ℤ) (old between new aside put left : List Stamp) → length between + length put ≡ length old + length aside
-    → length new + length left ≤ length between + length put
+    → FreesAtMost 16 later between put new left
     → length (since later new) + (number_before None later new + length left) ≤ length (since oldest old) + (number_before None oldest old + length aside)
-shrinks oldest later old between new aside put left all less =
+shrinks oldest later old between new aside put left all either =
+    let less = fewer_left later between put new left either in
     let before = all_held oldest old aside in
     let after = all_held later new left in
     omega arith
+
+-- ---- the moment before which stamps are dropped
+
+pub is_later_of : (one other later : ℤ) → IsLater one other later → later ≡ later_of (Some one) other
+is_later_of one other later is =
+    let below = is.above_one in
+    let also = is.above_other in
+    elim is.either [
+      | inl e ↦ grind (arith, ints)
+      | inr e ↦ grind (arith, ints)
+    ]
+
+pub stays_early : (one other : ℤ) → one ≤ℤ other → one ≡ earlier_of one other
+stays_early one other h = grind (arith, ints)
+
+pub goes_early : (one other : ℤ) → other <ℤ one → other ≡ earlier_of one other
+goes_early one other h = grind (arith, ints)

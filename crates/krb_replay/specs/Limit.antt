@@ -43,6 +43,14 @@ abbrev pub CountsOne : List ℕ → List ℕ → Type 0
 CountsOne (old ∷ olds) (new ∷ news) = ((new ≡ (old + 1) % 2 ^ 64) × (news ≡ olds)) ⊎ ((new ≡ old) × CountsOne olds news)
 CountsOne _ _ = ⊥
 
+-- Of several counts, that of the first limit that the set reaches has gone up, by one. The others
+-- are the same.
+abbrev pub CountsFirst : (Stamp → Type 0) → ℤ → Stamp → List Limits → List ℕ → List ℕ → Type 0
+CountsFirst has oldest stamp (limits ∷ more) (old ∷ olds) (new ∷ news) =
+    (Reaches has oldest stamp limits × ((new ≡ (old + 1) % 2 ^ 64) × (news ≡ olds)))
+    ⊎ (¬ Reaches has oldest stamp limits × ((new ≡ old) × CountsFirst has oldest stamp more olds news))
+CountsFirst _ _ _ _ _ _ = ⊥
+
 -- A memory with limits: the memory that it limits, the most stamps that it takes, and the most of
 -- one client; the moment since which stamps count; and how often it has refused one for a limit,
 -- modulo 2 to the 64.

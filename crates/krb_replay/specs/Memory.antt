@@ -1,15 +1,21 @@
 -- Memories of seen requests: a set of stamps, and the latest moment that the memory was given.
 -- Moments and times are microseconds since 1970-01-01T00:00:00Z. A skew is a number of
 -- microseconds.
-use Rattle.std.specs.Prelude.{◌≡◌, ◌+◌, ◌≤◌, ℕ, ℤ, pos, ◌-ℤ◌, ◌≤ℤ◌, ◌↔◌, ◌⊎◌, ◌≢◌, int_lt, if◌then◌else◌, Option, Some, None, List, length, AllPairs, Contains}
+use Rattle.std.specs.Prelude.{◌≡◌, ◌+◌, ◌^◌, ◌≤◌, ℕ, ℤ, pos, neg_ℤ, ◌-ℤ◌, ◌≤ℤ◌, ◌↔◌, ◌⊎◌, ◌≢◌, int_lt, if◌then◌else◌, Option, Some, None, List, [], length, AllPairs, Contains}
 use Rattle.krb_replay.specs.Stamp.{Stamp}
 
--- a memory: what it holds, each stamp once and in any order; the latest moment, if it was given any;
--- and how many more stamps take room: they are dropped, and not freed yet
+-- A memory: what it holds, each stamp once and in any order; the latest moment, if it was given any;
+-- how many more stamps take room: they are dropped, and not freed yet; and the moment before which
+-- stamps are dropped.
 pub record Memory : Type 0 where
   pub stamps : List Stamp
   pub latest : Option ℤ
   pub unfreed : ℕ
+  pub oldest : ℤ
+
+-- a memory that was given nothing
+abbrev pub empty_memory : Memory
+empty_memory = record { stamps = []; latest = None; unfreed = 0; oldest = neg_ℤ (pos (2 ^ 63)) }
 
 -- how many stamps take room
 abbrev pub held_of : Memory → ℕ
@@ -23,6 +29,10 @@ FreesSome some old new = (new ≡ 0) ⊎ (new + some ≤ old)
 abbrev pub later_of : Option ℤ → ℤ → ℤ
 later_of None moment = moment
 later_of (Some latest) moment = if int_lt latest moment then moment else latest
+
+-- the earlier of two moments
+abbrev pub earlier_of : ℤ → ℤ → ℤ
+earlier_of one other = if int_lt other one then other else one
 
 -- the stamp's time isn't before the latest moment less the skew; the difference may lie before the
 -- year 0

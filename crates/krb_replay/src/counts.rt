@@ -1,69 +1,82 @@
-//! How many tuples each client has.
+//! How many tuples each client has, or each pair of names.
 
-ghost use Rattle.std.specs.Prelude.{◌≡◌, ◌+◌, ◌<◌, OnErr, OnOk};
-ghost use Rattle.krb_replay.specs.Inner.Held.{count_of, one_of};
-ghost use Rattle.krb_replay.specs.Inner.Order.{TwoNames};
+ghost use Rattle.std.specs.Prelude.{◌≡◌, ◌<◌, IfSome, OnErr, OnOk};
+ghost use Rattle.std.specs.declared.cmp.Ordering.TheVariants.{Equal};
+ghost use Rattle.krb_replay.specs.Inner.Counts.{AddsOne, HasNoZero, SameCounts, TakesOne, count_by};
 
-use crate::pair::{ByClient, Pair};
 use std::alloc::{AllocError, Global};
 use std::collections::BTreeMap;
 
-/// How many tuples each client has, if it has any.
+/// How many tuples each key has, if it has any.
 #[derive(Debug, Drop)]
-pub(crate) struct ClientCounts {
-    counts: BTreeMap<ByClient, usize>,
+pub(crate) struct Counts<K: Ord> {
+    counts: BTreeMap<K, usize>,
 }
 
-impl ClientCounts {
-    pub(crate) fn new(alloc: Global) -> ClientCounts
-        ensures { (names : TwoNames) → count_of result.counts names ≡ 0 }
+impl<K: Ord + Drop> Counts<K> {
+    pub(crate) fn new(alloc: Global) -> Counts<K>
+        ensures none { (key : K) → count_by K.cmp result.counts key ≡ 0 }
+        ensures no_zero { HasNoZero K.cmp result.counts }
     {
-        ClientCounts {
+        Counts {
             counts: BTreeMap::new(alloc),
         }
     }
 
-    /// Returns how many tuples the client has.
-    pub(crate) fn of(&self, names: &ByClient) -> usize
-        ensures { result ≡ count_of self.now.counts names.now }
+    /// Returns how many keys have tuples.
+    pub(crate) fn len(&self) -> usize {
+        self.counts.len()
+    }
+
+    /// Returns how many tuples the key has.
+    pub(crate) fn of(&self, key: &K) -> usize
+        ensures { result ≡ count_by K.cmp self.now.counts key.now }
     {
-        match self.counts.get(names) {
+        match self.counts.get(key) {
             Some(count) => *count,
             None => 0,
         }
     }
 
-    /// Counts one more tuple of the client.
-    pub(crate) fn add(&mut self, pair: &Pair) -> Result<(), AllocError>
-        ensures ok { OnOk result ((other : TwoNames) → count_of self.new.counts other ≡ count_of self.old.counts other + one_of pair.now other) }
-        ensures err { OnErr result ((other : TwoNames) → count_of self.new.counts other ≡ count_of self.old.counts other) }
+    /// Returns the equal key that is kept, if the key has tuples.
+    pub(crate) fn kept(&self, key: &K) -> Option<&K>
+        ensures { IfSome result (λ kept. K.cmp key.now kept.now ≡ Equal) }
     {
-        let names = ByClient::new(pair.share()?);
-        let Some(count) = self.of(&names).checked_add(1) else {
+        match self.counts.get_key_value(key) {
+            Some((kept, _)) => Some(kept),
+            None => None,
+        }
+    }
+
+    /// Counts one more tuple of the key.
+    pub(crate) fn add(&mut self, key: K) -> Result<(), AllocError>
+        ensures ok { OnOk result (AddsOne K.cmp self.old.counts self.new.counts key) }
+        ensures err { OnErr result (SameCounts K.cmp self.old.counts self.new.counts) }
+    {
+        let Some(count) = self.of(&key).checked_add(1) else {
             return Err(AllocError);
         };
-        self.counts.insert(names, count)?;
+        self.counts.insert(key, count)?;
         Ok(())
     }
 
-    /// Counts one tuple of the client less. Returns the key of a client that has no more tuples.
-    pub(crate) fn remove(&mut self, names: &ByClient) -> Option<ByClient>
-        requires { 0 < count_of self.old.counts names.now }
-        ensures { (other : TwoNames) → count_of self.new.counts other + one_of names.now other ≡ count_of self.old.counts other }
+    /// Counts one tuple of the key less. Frees the key that is kept, if it has no more tuples.
+    pub(crate) fn remove(&mut self, key: &K)
+        requires { 0 < count_by K.cmp self.old.counts key.now }
+        ensures { TakesOne K.cmp self.old.counts self.new.counts key.now }
     {
-        let count = self.of(names);
+        let count = self.of(key);
         if count > 1 {
-            match self.counts.get_mut(names) {
+            match self.counts.get_mut(key) {
                 Some(held) => {
                     *held = count - 1;
-                    return None;
+                    return;
                 }
-                None => return None,
+                None => return,
             }
         }
-        let (key, _) = self.counts.remove_entry(names)?;
+        let _ = self.counts.remove_entry(key);
         self.free_if_empty();
-        Some(key)
     }
 
     // An emptied tree keeps a block.

@@ -1,43 +1,45 @@
 //! What a timed memory holds.
 
-ghost use Rattle.std.specs.Prelude.{◌≡◌, ◌↔◌, ◌≤◌, ◌≤ℤ◌, ◌<◌, ◌+◌, ◌*◌, ◌^◌, ℤ, None, [], drop, false, min, length, Contains, IfOk, IsTrue, OnErr, OnOk};
+ghost use Rattle.std.specs.Prelude.{◌≡◌, ◌↔◌, ◌≤◌, ◌≤ℤ◌, ◌<◌, ◌+◌, ◌-◌, ◌*◌, ◌^◌, ℤ, None, [], drop, false, min, length, Contains, IfOk, IsTrue, OnErr, OnOk};
 ghost use Rattle.std.specs.List.Sorted.{IsStrictlySortedBy};
 ghost use Rattle.std.specs.Option.{option_map};
-ghost use Rattle.krb_replay.specs.Inner.Held.{count_of, is_of, number_before, number_of, one_of, since};
-ghost use Rattle.krb_replay.specs.Inner.Order.{TwoNames, names_of, stamp_cmp};
+ghost use Rattle.krb_replay.specs.Inner.Counts.{AddsOne, SameCounts, TakesOne, count_by};
+ghost use Rattle.krb_replay.specs.Inner.Held.{is_of, number_before, number_of, since};
+ghost use Rattle.krb_replay.specs.Inner.Order.{client_cmp, names_of, pair_cmp, stamp_cmp};
 ghost use Rattle.krb_replay.specs.Memory.{AddsStamp};
 
-use crate::counts::ClientCounts;
-use crate::pair::Pair;
+use crate::counts::Counts;
+use crate::pair::{ByClient, Pair};
 use crate::tuple::Tuple;
 use std::alloc::{AllocError, Global};
 use std::collections::BTreeSet;
 use std::marker::Model;
 
 /// Tuples in the order of their times. Those with the same names share one copy of them. How many
-/// tuples each client has is counted.
+/// tuples each client and each pair of names has is counted: names are kept as long as a tuple has
+/// them. (The names of a client's first tuple are kept as long as the client has any.)
 ///
-/// No call moves many tuples: the tuples, the pairs of names and the counts are in trees of small
-/// blocks.
+/// No call moves many tuples: the tuples and the counts are in trees of small blocks.
 #[derive(Debug, Drop)]
 pub(crate) struct Held {
     tuples: BTreeSet<Tuple>,
-    pairs: BTreeSet<Pair>,
-    clients: ClientCounts,
+    pairs: Counts<Pair>,
+    clients: Counts<ByClient>,
 }
 
 impl Model for Held {
     ghost use Rattle.std.specs.Prelude.{List};
     ghost use Rattle.std.specs.BTreeSet.{IsOrdered};
     ghost use Rattle.krb_replay.specs.Inner.Held.{AreCounted};
-    ghost use Rattle.krb_replay.specs.Inner.Order.{stamp_cmp};
+    ghost use Rattle.krb_replay.specs.Inner.Order.{client_cmp, pair_cmp, stamp_cmp};
     ghost use Rattle.krb_replay.specs.Stamp.{Stamp};
 
     ghost Value = { List Stamp };
 
     ghost view = { λ held. held.tuples.keys };
 
-    ghost invariant = { λ held. IsOrdered stamp_cmp held.tuples × AreCounted held.tuples.keys held.clients.counts };
+    ghost invariant = { λ held. IsOrdered stamp_cmp held.tuples
+        × (AreCounted client_cmp held.tuples.keys held.clients.counts × AreCounted pair_cmp held.tuples.keys held.pairs.counts) };
 }
 
 impl Held {
@@ -46,8 +48,8 @@ impl Held {
     {
         Held {
             tuples: BTreeSet::new(alloc),
-            pairs: BTreeSet::new(alloc),
-            clients: ClientCounts::new(alloc),
+            pairs: Counts::new(alloc),
+            clients: Counts::new(alloc),
         }
     }
 
@@ -65,10 +67,11 @@ impl Held {
         self.tuples.len()
     }
 
-    /// Returns about how many bytes are taken: up to 40 for a tuple, and 200 for two short names. A
+    /// Returns about how many bytes are taken: 40 for a tuple, and 200 for two short names. A
     /// tuple has at most two names of its own.
     pub(crate) fn bytes(&self) -> usize
-        ensures { result ≤ 240 * length self.now }
+        ensures least { min (40 * length self.now) (2 ^ 64 - 1) ≤ result }
+        ensures most { result ≤ 240 * length self.now }
     {
         let tuples = self.tuples.len();
         let pairs = tuples.min(self.pairs.len());
@@ -87,17 +90,12 @@ impl Held {
         if self.tuples.contains(&tuple) {
             return Ok(());
         }
-        let tuple = share_names(&mut self.pairs, tuple)?;
-        match self.clients.add(tuple.names().pair()) {
-            Ok(()) => match self.tuples.insert(tuple) {
-                Ok(_) => Ok(()),
-                Err(failed) => {
-                    uncount(&mut self.clients, &mut self.pairs, failed.value);
-                    Err(AllocError)
-                }
-            },
-            Err(_) => {
-                forget(&mut self.pairs, tuple.into_pair());
+        let tuple = share_names(&self.pairs, tuple)?;
+        count(&mut self.clients, &mut self.pairs, &tuple)?;
+        match self.tuples.insert(tuple) {
+            Ok(_) => Ok(()),
+            Err(failed) => {
+                uncount(&mut self.clients, &mut self.pairs, &failed.value);
                 Err(AllocError)
             }
         }
@@ -126,7 +124,7 @@ impl Held {
     {
         match self.tuples.pop_first() {
             Some(tuple) => {
-                uncount(&mut self.clients, &mut self.pairs, tuple);
+                uncount(&mut self.clients, &mut self.pairs, &tuple);
                 true
             }
             None => false,
@@ -194,37 +192,46 @@ impl Held {
 }
 
 // The same tuple, which shares its names with those that are held.
-fn share_names(pairs: &mut BTreeSet<Pair>, tuple: Tuple) -> Result<Tuple, AllocError>
+fn share_names(pairs: &Counts<Pair>, tuple: Tuple) -> Result<Tuple, AllocError>
     ensures { IfOk result (λ shared. shared ≡ tuple) }
 {
-    let shared = match pairs.get(tuple.names().pair()) {
+    let shared = match pairs.kept(tuple.names().pair()) {
         Some(pair) => pair.share()?,
-        None => {
-            pairs.insert(tuple.names().pair().share()?)?;
-            return Ok(tuple);
-        }
+        None => return Ok(tuple),
     };
     Ok(tuple.with_names(shared))
 }
 
-// Frees the tuple, which is counted, and its names if no other tuple has them.
-fn uncount(clients: &mut ClientCounts, pairs: &mut BTreeSet<Pair>, tuple: Tuple)
-    requires { 0 < count_of clients.old.counts (names_of tuple) }
-    ensures { (other : TwoNames) → count_of clients.new.counts other + one_of (names_of tuple) other ≡ count_of clients.old.counts other }
+// Counts the tuple for its client and its names, or for neither.
+fn count(
+    clients: &mut Counts<ByClient>,
+    pairs: &mut Counts<Pair>,
+    tuple: &Tuple,
+) -> Result<(), AllocError>
+    ensures client { OnOk result (AddsOne client_cmp clients.old.counts clients.new.counts (names_of tuple.now)) }
+    ensures pair { OnOk result (AddsOne pair_cmp pairs.old.counts pairs.new.counts (names_of tuple.now)) }
+    ensures client_err { OnErr result (SameCounts client_cmp clients.old.counts clients.new.counts) }
+    ensures pair_err { OnErr result (SameCounts pair_cmp pairs.old.counts pairs.new.counts) }
 {
-    if let Some(client) = clients.remove(tuple.names()) {
-        forget(pairs, client.into_pair());
+    let names = tuple.names().pair();
+    let client = ByClient::new(names.share()?);
+    pairs.add(names.share()?)?;
+    match clients.add(client) {
+        Ok(()) => Ok(()),
+        Err(_) => {
+            pairs.remove(names);
+            Err(AllocError)
+        }
     }
-    forget(pairs, tuple.into_pair());
 }
 
-// Frees the names if no tuple has them: only this holder and `pairs`.
-fn forget(pairs: &mut BTreeSet<Pair>, pair: Pair) {
-    if pair.holders() <= 2 {
-        let _ = pairs.remove(&pair);
-    }
-    // (an emptied tree keeps a block)
-    if pairs.is_empty() {
-        pairs.clear();
-    }
+// Counts the tuple no more. What isn't counted any more is freed.
+fn uncount(clients: &mut Counts<ByClient>, pairs: &mut Counts<Pair>, tuple: &Tuple)
+    requires client { 0 < count_by client_cmp clients.old.counts (names_of tuple.now) }
+    requires pair { 0 < count_by pair_cmp pairs.old.counts (names_of tuple.now) }
+    ensures client { TakesOne client_cmp clients.old.counts clients.new.counts (names_of tuple.now) }
+    ensures pair { TakesOne pair_cmp pairs.old.counts pairs.new.counts (names_of tuple.now) }
+{
+    clients.remove(tuple.names());
+    pairs.remove(tuple.names().pair());
 }

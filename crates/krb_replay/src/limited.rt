@@ -1,7 +1,7 @@
 //! A memory that takes only so many tuples.
 
 ghost use Rattle.std.specs.Prelude.{◌≡◌, ◌⊎◌, ◌∷◌, ◌-ℤ◌, ◌↔◌, ℤ, IsErr, IsTrue, OnErr, OnOk, Some, pos};
-ghost use Rattle.krb_replay.specs.Limit.{CountsOne, IsFull, IsPastAny, Reaches, counts_refusal, limited, limits_of};
+ghost use Rattle.krb_replay.specs.Limit.{CountsFirst, CountsOne, IsFull, IsPastAny, Reaches, counts_refusal, limited, limits_of};
 ghost use Rattle.krb_replay.specs.Memory.{AddsStamp, IsRecent, SameStamps, later_of};
 ghost use Rattle.krb_replay.specs.Stamp.{Stamp};
 
@@ -14,8 +14,8 @@ use std::marker::Model;
 
 /// A memory over another one that takes at most so many tuples, and at most so many of one client.
 ///
-/// Past a limit `remember` answers `AllocError`, and nothing changes: see
-/// [`LimitedMemory::refused`]. A tuple that is in the set already isn't refused. A tuple counts
+/// Past a limit `remember` returns `AllocError`, and nothing changes except the count of refusals
+/// ([`LimitedMemory::refused`]). A tuple that is in the set already isn't refused. A tuple counts
 /// while it is in the set and its time isn't before the moment that [`ReplayMemory::expect`] was
 /// last given, less the skew. So what the next `advance` drops doesn't count any more.
 #[derive(Debug, Drop)]
@@ -159,6 +159,10 @@ impl<M: ReplayMemory> ReplayMemory for LimitedMemory<M> {
         ensures full_any { (oldest : ℤ) → (self.old.oldest ≡ oldest) × M.counts_since self.old.memory oldest
             → IsPastAny (M.has self.old.memory) oldest tuple (limits_of self.old ∷ M.limits self.old.memory)
             → IsErr result × CountsOne (self.old.refused ∷ M.refusals self.old.memory) (self.new.refused ∷ M.refusals self.new.memory) }
+        ensures first_any { (oldest : ℤ) → (self.old.oldest ≡ oldest) × M.counts_since self.old.memory oldest
+            → IsPastAny (M.has self.old.memory) oldest tuple (limits_of self.old ∷ M.limits self.old.memory)
+            → CountsFirst (M.has self.old.memory) oldest tuple (limits_of self.old ∷ M.limits self.old.memory)
+            (self.old.refused ∷ M.refusals self.old.memory) (self.new.refused ∷ M.refusals self.new.memory) }
         ensures room_any { (oldest : ℤ) → (self.old.oldest ≡ oldest) × M.counts_since self.old.memory oldest
             → ((self.new.refused ∷ M.refusals self.new.memory) ≡ (self.old.refused ∷ M.refusals self.old.memory))
             ⊎ (CountsOne (self.old.refused ∷ M.refusals self.old.memory) (self.new.refused ∷ M.refusals self.new.memory)

@@ -21,21 +21,26 @@ pub struct ListMemory {
 
 impl Model for ListMemory {
     ghost use Rattle.std.specs.Prelude.{◌≢◌, AllPairs};
-    ghost use Rattle.krb_replay.specs.Memory.{Memory};
+    ghost use Rattle.krb_replay.specs.Memory.{Memory, empty_memory};
 
     ghost Value = { Memory };
 
-    ghost view = { λ memory. record { stamps = memory.tuples.items; latest = memory.latest; unfreed = 0 } };
+    ghost view = { λ memory. record {
+      stamps = memory.tuples.items;
+      latest = memory.latest;
+      unfreed = 0;
+      oldest = empty_memory.oldest;
+    } };
 
     ghost invariant = { λ memory. AllPairs (λ one other. one ≢ other) memory.tuples.items };
 }
 
 impl ListMemory {
-    ghost use Rattle.krb_replay.specs.Memory.{HasNone};
+    ghost use Rattle.krb_replay.specs.Memory.{HasNone, empty_memory};
 
     /// Makes an empty memory, which was given no moment. Allocates nothing yet.
     pub fn new(alloc: Global) -> ListMemory
-        ensures value { result ≡ record { stamps = []; latest = None; unfreed = 0 } }
+        ensures value { result ≡ empty_memory }
         ensures empty { HasNone (⟦<ListMemory as ReplayMemory>⟧.has result) }
         ensures newest { ⟦<ListMemory as ReplayMemory>⟧.newest result ≡ None }
     {

@@ -2,7 +2,7 @@
 
 ghost use Rattle.std.specs.Prelude.{◌≡◌, ◌↔◌, ◌⊎◌, ◌-ℤ◌, ℕ, ℤ, pos, Bool, List, Option, Some, IsErr, IsTrue, OnOk, OnErr};
 ghost use Rattle.std.specs.Option.{option_map};
-ghost use Rattle.krb_replay.specs.Limit.{CountsOne, HasAtLeast, IsPastAny, Limits, Since};
+ghost use Rattle.krb_replay.specs.Limit.{CountsFirst, CountsOne, HasAtLeast, IsPastAny, Limits, Since};
 ghost use Rattle.krb_replay.specs.Stamp.{Stamp};
 ghost use Rattle.krb_replay.specs.Memory.{later_of, IsRecent, SameStamps, AddsStamp, IsSizeOf};
 
@@ -66,9 +66,12 @@ pub trait ReplayMemory {
         ensures err { OnErr result (SameStamps (has self.old) (has self.new)) }
         ensures newest { newest self.new ≡ newest self.old }
 
-        // A tuple past a limit is refused, and that is counted. Nothing else is counted.
+        // A tuple past a limit is refused, and the first limit that is reached counts that. Nothing
+        // else is counted.
         ensures full { (oldest : ℤ) → counts_since self.old oldest → IsPastAny (has self.old) oldest tuple (limits self.old)
             → IsErr result × CountsOne (refusals self.old) (refusals self.new) }
+        ensures first { (oldest : ℤ) → counts_since self.old oldest → IsPastAny (has self.old) oldest tuple (limits self.old)
+            → CountsFirst (has self.old) oldest tuple (limits self.old) (refusals self.old) (refusals self.new) }
         ensures refused { (oldest : ℤ) → counts_since self.old oldest → (refusals self.new ≡ refusals self.old)
             ⊎ (CountsOne (refusals self.old) (refusals self.new) × (IsErr result × IsPastAny (has self.old) oldest tuple (limits self.old))) }
         ensures limits { limits self.new ≡ limits self.old }

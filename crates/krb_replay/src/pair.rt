@@ -55,11 +55,6 @@ impl Pair {
         })
     }
 
-    /// Returns how many hold the names.
-    pub(crate) fn holders(&self) -> usize {
-        Rc::strong_count(&self.names)
-    }
-
     pub(crate) fn names(&self) -> &Names
         ensures { result.now ≡ self.now }
     {
@@ -127,12 +122,6 @@ impl ByClient {
         ensures { result ≡ pair }
     {
         ByClient { pair }
-    }
-
-    pub(crate) fn into_pair(self) -> Pair
-        ensures { result ≡ self }
-    {
-        self.pair
     }
 
     pub(crate) fn pair(&self) -> &Pair

@@ -1,7 +1,8 @@
 //! A memory that forgets what is old.
 
-ghost use Rattle.std.specs.Prelude.{◌≡◌, ◌⊎◌, ◌+◌, ◌≤◌, ◌≤ℤ◌, [], IsTrue, None, length, true, false};
-ghost use Rattle.krb_replay.specs.Inner.Held.{AreLive, IsLater, since};
+ghost use Rattle.std.specs.Prelude.{◌≡◌, ◌+◌, ◌≤◌, ◌≤ℤ◌, [], IsTrue, None, length, true, false};
+ghost use Rattle.krb_replay.specs.Inner.Held.{AreLive, FreesAtMost, IsLater, since};
+ghost use Rattle.krb_replay.specs.Memory.{earlier_of};
 
 use crate::held::Held;
 use crate::memory::{ReplayMemory, later};
@@ -28,7 +29,7 @@ const FREED_AT_ONCE: usize = 16;
 /// than what was dropped is remembered only after that is freed.
 ///
 /// Tuples of one service and one client share the two names. The names are freed with the last such
-/// tuple.
+/// tuple; those of a client's first tuple are freed with the client's last.
 #[derive(Debug, Drop)]
 pub struct TimedMemory {
     held: Held,
@@ -50,16 +51,17 @@ impl Model for TimedMemory {
       stamps = since memory.oldest memory.held;
       latest = memory.latest;
       unfreed = number_before None memory.oldest memory.held + length memory.aside;
+      oldest = memory.oldest;
     } };
 }
 
 impl TimedMemory {
-    ghost use Rattle.std.specs.Prelude.{ℕ, ◌≤◌, ◌*◌, Contains};
-    ghost use Rattle.krb_replay.specs.Memory.{HasNone, IsSizeOf, held_of};
+    ghost use Rattle.std.specs.Prelude.{ℕ, ◌+◌, ◌-◌, ◌≤◌, ◌*◌, ◌^◌, min, Contains};
+    ghost use Rattle.krb_replay.specs.Memory.{HasNone, IsSizeOf, empty_memory, held_of};
 
     /// Makes an empty memory, which was given no moment. Allocates nothing yet.
     pub fn new(alloc: Global) -> TimedMemory
-        ensures value { result ≡ record { stamps = []; latest = None; unfreed = 0 } }
+        ensures value { result ≡ empty_memory }
         ensures empty { HasNone (⟦<TimedMemory as ReplayMemory>⟧.has result) }
         ensures newest { ⟦<TimedMemory as ReplayMemory>⟧.newest result ≡ None }
     {
@@ -75,23 +77,25 @@ impl TimedMemory {
     /// freed yet.
     pub fn held(&self) -> usize
         ensures least { (size : ℕ) → IsSizeOf (Contains self.now.stamps) size → size ≤ result }
+        ensures size { (size : ℕ) → IsSizeOf (Contains self.now.stamps) size → result ≡ size + self.now.unfreed }
         ensures exact { result ≡ held_of self.now }
     {
         self.held.len() + self.aside.len()
     }
 
-    /// Returns about how many bytes these take. It is an estimate: up to 40 for a tuple, and 200
-    /// for the two names that tuples share.
+    /// Returns about how many bytes these take. It is an estimate: 40 for a tuple, and 200 for the
+    /// two names that tuples share.
     pub fn bytes(&self) -> usize
-        ensures { result ≤ 240 * held_of self.now }
+        ensures least { min (40 * held_of self.now) (2 ^ 64 - 1) ≤ result }
+        ensures most { result ≤ 240 * held_of self.now }
     {
         self.held.bytes().saturating_add(self.aside.bytes())
     }
 }
 
 impl ReplayMemory for TimedMemory {
-    ghost use Rattle.std.specs.Prelude.{◌+◌, ◌≤◌, ◌-ℤ◌, pos, Contains, OnErr, OnOk, Some};
-    ghost use Rattle.krb_replay.specs.Memory.{AddsStamp, FreesSome, IsRecent, SameStamps, held_of, later_of};
+    ghost use Rattle.std.specs.Prelude.{◌+◌, ◌-◌, ◌≤◌, ◌≤ℤ◌, ◌-ℤ◌, pos, Contains, OnErr, OnOk, Some};
+    ghost use Rattle.krb_replay.specs.Memory.{AddsStamp, FreesSome, IsRecent, SameStamps, earlier_of, held_of, later_of};
     ghost use Rattle.krb_replay.specs.Stamp.{Stamp};
 
     const KEEPS: bool = false;
@@ -121,8 +125,12 @@ impl ReplayMemory for TimedMemory {
 
     fn expect(&mut self, _moment: Moment, _skew: Skew)
         ensures set { SameStamps (Contains self.old.stamps) (Contains self.new.stamps) }
+        ensures stamps { self.new.stamps ≡ self.old.stamps }
         ensures newest { self.new.latest ≡ self.old.latest }
-        ensures frees { FreesSome 16 self.old.unfreed self.new.unfreed }
+        ensures oldest { self.new.oldest ≡ self.old.oldest }
+
+        // 16 that were dropped are freed, or all if they are fewer.
+        ensures frees { self.new.unfreed ≡ self.old.unfreed - 16 }
     {
         free_some(&mut self.held, &mut self.aside, self.oldest);
     }
@@ -130,10 +138,14 @@ impl ReplayMemory for TimedMemory {
     fn remember(&mut self, tuple: Tuple) -> Result<(), AllocError>
         ensures ok { OnOk result (AddsStamp (Contains self.old.stamps) (Contains self.new.stamps) tuple) }
         ensures err { OnErr result (SameStamps (Contains self.old.stamps) (Contains self.new.stamps)) }
+        ensures unchanged { OnErr result (self.new.stamps ≡ self.old.stamps) }
         ensures newest { self.new.latest ≡ self.old.latest }
+        ensures oldest { self.new.oldest ≡ earlier_of self.old.oldest tuple.time }
 
-        // 16 that were dropped are freed, or all.
+        // 16 that were dropped are freed, or all if they are fewer. More may be freed only for a
+        // tuple that is older than what was dropped.
         ensures frees { FreesSome 16 self.old.unfreed self.new.unfreed }
+        ensures frees_16 { self.old.oldest ≤ℤ tuple.time → self.new.unfreed ≡ self.old.unfreed - 16 }
         ensures grows { held_of self.new ≤ held_of self.old + 1 }
     {
         let oldest = reach_back(&mut self.held, self.oldest, tuple.time().micros());
@@ -150,8 +162,10 @@ impl ReplayMemory for TimedMemory {
             → IsRecent (later_of self.old.latest moment) skew stamp → Contains self.new.stamps stamp }
         ensures forgets { (stamp : Stamp) → Contains self.new.stamps stamp → IsRecent (later_of self.old.latest moment) skew stamp }
 
-        // 16 that are dropped are freed, or all.
-        ensures frees { (self.new.unfreed ≡ 0) ⊎ (held_of self.new + 16 ≤ held_of self.old) }
+        ensures oldest { self.new.oldest ≡ later_of (Some self.old.oldest) (later_of self.old.latest moment -ℤ pos skew) }
+
+        // 16 of those that are dropped now or were before are freed, or all if they are fewer.
+        ensures frees { self.new.unfreed ≡ held_of self.old - length self.new.stamps - 16 }
         ensures shrinks { held_of self.new ≤ held_of self.old }
     {
         let latest = later(self.latest, moment);
@@ -184,6 +198,8 @@ fn later_moment(one: i64, other: i64) -> i64
 fn reach_back(held: &mut Held, oldest: i64, time: i64) -> i64
     ensures same { since result held.new ≡ since oldest held.old }
     ensures reached { result ≤ℤ time }
+    ensures value { result ≡ earlier_of oldest time }
+    ensures stays { oldest ≤ℤ time → held.new ≡ held.old }
     ensures shrinks { length held.new ≤ length held.old }
 {
     if oldest <= time {
@@ -204,12 +220,10 @@ fn put_aside(held: &mut Held, aside: &mut Held, oldest: i64)
     }
 }
 
-// Frees some of what is dropped, or all.
+// Frees 16 of what is dropped, or all if it is less.
 fn free_some(held: &mut Held, aside: &mut Held, oldest: i64)
     ensures same { since oldest held.new ≡ since oldest held.old }
-    ensures frees { AreLive oldest held.new aside.new
-        ⊎ (length held.new + length aside.new + 16 ≤ length held.old + length aside.old) }
-    ensures shrinks { length held.new + length aside.new ≤ length held.old + length aside.old }
+    ensures frees { FreesAtMost 16 oldest held.old aside.old held.new aside.new }
 {
     for _ in 0..FREED_AT_ONCE {
         if !free_one(held, aside, oldest) {

@@ -91,13 +91,6 @@ impl Tuple {
         }
     }
 
-    /// Returns the names alone.
-    pub(crate) fn into_pair(self) -> Pair
-        ensures { result ≡ names_of self }
-    {
-        self.names.into_pair()
-    }
-
     /// Returns the tuple of the same time that holds `names`.
     pub(crate) fn with_names(self, names: Pair) -> Tuple
         requires { names ≡ names_of self }

@@ -1,6 +1,6 @@
 -- What `explain` makes of a text that was read, or why it makes nothing.
-use Rattle.std.proofs.Common.{◌≡◌, ◌≢◌, ◌≤◌, ◌<◌, ◌+◌, ◌∙◌, ℕ, List, length, Option, Some, None, Result, Ok, Err, refl, sym, subst, ap, arith}
-use Rattle.std.specs.Prelude.{⊤, IfOk, IfErr, IfSome, OnOk}
+use Rattle.std.proofs.Common.{◌≡◌, ◌≢◌, ◌≤◌, ◌+◌, ◌∙◌, ℕ, List, length, Option, Some, Result, Ok, Err, refl, sym, subst, arith}
+use Rattle.std.specs.Prelude.{⊤, IfSome}
 use Rattle.krb_name.specs.File.{TakesFile, file_limit}
 use Rattle.krb_explain.specs.Input.{read_of}
 use Rattle.krb_explain.specs.Explained.{IsExplanation}

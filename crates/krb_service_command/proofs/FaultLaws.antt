@@ -1,4 +1,4 @@
--- The faults that end a service, told apart.
+-- The faults that end a service are different.
 use Rattle.std.proofs.Common.{◌≡◌, ◌⊎◌, Result, Err, ap, inl, inr}
 use Rattle.krb_file_commands.proofs.FaultLaws.{same_err}
 use Rattle.krb_service_command.specs.declared.fault.ServiceFault.{ServiceFault}

@@ -123,7 +123,8 @@ fn form_of(tokens: bool) -> Form
     if tokens { Form::Token } else { Form::Message }
 }
 
-fn name_of<R: AllocGlobal + Eprint>(
+/// Reads a name of the command line, if it is there. If it isn't a name, that is printed, and the exit status is the error.
+pub(crate) fn name_of<R: AllocGlobal + Eprint>(
     rt: &R,
     argument: &str,
     text: Option<&str>,

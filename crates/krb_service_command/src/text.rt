@@ -1,13 +1,31 @@
 //! The text that is given to `explain`.
 
-ghost use Rattle.std.specs.Prelude.{◌≡◌, ◌+◌, ◌-◌, ◌^◌, ◌<◌, [], IfOk, IfErr, IfSome};
+ghost use Rattle.std.specs.Prelude.{◌≡◌, ◌+◌, ◌-◌, ◌^◌, ◌<◌, [], Ok, IfOk, IfErr, IfSome};
+ghost use Rattle.krb_explain.specs.Input.{read_of};
 ghost use Rattle.krb_name.specs.File.{TakesFile};
 ghost use Rattle.krb_file_commands.specs.Engine.{failed_by};
 ghost use Rattle.krb_service_command.specs.Explaining.{IsUnread, IsWholeText, explain_reads};
 
 use crate::explain_fault::ExplainFault;
+use krb_explain::message_bytes;
 use krb_name::{FILE_LIMIT, Source, Window};
 use std::alloc::Global;
+
+/// Reads a text from a source, and returns the bytes that it spells.
+///
+/// # Errors
+/// Those of `read_text` and of `message_bytes`.
+pub(crate) fn read_message<S: Source>(
+    alloc: Global,
+    source: &mut S,
+) -> Result<Vec<u8>, ExplainFault>
+    requires { S.failure_count source.old < 2 ^ 64 - 1 }
+    ensures bytes { IfOk result (λ bytes. IfSome (S.remaining source.old) (λ text. read_of text ≡ Ok bytes.items)) }
+    ensures taken { TakesFile (S.remaining source.old) (S.remaining source.new) }
+{
+    let text = read_text(alloc, source)?;
+    Ok(message_bytes(alloc, &text)?)
+}
 
 /// Reads a text from a source, to its end or to one byte past 16,777,216.
 ///

@@ -40,7 +40,7 @@ fn answer(rt: &HostRuntime) -> u8 {
     }
 }
 
-// Says that the words of the command line can't be had, and returns the exit status for that.
+// Reports that the arguments can't be read, and returns the exit status for that.
 fn refuse_words(rt: &HostRuntime, kind: io::ErrorKind) -> u8 {
     match kind {
         io::ErrorKind::OutOfMemory => refuse_memory(rt, &[]),

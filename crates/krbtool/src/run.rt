@@ -10,10 +10,11 @@ use krb_service_command::{run_accept, run_explain};
 use std::io::Input;
 use std::random::RandomSource;
 use std::rt::Files;
+use std::time::Clock;
 
 /// Runs a command, and returns the exit status: 0 if all is well, 1 if content is refused, 3
 /// if a file, the output or memory failed.
-pub(crate) fn run<R: AllocGlobal + Files + RandomSource + Input + Print + Eprint>(
+pub(crate) fn run<R: AllocGlobal + Files + RandomSource + Clock + Input + Print + Eprint>(
     rt: &R,
     command: Command<'_>,
 ) -> u8 {

@@ -14,6 +14,7 @@ from .._files import CredentialCache
 from ._logins import Heard, HttpLogin, LoginError, LoginTrouble, Mutual, Origin, Settings
 
 __all__ = ["Negotiate"]
+_extract_cookies: Any = extract_cookies_to_jar
 
 
 class Negotiate(AuthBase):
@@ -59,7 +60,9 @@ class Negotiate(AuthBase):
 
         def answered(response: requests.Response, **words: Any) -> requests.Response:
             return _answered(login, response, words)
-        request.register_hook("response", answered)
+        # (the types of requests, where they are installed, don't have all that it has)
+        hooked: Any = request
+        hooked.register_hook("response", answered)
         return request
 
 
@@ -92,16 +95,17 @@ def _origin(request: requests.PreparedRequest) -> Origin:
 
 def _sent_again(response: requests.Response, header: str, words: dict[str, Any]) -> requests.Response:
     """The response to the request of this one with a token."""
-    request = response.request.copy()
+    request: Any = response.request.copy()
+    before: Any = response
     _rewind(request, response)
     # The connection is used again once its response has been read.
     response.content
     response.close()
-    extract_cookies_to_jar(request._cookies, response.request, response.raw)
+    _extract_cookies(request._cookies, response.request, response.raw)
     request.headers.pop("Cookie", None)
     request.prepare_cookies(request._cookies)
     request.headers["Authorization"] = header
-    again: requests.Response = response.connection.send(request, **words)
+    again: requests.Response = before.connection.send(request, **words)
     again.history = [*response.history, response]
     again.request = request
     return again

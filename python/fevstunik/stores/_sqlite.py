@@ -11,7 +11,6 @@ import weakref
 from collections.abc import Callable
 from contextlib import suppress
 from pathlib import Path
-from typing import TypeVar
 
 from .._errors import StoreFailed
 from .._library import here
@@ -25,43 +24,49 @@ _NAME, _BESIDE = re.compile(r"[0-9A-Za-z-]{1,64}"), ("", "-wal", "-shm", "-journ
 # What was written before a process was killed is in the page cache: so nothing is synced, and a file is used within one boot alone.
 _TABLES = """
 PRAGMA journal_mode = WAL;
-CREATE TABLE store (boot TEXT NOT NULL, made INTEGER NOT NULL, largest_skew INTEGER NOT NULL, forgotten INTEGER NOT NULL);
-CREATE TABLE stamps (stamp BLOB PRIMARY KEY, keep_until INTEGER NOT NULL) WITHOUT ROWID;
-CREATE INDEX stamps_until ON stamps (keep_until);
+CREATE TABLE store (boot TEXT NOT NULL, made INTEGER NOT NULL, largest_skew INTEGER NOT NULL, forgotten INTEGER NOT NULL, next BLOB NOT NULL);
+CREATE TABLE stamps (key BLOB PRIMARY KEY, keep_until INTEGER NOT NULL) WITHOUT ROWID;
 """
+# A service's stamp ends with its time. That comes first in the key, so that new ones are added at the end of the file's order, in a page that
+# is at hand.
+_TIME = 8
 # A stamp that may have been forgotten isn't added: the clock was set back.
-_ADD = "INSERT INTO stamps SELECT ?1, ?2 WHERE ?2 > (SELECT forgotten FROM store) ON CONFLICT DO NOTHING"
-_FORGET = """DELETE FROM stamps WHERE stamp IN (SELECT stamp FROM stamps WHERE keep_until < ? ORDER BY keep_until LIMIT ?)
-RETURNING keep_until"""
-# After so many stamps, at most twice as many are forgotten.
+_ADD = "INSERT INTO stamps (key, keep_until) SELECT ?1, ?2 WHERE ?2 > (SELECT forgotten FROM store) ON CONFLICT DO NOTHING"
+# After so many stamps, twice as many are looked at, in the order of their keys, and those that are old are forgotten. (An index by time would
+# cost each login as much as the stamp itself.) The last statement notes from which one to go on; after the last, that is the first again.
 _PORTION = 32
-_T = TypeVar("_T")
+_SEEN = f"FROM stamps WHERE key >= (SELECT next FROM store) ORDER BY key LIMIT {2 * _PORTION}"
+_NOTE = f"""UPDATE store SET
+forgotten = max(forgotten, ifnull((SELECT max(keep_until) FROM (SELECT keep_until {_SEEN}) WHERE keep_until < ?), 0))"""
+_FORGET = f"""DELETE FROM stamps WHERE keep_until < ? AND
+key BETWEEN (SELECT next FROM store) AND (SELECT max(key) FROM (SELECT key {_SEEN}))"""
+_GO_ON = f"UPDATE store SET next = ifnull((SELECT key {_SEEN} - changes(), 1), x'')"
 
 
 class _File:
     """A connection to a file. Two processes that want to write at once try again and again."""
 
     def __init__(self, path: Path, no_answer: Callable[[], Exception]) -> None:
-        self.file, self.no_answer, self.added = _identity(path), no_answer, 0
-        self.base = sqlite3.connect(f"file:{urllib.parse.quote(str(path))}?mode=rw", uri=True, timeout=0, isolation_level=None,
+        # (a text is looked up faster than a Path)
+        self.path = str(path)
+        self.file, self.no_answer, self.added = _identity(self.path), no_answer, 0
+        self.base = sqlite3.connect(f"file:{urllib.parse.quote(self.path)}?mode=rw", uri=True, timeout=0, isolation_level=None,
                                     check_same_thread=False)
 
     def run(self, last: float, statement: str, *words: object) -> sqlite3.Cursor:
-        return self.retried(last, lambda: self.base.execute(statement, words))
-
-    def retried(self, last: float, step: Callable[[], _T]) -> _T:
-        """What a step returns, which is made again while another process writes, until this moment of the monotonic clock."""
-        wait = 0.0001
+        """Run a statement. It is tried again while another process writes, until this moment of the monotonic clock."""
+        # (at first the processor is given away for a moment: the other one is done soon, unless it was interrupted)
+        wait = 0.0
         while True:
             try:
-                return step()
+                return self.base.execute(statement, words)
             except sqlite3.OperationalError as fault:
                 if fault.sqlite_errorcode & 0xff not in (sqlite3.SQLITE_BUSY, sqlite3.SQLITE_LOCKED):
                     raise
             if time.monotonic() > last:
                 raise self.no_answer()
             time.sleep(wait * random.random())
-            wait = min(2 * wait, 0.002)
+            wait = min(2 * wait or 0.0001, 0.002)
 
 
 class SQLite(Connected[_File]):
@@ -136,7 +141,7 @@ class SQLite(Connected[_File]):
         try:
             base.execute("PRAGMA synchronous = OFF")
             base.executescript(_TABLES)
-            base.execute("INSERT INTO store VALUES (?, ?, ?, 0)", (self._boot, clock(), largest_skew))
+            base.execute("INSERT INTO store VALUES (?, ?, ?, 0, x'')", (self._boot, clock(), largest_skew))
         finally:
             base.close()
         new.rename(self.path)
@@ -172,7 +177,7 @@ class SQLite(Connected[_File]):
             if connection.added % _PORTION == 0:
                 self._forget(connection, last)
             connection.added += 1
-            is_new = connection.run(last, _ADD, stamp, until).rowcount == 1
+            is_new = connection.run(last, _ADD, stamp[-_TIME:] + stamp[:-_TIME], until).rowcount == 1
             if not is_new and connection.run(last, "SELECT forgotten >= ? FROM store", until).fetchone()[0]:
                 raise StoreFailed("the clock was set back, so the stamp may have been forgotten")
             # (after the stamp was added: a file that is made from now on is of a later moment than the request)
@@ -182,18 +187,17 @@ class SQLite(Connected[_File]):
         return is_new
 
     def _forget(self, connection: _File, last: float) -> None:
-        """Forget some of the stamps that needn't be kept any longer, and note up to which time they were."""
-        if connection.run(last, "SELECT 1 FROM stamps WHERE keep_until < ? LIMIT 1", clock()).fetchone() is None:
-            return
+        """Forget those of some stamps that needn't be kept any longer, and note up to which time they were."""
+        now = clock()
         connection.run(last, "BEGIN IMMEDIATE")
         with connection.base:
-            forgotten = [it for it, in connection.run(last, _FORGET, clock(), 2 * _PORTION)]
-            if forgotten:
-                connection.run(last, "UPDATE store SET forgotten = max(forgotten, ?)", max(forgotten))
+            connection.run(last, _NOTE, now)
+            connection.run(last, _FORGET, now)
+            connection.run(last, _GO_ON)
 
     def _is_there(self, connection: _File) -> None:
         try:
-            is_there = connection.file == _identity(self.path)
+            is_there = connection.file == _identity(connection.path)
         except FileNotFoundError:
             is_there = False
         if not is_there:
@@ -232,6 +236,6 @@ def _before_fork() -> None:
 os.register_at_fork(before=_before_fork)
 
 
-def _identity(path: Path) -> tuple[int, int]:
+def _identity(path: str) -> tuple[int, int]:
     found = os.stat(path)
     return found.st_dev, found.st_ino

@@ -11,7 +11,7 @@ import sys
 
 from .._errors import Fault, StoreFailed
 from ._server import serve
-from .service import app
+from .service import app, log
 
 _BACKLOG, _FIRST = 1024, 3
 
@@ -38,7 +38,7 @@ def main() -> None:
     words.add_argument("--socket", help="the path of the Unix socket on which it listens")
     words.add_argument("--verbose", action="store_true", help="log each request")
     given = words.parse_args()
-    logging.basicConfig(format="%(levelname)s %(message)s", level=logging.DEBUG if given.verbose else logging.INFO)
+    log(logging.DEBUG if given.verbose else logging.INFO)
     try:
         serve(app(given.config), listener_at(given.socket))
     except (OSError, ValueError, Fault, StoreFailed, ImportError) as error:

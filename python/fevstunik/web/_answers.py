@@ -28,7 +28,7 @@ _WHY = {
     "NOT_ALLOWED": "You have logged in, but you aren't let in here.",
     "CHANNEL_BINDINGS": "Your login was made for another connection: somebody may be between you and this site. Tell the administrator.",
     "BAD_HEADER": "The header Authorization is malformed.", "TOKEN_TOO_LONG": "The token is longer than this site takes.",
-    "JUST_STARTED": f"The site has just started. {_LATER}", "FULL": f"The site is busy. {_LATER}",
+    "JUST_STARTED": "The site has just started, and lets nobody in for a few minutes. Please try again then.", "FULL": f"The site is busy. {_LATER}",
     "OUT_OF_MEMORY": f"The site is busy. {_LATER}", "STORE_FAILED": f"The site can't look up logins now. {_LATER}",
     "LOGOUT": "You have logged out.", "FAILED": "The site has a fault. Its administrator can see it in the log.",
 }

@@ -82,9 +82,14 @@ async def _send_page(answer: Answer, scope: dict[str, Any], send: Send, kind: st
 def request_of(scope: dict[str, Any]) -> Request:
     client = scope.get("client")
     return Request(
-        scope.get("method") == "OPTIONS" and not any(_values(scope, name) for name in _OVERRIDING), scope["path"],
+        scope.get("method") == "OPTIONS" and not _is_overridden(scope), scope["path"],
         _values(scope, b"authorization"), _values(scope, b"cookie"),
         _values(scope, b"x-forwarded-for"), client[0] if client else "", tuple(client) if client and client[1] else None)
+
+
+def _is_overridden(scope: dict[str, Any]) -> bool:
+    """Whether an application may take another method. (Some take `_` in a name for `-`.)"""
+    return any(key.lower().replace(b"_", b"-") in _OVERRIDING for key, _ in scope["headers"])
 
 
 def _values(scope: dict[str, Any], name: bytes) -> list[bytes]:

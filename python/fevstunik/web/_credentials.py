@@ -1,13 +1,12 @@
 """The header Authorization (RFC 9110, section 11.4; RFC 4559, section 4.2)."""
 from __future__ import annotations
 
-import base64
 import binascii
 import re
 from collections.abc import Sequence
 
-# auth-scheme, then one space or more; the rest is text of ASCII.
-_SCHEME = re.compile(rb"([!#$%&'*+.^_`|~0-9A-Za-z-]+)(?: +(.*))?\Z", re.S)
+# auth-scheme, after which there is one space or more; the rest is text of ASCII.
+_SCHEME = re.compile(rb"[!#$%&'*+.^_`|~0-9A-Za-z-]+\Z")
 _IS_TEXT = re.compile(rb"[\t -~]*\Z")
 
 
@@ -34,16 +33,16 @@ def token_of(values: Sequence[bytes], limit: int) -> bytes | None:
     value = b",".join(values).strip(b" \t")
     if not value:
         return None
-    found = _SCHEME.match(value)
-    if found is None or not _IS_TEXT.match(value):
-        raise BadHeader("the header Authorization is malformed")
-    if found[1].lower() != b"negotiate":
+    scheme, _, text = value.partition(b" ")
+    text = text.lstrip(b" ")
+    if scheme.lower() != b"negotiate":
+        if not _SCHEME.match(scheme) or not _IS_TEXT.match(text):
+            raise BadHeader("the header Authorization is malformed")
         return None
-    text = found[2] or b""
     if len(text) // 4 * 3 > limit + 2:
         raise TooLong(f"the token is longer than {limit} bytes")
     try:
-        token = base64.b64decode(text, validate=True)
+        token = binascii.a2b_base64(text, strict_mode=True)
     except binascii.Error:
         raise BadHeader("the token isn't in base64") from None
     if len(token) > limit:

@@ -7,9 +7,8 @@ import logging
 import threading
 from collections import Counter
 from collections.abc import Iterable
-from dataclasses import dataclass
 from functools import lru_cache
-from typing import Any
+from typing import Any, NamedTuple
 
 from .._login import Asked
 from .._shown import fit_for_a_line
@@ -20,11 +19,12 @@ _log = logging.getLogger("fevstunik.web")
 _QUIET = frozenset({"NO_TOKEN", "GO_ON", "SESSION", "EXEMPT", "LOGOUT"})
 # What an operator has to look at.
 _LOUD = frozenset({"FULL", "OUT_OF_MEMORY", "STORE_FAILED"})
+# How many proxies a request comes over at the most.
+_HOPS = 32
 Networks = list["ipaddress.IPv4Network | ipaddress.IPv6Network"]
 
 
-@dataclass(frozen=True)
-class Event:
+class Event(NamedTuple):
     """A decision.
 
     cause   its cause
@@ -46,6 +46,8 @@ class Events:
 
     def __init__(self) -> None:
         self._counter = _prometheus()
+        # (a look-up by name takes longer than to count)
+        self._counters: dict[str, Any] = {}
         self.begin()
 
     def begin(self) -> None:
@@ -60,10 +62,17 @@ class Events:
         with self._lock:
             self._counts[event.cause] += 1
         if self._counter is not None:
-            self._counter.labels(cause=event.cause).inc()
+            self._counter_of(event.cause).inc()
         level = logging.DEBUG if event.cause in _QUIET else logging.ERROR if event.cause in _LOUD else logging.INFO
         if _log.isEnabledFor(level):
-            _log.log(level, "%s", _line(event), extra=_fields(event, peer))
+            # (Logger.log would look for the line of the source, which takes as long as the rest)
+            _log.handle(_log.makeRecord(_log.name, level, __file__, 0, _line(event), (), None, extra=_fields(event, peer)))
+
+    def _counter_of(self, cause: str) -> Any:
+        found = self._counters.get(cause)
+        if found is None:
+            found = self._counters[cause] = self._counter.labels(cause=cause)
+        return found
 
 
 def _line(event: Event) -> str:
@@ -100,7 +109,7 @@ def peer_of(address: str, forwarded: Iterable[bytes], trusted: Networks) -> str:
     trusted if any is."""
     if not trusted:
         return address
-    named = [it.strip() for header in forwarded for it in header.decode("latin-1").split(",")]
+    named = [it.strip() for header in forwarded for it in header.decode("latin-1").rsplit(",", _HOPS)][-_HOPS:]
     while named and _is_of(address, trusted):
         address = named.pop()
     return address

@@ -20,6 +20,8 @@ Path = Union[str, "os.PathLike[str]"]
 _PAUSE = 1.0
 _KEY_SIZE, _KEY_TYPE = 32, 20
 _TYPES = (19, 20)
+# How many keys a text names.
+_LISTED = 8
 
 
 class Watched:
@@ -58,14 +60,18 @@ def content(path: str) -> bytes:
 def keytab_for(data: bytes, service: str | None) -> Keytab:
     """The keytab, if it has a key that is used for the service. Otherwise a ValueError or a Fault says why not."""
     keytab = Keytab(data)
-    held = {name for (name, etype) in kvnos_of(keytab) if etype in _TYPES}
-    if service is None:
-        if not held:
-            raise ValueError("the keytab has no key of type 19 or 20")
-    elif service not in held:
-        check_name(service)
-        raise ValueError(f"the keytab has no key of type 19 or 20 for {service}")
+    held = kvnos_of(keytab)
+    if not any(etype in _TYPES and service in (None, name) for name, etype in held):
+        if service is not None:
+            check_name(service)
+        raise ValueError(f"the keytab has no key of type 19 or 20{'' if service is None else f' for {service}'}; {_has(held)}")
     return keytab
+
+
+def _has(held: Iterable[tuple[str, int]]) -> str:
+    """What a keytab has, for who has made it."""
+    named = [f"type {etype} for {name}" for name, etype in sorted(held)]
+    return "it is empty" if not named else f"it has {', '.join(named[:_LISTED])}{', ..' if len(named) > _LISTED else ''}"
 
 
 def realms_of(data: bytes, service: str | None) -> list[str]:

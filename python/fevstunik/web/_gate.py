@@ -9,11 +9,13 @@ import weakref
 from collections.abc import Callable, Hashable, Sequence
 from dataclasses import dataclass
 from http import HTTPStatus
+from typing import NamedTuple
 
 from .._codes import Code
 from .._errors import Fault, StoreFailed
 from .._login import Login
 from .._service import Refused
+from .._shown import fit_for_a_line
 from .._tokens import GoOn
 from ._answers import Answer, Headers
 from ._credentials import BadHeader, TooLong, token_of
@@ -31,8 +33,7 @@ _UNBOUND = bytes(16)
 _Decided = tuple["Passed | Answer", Event]
 
 
-@dataclass(frozen=True)
-class Request:
+class Request(NamedTuple):
     """What is decided about. `connection` stands for the peer's connection, or is None if it isn't known."""
 
     is_options: bool
@@ -44,8 +45,7 @@ class Request:
     connection: Hashable
 
 
-@dataclass(frozen=True)
-class Passed:
+class Passed(NamedTuple):
     """The application answers: the user, or None if nobody had to log in, and headers for its answer."""
 
     user: User | None
@@ -65,7 +65,7 @@ class Terms:
     retry: tuple[str, str]
 
     def is_exempt(self, path: str) -> bool:
-        return _is_simple(path) and any(path == it or (it.endswith("/") and path.startswith(it)) for it in self.exempt)
+        return any(path == it or (it.endswith("/") and path.startswith(it)) for it in self.exempt) and _is_simple(path)
 
     def is_bound(self, login: Login) -> bool:
         """Whether the client's channel is that of one of the certificates, or may be unknown."""
@@ -143,7 +143,8 @@ class Gate:
             return self._let_in(decision)
         if isinstance(decision, GoOn):
             return Answer(HTTPStatus.UNAUTHORIZED, "GO_ON", (_header(decision.reply),)), Event("GO_ON", "the negotiation goes on")
-        event = Event(decision.cause.name, str(decision), asked=decision.asked)
+        why = "" if decision.__cause__ is None else f": {fit_for_a_line(str(decision.__cause__))}"
+        event = Event(decision.cause.name, f"{decision}{why}", asked=decision.asked)
         if decision.may_pass:
             return Answer(HTTPStatus.SERVICE_UNAVAILABLE, event.cause, (self._terms.retry,)), event
         if decision.cause in _NOT_ALLOWED:

@@ -51,7 +51,7 @@ class Negotiate:
     >>> Negotiate(keytab="examples/service.keytab", service="HTTP/web@EX")
     Traceback (most recent call last):
         ...
-    ValueError: the keytab has no key of type 19 or 20 for HTTP/web@EX
+    ValueError: the keytab has no key of type 19 or 20 for HTTP/web@EX; it has type 19 for host/web@EX
     """
 
     def __init__(self, *, keytab: Path, service: str | None, store: Store | Path | None = None, users: Users | None = None,
@@ -61,6 +61,8 @@ class Negotiate:
                  retry_after: int = 60) -> None:
         path, data = os.fspath(keytab), content(os.fspath(keytab))
         keytab_for(data, service)
+        _check("users", users, Users)
+        _check("sessions", sessions, Sessions)
         users = users if users is not None else Users({it: "{user}@{realm}" for it in realms_of(data, service)})
         named = Certificates(_listed("certificates", certificates))
         terms = Terms(users, named, _needs_bindings(bindings, named), _paths(exempt),
@@ -140,3 +142,8 @@ def _paths(exempt: Iterable[str]) -> tuple[str, ...]:
         if not it.startswith("/"):
             raise ValueError(f"a path begins with `/`: {it!r}")
     return paths
+
+
+def _check(name: str, value: object, kind: type) -> None:
+    if value is not None and not isinstance(value, kind):
+        raise TypeError(f"{name} is a {kind.__name__} of fevstunik.web, not a {type(value).__name__}")

@@ -19,9 +19,9 @@ from urllib.parse import unquote_to_bytes
 
 from ._wsgi import App
 
-# The longest head and body of a request, in bytes; how many connections there are at once; and for how many seconds one may be silent, and
-# may take for a request.
-_HEAD, _BODY, _CONNECTIONS, _PATIENCE = 262_144, 1_048_576, 1000, 30.0
+# The longest head and body of a request, in bytes; how many fields a head has; how many connections there are at once; and for how many
+# seconds one may be silent, and may take for a request.
+_HEAD, _BODY, _FIELDS, _CONNECTIONS, _PATIENCE = 262_144, 1_048_576, 200, 1000, 30.0
 _REQUEST_LINE = re.compile(rb"([!#$%&'*+.^_`|~0-9A-Za-z-]+) ([!-~]+) HTTP/1\.([01])\Z")
 _FIELD = re.compile(rb"([!#$%&'*+.^_`|~0-9A-Za-z-]+):[ \t]*([^\0\r\n]*?)[ \t]*\Z")
 _ABSOLUTE = re.compile(rb"https?://[^/?#]+", re.I)
@@ -63,6 +63,8 @@ class _Head:
 
 def _head_of(data: bytes) -> _Head:
     first, *lines = data.split(b"\r\n")
+    if len(lines) > _FIELDS:
+        raise _Bad("431 Request Header Fields Too Large")
     found = _REQUEST_LINE.match(first)
     fields = [_FIELD.match(it) for it in lines]
     if found is None or None in fields:

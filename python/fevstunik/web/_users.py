@@ -5,6 +5,7 @@ import re
 import string
 from collections.abc import Iterable, Mapping
 from dataclasses import dataclass, field
+from functools import lru_cache
 
 from .._login import Login
 from .._values import TicketFlags
@@ -12,12 +13,22 @@ from .._values import TicketFlags
 _ESCAPED = re.compile(r"\\x([0-9a-f]{2})|\\(.)", re.S)
 _NOBODY = "refuse"
 _ANONYMOUS, _ANONYMOUS_REALM = ("WELLKNOWN", "ANONYMOUS"), "WELLKNOWN:ANONYMOUS"
+# (the operators of an enumeration take ten times as long as those of int)
+_ANONYMOUS_FLAG = int(TicketFlags.ANONYMOUS)
 # A name with one of these could be read as another name.
 _AMBIGUOUS = frozenset("/@\\")
 
 
 class NotAllowed(Exception):
-    """A client that is who it says, and isn't let in: the text says why, fit for a log."""
+    """A client that is who it says, and isn't let in: the text says why, fit for a log.
+
+    >>> from fevstunik.web import NotAllowed, Users
+    >>> try:
+    ...     Users(realms={"EX": "{user}"}).name_of("mallory@OTHER")
+    ... except NotAllowed as error:
+    ...     print(error)
+    the client is of a realm that isn't let in
+    """
 
 
 @dataclass(frozen=True)
@@ -82,7 +93,8 @@ class Users:
     only       the names of those who are let in, as the application knows them, or None for all
 
     A name is taken by its components, as Unicode. If one of them has ``/``, ``@`` or ``\``, has a character that isn't printable, begins
-    or ends with a space, or is empty, the client isn't let in: it could be taken for another.
+    or ends with a space, or is empty, or if the realm has a character that isn't printable, the client isn't let in: it could be taken for
+    another, or end a line.
 
     >>> users = Users(realms={"EXAMPLE.COM": "{user}", "PARTNER.ORG": "{user}@{realm}"})
     >>> users.name_of(r"j\xc3\xbcrgen@EXAMPLE.COM")
@@ -138,7 +150,7 @@ class Users:
         'alice'
         """
         components, realm = parts_of(login.client)
-        if not self.anonymous and TicketFlags.ANONYMOUS in login.flags:
+        if not self.anonymous and int(login.flags) & _ANONYMOUS_FLAG:
             raise NotAllowed("the client is anonymous")
         return User(self._named(components, realm), login.client, realm, components, login.endtime, login)
 
@@ -157,15 +169,26 @@ class Users:
         return name
 
 
+@lru_cache(maxsize=1024)
 def parts_of(name: str) -> tuple[tuple[str, ...], str]:
     """The components and the realm of a name as the library writes it (docs/FORMATS.md, "A principal as text")."""
+    if "\\" not in name and name.isascii():
+        # (nothing is escaped)
+        before, _, realm = name.partition("@")
+        components = tuple(before.split("/"))
+    else:
+        components, realm = _unescaped(name)
+    if not all(map(_is_plain, components)) or not realm.isprintable():
+        raise NotAllowed("the client's name has characters that make it like another's")
+    return components, realm
+
+
+def _unescaped(name: str) -> tuple[tuple[str, ...], str]:
     before, _, realm = _split(name, "@")
     components, more = [], "/"
     while more:
         first, more, before = _split(before, "/")
         components.append(_plain(first))
-    if not all(map(_is_plain, components)):
-        raise NotAllowed("the client's name has characters that make it like another's")
     return tuple(components), _plain(realm)
 
 
@@ -191,7 +214,7 @@ def _plain(escaped: str) -> str:
 
 
 def _is_plain(component: str) -> bool:
-    return component.isprintable() and component.strip() == component != "" and not _AMBIGUOUS & set(component)
+    return component.isprintable() and component.strip() == component != "" and _AMBIGUOUS.isdisjoint(component)
 
 
 def _fields(text: str) -> set[str]:

@@ -9,6 +9,7 @@ key of sessions, without a leading ``/`` is sought beside it.
 """
 from __future__ import annotations
 
+import logging
 import os
 import tomllib
 from collections.abc import Callable, Iterable
@@ -27,8 +28,18 @@ _STORES: dict[str, Callable[[str], Store]] = {"redis": Redis, "postgresql": Post
 _PROXIES = ("127.0.0.0/8", "::1/128")
 
 
+def log(level: int) -> None:
+    """Write records of this level and above to standard error, with their times and peers, unless the process logs in another way."""
+    handler = logging.StreamHandler()
+    # (not every record is about a request)
+    handler.setFormatter(logging.Formatter("%(asctime)s %(levelname)s %(peer)s %(message)s", defaults={"peer": "-"}))
+    logging.basicConfig(handlers=[handler], level=level)
+
+
 def app(config: Path) -> App:
-    """Return the service of a configuration as an application over WSGI. A name in it that isn't known raises ValueError."""
+    """Return the service of a configuration as an application over WSGI. A name in it that isn't known raises ValueError. Decisions are
+    logged (`log`)."""
+    log(logging.INFO)
     with open(config, "rb") as file:
         given = tomllib.load(file)
     for table, name in ((given, "keytab"), (given.get("sessions"), "key")):

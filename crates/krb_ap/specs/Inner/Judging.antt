@@ -1,10 +1,9 @@
 -- What is decided of a request before it is remembered or answered, as words of private contracts.
-use Rattle.std.specs.Prelude.{◌≡◌, ◌≢◌, ℕ, ℤ, List, Option, None, Result, Ok, Err, IfErr, IfOk}
-use Rattle.krb_name.specs.declared.principal.Principal.{Principal}
+use Rattle.std.specs.Prelude.{◌≡◌, ◌≢◌, ℕ, ℤ, List, Option, Result, Ok, Err, IfErr, IfOk}
 use Rattle.krb_replay.specs.Stamp.{Stamp}
 use Rattle.krb_ap.specs.Setup.{Setup, Arrival, arrival}
 use Rattle.krb_ap.specs.History.{effective, Shows, StandsFor}
-use Rattle.krb_ap.specs.Causes.{Cause, TellsPlaceWithin, offset_of}
+use Rattle.krb_ap.specs.Causes.{Cause, TellsPlaceWithin}
 use Rattle.krb_ap.specs.Answer.{Answers}
 use Rattle.krb_ap.specs.Service.{Service}
 use Rattle.krb_ap.specs.declared.accepted.Accepted.{Accepted}
@@ -18,7 +17,7 @@ pub record IsJudged (setup : Setup) (history : List Arrival) (call : Arrival) (s
   pub answers : Answers setup history call answer
   pub named : IfErr answer (λ refusal. refusal ≢ OutOfMemory)
 
--- a request that is refused before: by the first cause, and all that it shows is had already
+-- a request that is refused before it is remembered: by the first cause, and all that it shows is remembered already
 pub record IsTurnedAway (setup : Setup) (history : List Arrival) (call : Arrival) (Has : Stamp → Type 0) (refusal : Refusal) : Type 0 where
   pub cause : Cause setup history call refusal
   pub had : (stamp : Stamp) → Shows setup (effective history call.moment) call.bytes stamp → Has stamp
@@ -30,19 +29,6 @@ Judgement setup history call Has (Err refusal) = refusal ≢ OutOfMemory → IsT
 -- an answer that is remembered isn't out of memory
 abbrev pub IsNamed : Result Judged Refusal → Type 0
 IsNamed result = IfOk result (λ judged. IfErr judged.answer (λ refusal. refusal ≢ OutOfMemory))
-
--- what is accepted is for this service
-abbrev pub IsFor : Principal → Result Judged Refusal → Type 0
-IsFor service result = IfOk result (λ judged. IfOk judged.answer (λ accepted. accepted.service ≡ service))
-
--- the refusal names no place in the bytes, whichever it is
-abbrev pub IsPlaceless : Result Judged Refusal → Type 0
-IsPlaceless (Ok judged) = IfErr judged.answer (λ refusal. offset_of refusal ≡ None)
-IsPlaceless (Err refusal) = offset_of refusal ≡ None
-
--- so all three
-abbrev pub IsSoundFor : Principal → Result Judged Refusal → Type 0
-IsSoundFor service result = IsNamed result × (IsFor service result × IsPlaceless result)
 
 -- it names a place within the bytes, if any
 abbrev pub IsPlacedWithin : List ℕ → Result Judged Refusal → Type 0

@@ -34,7 +34,7 @@ ready_key key = record { key = key; usage = ticket_usage }
 abbrev pub key_in : KeyRef → KeyValue
 key_in key = record { etype = type_of (key_of key); bytes = bytes_of (key_of key) }
 
--- what is wanting, as a refusal
+-- what is missing, as a refusal
 abbrev pub Wants : List KeytabEntry → Principal → ValueOf encrypted_data → Refusal → Type 0
 Wants entries name text refusal =
     ((refusal ≡ NotUs) × IsChoice entries name (encrypted_fields text).etype (encrypted_fields text).kvno no_name)

@@ -51,7 +51,7 @@ spelled_as bytes credential = record { bytes = bytes; credential = credential }
 abbrev pub LiesOne : Layout → Place → Credential → Place → Type 0
 LiesOne layout place credential behind = (bytes : List ℕ) × Lies bytes_of (Spells layout) place (spelled_as bytes credential) behind
 
--- behind whole credentials there are bytes, and no credential at their front
+-- after whole credentials there are bytes, and no credential at their front
 pub record StopsBy (layout : Layout) (place : Place) (fault : CacheFault) : Type 0 where
   pub credentials : List Spelled
   pub behind : Place

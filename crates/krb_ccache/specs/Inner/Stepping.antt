@@ -66,7 +66,7 @@ pub record Lacks {X S : Type 0} (spelled : X → List ℕ) (InRange : X → Type
   pub one_past : new.given ≤ file_limit + 1
   pub missing : (x : X) (others : List ℕ) → InRange x → old.given + length (spelled x) ≤ file_limit → bytes ≢ spelled x ++ others
 
--- a fault that was told where a thing should stand
+-- a fault that was found where a thing should stand
 pub record Misses {X S : Type 0} (spelled : X → List ℕ) (InRange : X → Type 0) (left : S → Option (List ℕ)) (old new : AtHand S) (fault told : CacheFault) : Type 0 where
   pub some : (bytes : List ℕ) × Gives left old new bytes
   pub lacks : told ≢ Read → told ≢ OutOfMemory → Lacks spelled InRange left old new

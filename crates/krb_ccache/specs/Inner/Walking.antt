@@ -99,7 +99,7 @@ pub record Goes (before after : Pass) (Within : Hand → Type 0) (old new : Hand
   pub within : Within new
   pub same : (at : ℕ) (rest : List ℕ) → before (record { at = at; rest = piece ++ rest }) ≡ after (record { at = at + length piece; rest = rest })
 
--- bytes were taken, and so many more, without which nothing is passed over, can't be
+-- bytes were taken, but not the others that have to come before anything is passed over
 pub record Stops (before : Pass) (Within : Hand → Type 0) (Lacks : TakeFault → Hand → ℕ → Type 0) (old new : Hand) (stop : TakeFault) : Type 0 where
   pub piece : List ℕ
   pub keeps : Keeps old.source new.source old new piece

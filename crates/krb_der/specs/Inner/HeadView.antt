@@ -1,5 +1,5 @@
--- What contracts see of a head, and of bytes whose end is moved.
-use Rattle.std.specs.Prelude.{◌≡◌, ℕ, ◌-◌, ◌/◌, ◌%◌, ◌^◌, nat_lt, if◌then◌else◌, List, [], ◌∷◌, ◌++◌, take, drop}
+-- What contracts see of a head, of room that is left for one, and of bytes whose end is moved.
+use Rattle.std.specs.Prelude.{◌≡◌, ℕ, ◌+◌, ◌-◌, ◌/◌, ◌%◌, ◌^◌, nat_lt, if◌then◌else◌, List, [], ◌∷◌, ◌++◌, take, drop}
 use Rattle.krb_der.specs.Spells.{IsLength}
 
 -- the bytes are the head of an element with the tag and a content of n bytes
@@ -20,3 +20,11 @@ head_bytes tag n =
 -- what stood from `end` on now stands at `start`
 unfoldable pub turned_at : ℕ → ℕ → List ℕ → List ℕ
 turned_at start end bytes = take start bytes ++ (drop end bytes ++ take (end - start) (drop start bytes))
+
+-- the bytes without the two of the room at `start`
+abbrev pub without_room : ℕ → List ℕ → List ℕ
+without_room start bytes = take start bytes ++ drop (start + 2) bytes
+
+-- the head is where the two bytes of room were, and after it what stood between them and `end`
+unfoldable pub filled_at : ℕ → List ℕ → ℕ → List ℕ → List ℕ
+filled_at start head end bytes = take start bytes ++ (head ++ take (end - (start + 2)) (drop (start + 2) bytes))

@@ -1,4 +1,4 @@
--- What contracts see of a length and the bytes behind it.
+-- What contracts see of a length and the bytes after it.
 use Rattle.std.specs.Prelude.{ℕ, List, Result, Ok, Err}
 use Rattle.std.specs.Borrow.{Bor}
 use Rattle.krb_der.specs.declared.fault.FaultKind.{FaultKind}

@@ -8,7 +8,7 @@ abbrev pub limited_of : {E : Type 0} → Result (Unit {0}) E → List ℕ → Re
 limited_of (Ok u) new = if nat_lt limit (length new) then Err TooLong else Ok tt
 limited_of (Err e) new = Err OutOfMemory
 
--- what is left of the bytes, of which those from start on were written by a call with this answer
+-- what is left of the bytes; a call with this answer wrote those from start on
 abbrev pub settled : Result (Unit {0}) EncodeFault → ℕ → List ℕ → List ℕ
 settled (Ok u) start bytes = bytes
 settled (Err e) start bytes = take start bytes

@@ -20,6 +20,8 @@ use Rattle.krb_gss.specs.Token.{of_init}
 use Rattle.krb_gss.specs.Answer.{of_response}
 use Rattle.krb_gss.specs.Later.{of_later}
 use Rattle.krb_gss.specs.Said.{of_said}
+use Rattle.krb_gss.specs.Listing.{mech_types, of_types, mech_type_names}
+use Rattle.krb_gss.specs.ListMic.{of_mic}
 
 -- a fault of DER, as one of a token
 abbrev pub as_token : {V : Type 0} → Result V Fault → Result V TokenFault
@@ -59,6 +61,12 @@ later_at here = fields_at 0xa1 later_response of_later here
 
 abbrev pub said_at : Place → Result (Place × Option Place) Fault
 said_at here = fields_at 0xa1 bare_response of_said here
+
+abbrev pub mic_at : Place → Result (Option Place) Fault
+mic_at here = fields_at 0xa1 later_response of_mic here
+
+abbrev pub types_at : Place → Result Place Fault
+types_at here = fields_at 0xa0 mech_types of_types here
 
 -- ---- their tokens
 unfoldable pub held_at : Place → Result (Mechanism × Place) TokenFault
@@ -136,3 +144,21 @@ asked_at bytes =
 
 unfoldable pub said_whole : List ℕ → Option (Place × Option Place)
 said_whole bytes = ok_of (begun bytes) >>? λ here. ok_of (said_at here)
+
+-- ---- a list that names another mechanism first
+unfoldable pub negotiation_from : List ℕ → Option Place
+negotiation_from bytes =
+    ok_of (begun bytes) >>? λ here. ok_of (parts_at initial_context_token here) >>? λ x. spnego_from (named_of x.0.rest) x.1
+
+abbrev pub other_of : Result Mechanism Foreign → Option Foreign
+other_of (Ok mechanism) = None
+other_of (Err other) = Some other
+
+unfoldable pub listing_at : List ℕ → Option (Place × Place)
+listing_at bytes =
+    negotiation_from bytes >>? λ after. ok_of (init_at after) >>? λ y. other_of (named_of y.0.rest) >>? λ _. ok_of (types_at after)
+    >>? λ list. ok_of (parts_at mech_type_names list) >>? λ names. Some (list, names)
+
+-- ---- a client's mechListMIC
+unfoldable pub mic_whole : List ℕ → Result (Option Place) TokenFault
+mic_whole bytes = begun bytes >>= λ here. as_token (mic_at here)

@@ -14,7 +14,7 @@ use Rattle.krb_keytab.specs.declared.finding.Room.TheVariants.{Hole, End}
 abbrev pub end_of : List KeytabRecord → ℕ
 end_of records = length version + length (flat_map record_bytes records)
 
--- a record behind others, and where it lies
+-- a record after others, and where it lies
 pub record LiesAt (before : List KeytabRecord) (one : KeytabRecord) (place : Extent) : Type 0 where
   pub from : place.from ≡ end_of before
   pub to : place.to ≡ place.from + length (record_bytes one)

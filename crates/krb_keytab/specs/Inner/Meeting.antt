@@ -38,7 +38,7 @@ pub record Peaks (IsPart : List ℕ → Type 0) (piece : List ℕ) (old new : �
   pub grows : old ≤ new
   pub low : old ≤ file_limit → new ≤ file_limit
 
--- the source was read to its end, or past the limit, behind what the last answer rests on; or a read failed
+-- the source was read to its end, or past the limit, after what the last answer rests on; or a read failed
 abbrev pub RanOut : {T : Type 0} → Result T KeytabFault → Result T KeytabFault → Option (List ℕ) → ℕ → Type 0
 RanOut last answer left given = ((answer ≡ last) × (given ≤ file_limit) × IsAtEnd left) ⊎ (((answer ≡ Err TooLong) × (given ≡ file_limit + 1)) ⊎ (answer ≡ Err Read))
 
@@ -92,7 +92,7 @@ MeetsLast left at piece (Some Read) = ⊤
 MeetsLast left at piece (Some OutOfMemory) = ⊤
 MeetsLast left at piece last = IsLastAt left at piece last
 
--- a record that begins there, and what is kept of an entry; the peak counts its bytes, behind its size
+-- a record that begins there, and what is kept of an entry; the peak counts its bytes, after its size
 abbrev pub Meets : {E : Type 0} → (KeytabEntry → E) → Option (List ℕ) → ℕ → List ℕ → ℕ → Result (Found E) KeytabFault → Type 0
 Meets of_entry left at piece peak (Ok End) = MeetsLast left at piece None
 Meets of_entry left at piece peak (Ok Hole) = IsWhole at piece []
@@ -128,7 +128,7 @@ pub record MeetsSizeAt {S : Type 0} (from to : Option (List ℕ)) (old new : AtH
   pub peaks : Peaks (λ part. length part ≤ 4) piece old.peak new.peak
   pub meets : MeetsSize to old.given piece answer
 
--- ---- what is behind it
+-- ---- what is after it
 
 -- how many of its bytes are at hand: none of a hole
 abbrev pub kept_of : ℤ → ℕ
@@ -165,7 +165,7 @@ IsFirst bytes entries = (bytes ≡ []) × (entries ≡ [])
 abbrev pub PassesHoles : {S : Type 0} → Option (List ℕ) → Option (List ℕ) → AtHand S → AtHand S → Type 0
 PassesHoles from to old new = Goes (HasReached old.given) (HasReached new.given) from to old new
 
--- an answer about the entry that comes next, and how it stands behind all that came before
+-- an answer about the entry that comes next, and how it stands after all that came before
 pub record MeetsBehind {S : Type 0} (CameBefore : List ℕ → List KeytabEntry → Type 0) (from to : Option (List ℕ)) (old new : AtHand S) (answer : Result (Option KeytabEntry) KeytabFault) : Type 0 where
   pub goes : Goes CameBefore (λ bytes entries. StandsTo to new.peak (stage_after answer) bytes (entries_after entries answer)) from to old new
   pub within : IsWithin (stage_after answer) new.given

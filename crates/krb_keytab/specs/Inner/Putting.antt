@@ -15,6 +15,6 @@ pub record PutsTo (old : List ℕ) (at : ℕ) (text : List ℕ) (new : List ℕ)
   pub puts : Puts old at text new
   pub end_is : end ≡ at + length text
 
--- what is written of an entry behind the size of its record
+-- what is written of an entry after the size of its record
 abbrev pub body_bytes : KeytabEntry → List ℕ
 body_bytes e = entry_bytes e (e.kvno % 2 ^ 8) (number_bytes w32 e.kvno)

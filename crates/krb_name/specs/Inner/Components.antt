@@ -3,7 +3,7 @@ use Rattle.std.specs.Prelude.{◌≡◌, ◌<◌, ℕ, List, [], ◌∷◌}
 use Rattle.std.specs.List.{flat_map}
 use Rattle.krb_name.specs.Text.{escaped, escaped_byte}
 
--- the components, each behind a `/`
+-- the components, each after a `/`
 abbrev pub behind_slashes : List (List ℕ) → List ℕ
 behind_slashes components = flat_map (λ component. 0x2f ∷ escaped component) components
 

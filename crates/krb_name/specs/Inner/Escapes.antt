@@ -17,7 +17,7 @@ hex_byte high low = do
   l ← hex_value low
   if is_printable (h * 16 + l) then None else Some (h * 16 + l)
 
--- what stands behind `\x`
+-- what stands after `\x`
 unfoldable pub hex_at : List ℕ → Option (ℕ × List ℕ)
 hex_at [] = None
 hex_at (high ∷ []) = None
@@ -25,13 +25,13 @@ hex_at (high ∷ low ∷ rest) = do
   byte ← hex_byte high low
   Some (byte, rest)
 
--- what stands behind a backslash
+-- what stands after a backslash
 unfoldable pub escape_at : List ℕ → Option (ℕ × List ℕ)
 escape_at [] = None
 escape_at (first ∷ rest) =
     if is_special first then Some (first, rest) else (if first == 0x78 then hex_at rest else None)
 
--- a byte of a name, and what is behind it
+-- a byte of a name, and what is after it
 unfoldable pub byte_at : List ℕ → Option (ℕ × List ℕ)
 byte_at [] = None
 byte_at (first ∷ rest) =

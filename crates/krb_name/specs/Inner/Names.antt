@@ -1,4 +1,4 @@
--- What reading a text leaves behind it, part by part.
+-- What is left of a text after reading, part by part.
 use Rattle.std.specs.Prelude.{◌≡◌, ℕ, ◌+◌, ◌<◌, ◌⊎◌, List, [], ◌∷◌, ◌++◌, length, Result, Ok, Err}
 use Rattle.std.specs.List.{flat_map, AllByRecursion}
 use Rattle.krb_name.specs.Cursor.{Place}
@@ -8,7 +8,7 @@ use Rattle.krb_name.specs.Reading.{AreComponents, components_text, IsUnprintable
 use Rattle.krb_name.specs.declared.text_fault.TextFault.{TextFault}
 use Rattle.krb_name.specs.declared.text_fault.TextFault.TheVariants.{BadText, NoRealm, OutOfMemory}
 
--- the components, each with a `/` behind it
+-- the components, each with a `/` after it
 abbrev pub before_slashes : List (List ℕ) → List ℕ
 before_slashes components = flat_map (λ component. escaped component ++ 0x2f ∷ []) components
 
@@ -31,7 +31,7 @@ pub record ReadsBytes (old : Place) (bytes : List ℕ) (new : Place) : Type 0 wh
   pub are : IsBytes bytes
   pub advances : Advances old (escaped bytes) new
 
--- components lie between two places, each with the `/` behind it
+-- components lie between two places, each with the `/` after it
 pub record ReadsSome (old : Place) (components : List (List ℕ)) (new : Place) : Type 0 where
   pub are : AllByRecursion IsBytes components
   pub advances : Advances old (before_slashes components) new

@@ -1,12 +1,13 @@
--- What a timed memory holds: its tuples in order, and how many of them each client has. Tuples that
--- are too old are dropped at once, and freed later.
-use Rattle.std.specs.Prelude.{◌≡◌, ◌⊎◌, ◌≤ℤ◌, ℕ, ℤ, Bool, true, cond, not, int_lt, Option, Some, None, List, [], length}
+-- What a timed memory holds: its tuples in order, and how many of them each client and each pair of
+-- names has. Tuples that are too old are dropped at once, and freed later.
+use Rattle.std.specs.Prelude.{◌≡◌, ◌⊎◌, ◌+◌, ◌≤◌, ◌≤ℤ◌, ℕ, ℤ, Bool, true, not, int_lt, Option, Some, None, List, [], length}
 use Rattle.std.specs.List.{filter}
-use Rattle.std.specs.BTreeMap.{BTreeMap, get, is_at}
-use Rattle.std.specs.Map.{count_at}
+use Rattle.std.specs.BTreeMap.{BTreeMap, is_at}
+use Rattle.std.specs.declared.cmp.Ordering.{Ordering}
 use Rattle.std.specs.Ordering.{is_eq}
 use Rattle.krb_replay.specs.Stamp.{RealmAndName, Stamp}
-use Rattle.krb_replay.specs.Inner.Order.{TwoNames, client_cmp, name_cmp}
+use Rattle.krb_replay.specs.Inner.Counts.{HasNoZero, count_by}
+use Rattle.krb_replay.specs.Inner.Order.{TwoNames, name_cmp, names_of}
 
 abbrev pub is_before : ℤ → Stamp → Bool
 is_before oldest stamp = int_lt stamp.time oldest
@@ -32,17 +33,16 @@ number_before client oldest stamps = number_of client (filter (is_before oldest)
 abbrev pub AreLive : ℤ → List Stamp → List Stamp → Type 0
 AreLive oldest held aside = (since oldest held ≡ held) × (aside ≡ [])
 
--- what is counted for a client
-abbrev pub count_of : BTreeMap TwoNames ℕ → TwoNames → ℕ
-count_of counts names = count_at (get client_cmp counts) names
+-- so many fewer are held and aside, or nothing is left to free and fewer are gone
+abbrev pub FreesAtMost : ℕ → ℤ → List Stamp → List Stamp → List Stamp → List Stamp → Type 0
+FreesAtMost some oldest old aside new left = (length new + length left + some ≡ length old + length aside)
+    ⊎ (AreLive oldest new left × ((length new + length left ≤ length old + length aside) × (length old + length aside ≤ length new + length left + some)))
 
--- one, if the names have the same client
-abbrev pub one_of : TwoNames → TwoNames → ℕ
-one_of names other = cond (is_at (client_cmp names) other) 1 0
-
--- each client's stamps are counted
-abbrev pub AreCounted : List Stamp → BTreeMap TwoNames ℕ → Type 0
-AreCounted stamps counts = (names : TwoNames) → count_of counts names ≡ number_of (Some names.1) stamps
+-- The stamps of each key are counted: of each client, or of each pair of names. No key is kept
+-- that no stamp has.
+pub record AreCounted (cmp : TwoNames → TwoNames → Ordering) (stamps : List Stamp) (counts : BTreeMap TwoNames ℕ) : Type 0 where
+  pub each : (names : TwoNames) → count_by cmp counts names ≡ length (filter (λ stamp. is_at (cmp (names_of stamp)) names) stamps)
+  pub no_zero : HasNoZero cmp counts
 
 -- the later of two moments
 pub record IsLater (one other later : ℤ) : Type 0 where

@@ -21,7 +21,7 @@ texts_at (suc count) bytes = text_at bytes ∷ texts_at count (after_text bytes)
 abbrev pub name_at : List ℕ → RealmAndName
 name_at bytes = record { realm = text_at bytes; components = texts_at (number_at (after_text bytes)) (drop 8 (after_text bytes)) }
 
--- these are the bytes of two names, of which the first takes so many
+-- These are the bytes of two names. The first name takes so many.
 pub record AreNames (bytes : List ℕ) (first : ℕ) : Type 0 where
   pub within : first ≤ length bytes
   pub server : HasLengths (name_at bytes)

@@ -3,7 +3,6 @@ use Rattle.std.proofs.lemmas.Result.{err_from_is_err_and}
 use Rattle.krb_der.specs.Kind.{ValueOf}
 use Rattle.krb_der.specs.Size.{size_of}
 use Rattle.krb_der.specs.Spells.{limit}
-use Rattle.krb_msg.specs.Borrowed.{ticket_of}
 use Rattle.krb_msg.specs.Module.{ap_req}
 use Rattle.krb_ap.specs.Opened.{authenticator_usage}
 use Rattle.krb_ap.specs.Written.{IsWritten}
@@ -27,13 +26,13 @@ returns-in_err-plain-clause-fault c =
 
 pub returns-in-Ok-clause-built : goal.returns-in-Ok-clause-built
 returns-in-Ok-clause-built c = record {
-  ticket = ticket_of c.args.ticket.now;
+  ticket = c.args.ticket;
   ticket_is = c.requires.ticket;
   text = c.in_ok-cipher.cipher.items;
   text_is = told (goal.at.returns-in-Ok-clause-built c).In_ok-cipher;
   bytes_are = subst (λ (v : ValueOf ap_req). IsWritten ap_req v c.in-Ok.bytes.items)
-      (copied_request c.args.credential.now c.args.options.now (ticket_of c.args.ticket.now) c.in_ok-cipher.cipher.items _ _ _
-      c.flags.ensures c.in_ok-to_owned.ensures (c.encrypted.ensures ∙ told_type c.args.credential.now c.key.result.now c.in_ok-cipher.cipher.items (c.key.ensures ∙ c.requires.key)))
+      (copied_request c.args.credential.now c.args.options.now c.args.ticket c.in_ok-cipher.cipher.items _ _ _
+      c.flags.ensures refl (c.encrypted.ensures ∙ told_type c.args.credential.now c.key.result.now c.in_ok-cipher.cipher.items (c.key.ensures ∙ c.requires.key)))
       (record { message = c.in-Ok.ensures.ok; written = c.in-Ok.ensures.written });
 }
 
@@ -41,10 +40,10 @@ pub returns-in-Err-TooLong-clause-fault : goal.returns-in-Err-TooLong-clause-fau
 returns-in-Err-TooLong-clause-fault c = λ named. (
   refl,
   too_long_to_build c.writing.ensures c.args.credential.now c.args.at c.args.options.now c.facts.ensures c.args.confounder.now c.in_ok-cipher.cipher.items
-      (ticket_of c.args.ticket.now) c.requires.ticket
+      c.args.ticket c.requires.ticket
       (told (goal.at.returns-in-Err-TooLong-clause-fault c).In_ok-cipher)
       (subst (λ (v : ValueOf ap_req). limit < size_of ap_req v)
-      (copied_request c.args.credential.now c.args.options.now (ticket_of c.args.ticket.now) c.in_ok-cipher.cipher.items _ _ _
-      c.flags.ensures c.in_ok-to_owned.ensures (c.encrypted.ensures ∙ told_type c.args.credential.now c.key.result.now c.in_ok-cipher.cipher.items (c.key.ensures ∙ c.requires.key)))
+      (copied_request c.args.credential.now c.args.options.now c.args.ticket c.in_ok-cipher.cipher.items _ _ _
+      c.flags.ensures refl (c.encrypted.ensures ∙ told_type c.args.credential.now c.key.result.now c.in_ok-cipher.cipher.items (c.key.ensures ∙ c.requires.key)))
       ((rw c.in-Err-TooLong.field-0-is at c.in-Err-TooLong.ensures.too_long) refl)),
 )

@@ -2,7 +2,7 @@ use Rattle.std.proofs.Common.{◌≡◌, ◌≤◌, drop}
 use Rattle.std.specs.Str.Parse.{AllDigits, digits_value, digits_value_after}
 use Rattle.krb_call_lines.proofs.call_line.number_of.Given as goal
 
--- what the digits behind the index have to be, and what they make of the number so far
+-- what the digits after the index have to be, and what they make of the number so far
 abbrev pub invariant-loop-digit : goal.invariant-loop-digit
 invariant-loop-digit l = record {
   bound : l.number ≤ l.greatest;

@@ -1,12 +1,15 @@
-use Rattle.krb_der.proofs.PartsWritten.{appended-around, around-sized}
+use Rattle.std.proofs.Common.{subst}
+use Rattle.krb_der.specs.Writing.{Appends}
+use Rattle.krb_der.specs.Inner.HeadView.{IsHeadOf}
+use Rattle.krb_der.proofs.PartsWritten.{headed-part, headed-sized}
 use Rattle.krb_der.proofs.encoding_parts.write_around.Goals as goal
 
 pub returns-clause-written : goal.returns-clause-written
 returns-clause-written g c =
-    let w = c.in_ok-write_parts.ensures in
-    appended-around (g.P.EncodeParts.writes c.args.parts.now) (g.P.EncodeParts.size c.args.parts.now) c.len-start.result c.args.out.now c.write_parts.new.out c.len-start.ensures w.written w.sized c.wrap.result c.args.tag c.wrap.new.self c.wrap.ensures.ok
+    headed-part (g.P.EncodeParts.writes c.args.parts.now) c.args.tag (g.P.EncodeParts.size c.args.parts.now) c.args.out.now c.head.new.self c.write_parts.new.out
+    (subst (λ n. Appends (IsHeadOf c.args.tag n) c.args.out.now c.head.new.self) c.in-Some.ensures.0 c.in_ok-head.ensures.ok) c.write_parts.result c.write_parts.ensures.written c.write_parts.ensures.sized
 
 pub returns-clause-sized : goal.returns-clause-sized
 returns-clause-sized g c =
-    let w = c.in_ok-write_parts.ensures in
-    around-sized (g.P.EncodeParts.writes c.args.parts.now) (g.P.EncodeParts.size c.args.parts.now) c.len-start.result c.args.out.now c.write_parts.new.out c.len-start.ensures w.written w.sized c.wrap.result c.args.tag c.wrap.new.self c.wrap.ensures.ok
+    headed-sized (g.P.EncodeParts.writes c.args.parts.now) c.args.tag (g.P.EncodeParts.size c.args.parts.now) c.args.out.now c.head.new.self c.write_parts.new.out
+    (subst (λ n. Appends (IsHeadOf c.args.tag n) c.args.out.now c.head.new.self) c.in-Some.ensures.0 c.in_ok-head.ensures.ok) c.write_parts.result c.write_parts.ensures.sized

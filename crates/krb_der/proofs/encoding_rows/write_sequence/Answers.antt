@@ -1,7 +1,11 @@
-use Rattle.krb_der.proofs.EncodeLaws.{encodes-wrapped, row_size}
+use Rattle.krb_der.proofs.EncodeLaws.{encodes-closed, encodes-refused, row_size}
 use Rattle.krb_der.proofs.encoding_rows.write_sequence.Goals as goal
+
+pub returns-in-Err : goal.returns-in-Err
+returns-in-Err g c =
+    encodes-refused (row_size g.R.EncodeRow.fields (g.R.EncodeRow.view c.args.row.now)) c.len-start.ensures c.in_ok-open.ensures.ok c.in-Err.ensures c.settle.ensures.answer c.settle.ensures.left
 
 pub returns : goal.returns
 returns g c =
-    encodes-wrapped (row_size g.R.EncodeRow.fields (g.R.EncodeRow.view c.args.row.now)) c.wrap-written.result c.wrap-written.new.self
-    c.len-start.ensures c.in_ok-write_row.ensures.ok.0 c.wrap-written.ensures.ok c.wrap-written.ensures.kept c.limited.ensures.answer c.limited.ensures.left
+    encodes-closed (row_size g.R.EncodeRow.fields (g.R.EncodeRow.view c.args.row.now)) c.len-start.ensures c.in_ok-open.ensures.ok c.close-written.result c.close-written.new.self
+    c.in_default.ensures.ok.0 c.close-written.ensures.ok c.close-written.ensures.kept c.limited.ensures.answer c.limited.ensures.left

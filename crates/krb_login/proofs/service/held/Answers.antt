@@ -31,12 +31,13 @@ returns-in-Err-clause-steps c call holds ordinary same accept meets = (
 )
 
 pub returns-in-Err-clause-after : goal.returns-in-Err-clause-after
-returns-in-Err-clause-after c call holds accept meets = inr (record {
+returns-in-Err-clause-after c call holds ordinary accept meets = inr (record {
   carrier = c.args.carrier;
   request = c.args.request.now;
   taken = taken_of c.args.accepted;
   ran_out = c.out_of_memory.ensures.cause;
   holds = holds;
+  ordinary = ordinary;
   accepted = accept;
   meets = meets;
   after_is = refl;

@@ -4,6 +4,7 @@ use Rattle.std.proofs.lemmas.Int.{ints}
 use Rattle.krb_replay.specs.Stamp.{Stamp}
 use Rattle.krb_replay.specs.Inner.Held.{since}
 use Rattle.krb_replay.proofs.HeldLaws.{recent_before}
+use Rattle.krb_replay.proofs.TimedLaws.{goes_early, stays_early}
 use Rattle.krb_replay.proofs.timed.reach_back.Goals as goal
 
 pub returns-clause-same : goal.returns-clause-same
@@ -17,6 +18,22 @@ returns-clause-same c =
     ∙ (ap (λ (stamps : List Stamp). since c.args.time stamps) none.0
     ∙ (recent_before c.args.oldest c.args.time c.loop.held all (omega (arith, ints))
     ∙ (sym all ∙ (ap (λ (oldest : ℤ). since oldest c.loop.held) (sym o) ∙ (c.loop.invariant.same ∙ ap (λ (oldest : ℤ). since oldest c.args.held.now) o)))))
+
+pub returns-then-oldest-time-clause-value : goal.returns-then-oldest-time-clause-value
+returns-then-oldest-time-clause-value c =
+    let o : to_z w64 (of_z w64 c.args.oldest) ≡ c.args.oldest = omega (arith, ints) in
+    let t : to_z w64 (of_z w64 c.args.time) ≡ c.args.time = omega (arith, ints) in
+    let early = c.if-oldest-time.true in
+    o ∙ stays_early c.args.oldest c.args.time (omega (arith, ints))
+
+pub returns-clause-value : goal.returns-clause-value
+returns-clause-value c =
+    let t : to_z w64 (of_z w64 c.args.time) ≡ c.args.time = omega (arith, ints) in
+    let later = c.if-oldest-time.false in
+    t ∙ goes_early c.args.oldest c.args.time (omega (arith, ints))
+
+pub returns-clause-stays : goal.returns-clause-stays
+returns-clause-stays c = λ early. let later = c.if-oldest-time.false in absurd (omega (arith, ints))
 
 pub returns-clause-shrinks : goal.returns-clause-shrinks
 returns-clause-shrinks c =

@@ -10,6 +10,7 @@ use Rattle.krb_ap.proofs.acceptor.Acceptor.serve.Goals as goal
 pub loop-call-preserved : goal.loop-call-preserved
 loop-call-preserved g c = record {
   setup = c.accept-outcome.ensures.setup ∙ c.loop-call.invariant.setup;
+  limits = c.accept-outcome.ensures.limits ∙ c.loop-call.invariant.limits;
   room = omega (arith, c.push_reserved.ensures.capacity, c.loop-call.invariant.room);
   count = omega (arith, c.push_reserved.ensures.len, c.loop-call.invariant.count);
   served = λ history stands.

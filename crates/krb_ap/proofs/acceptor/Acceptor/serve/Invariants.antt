@@ -8,6 +8,7 @@ use Rattle.krb_ap.proofs.acceptor.Acceptor.serve.Given as goal
 abbrev pub invariant-loop-call : goal.invariant-loop-call
 invariant-loop-call g l = record {
   setup : l.self.setup ≡ l.initial.self.setup;
+  limits : g.M.ReplayMemory.limits l.self.memory ≡ g.M.ReplayMemory.limits l.initial.self.memory;
   room : length l.calls ≤ vec_capacity l.outcomes;
   count : vec_len l.outcomes ≡ l.call-index;
   served : (history : List Arrival) → StandsFor l.initial.self.setup (g.M.ReplayMemory.has l.initial.self.memory) (g.M.ReplayMemory.newest l.initial.self.memory) history

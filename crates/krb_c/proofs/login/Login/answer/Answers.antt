@@ -1,7 +1,7 @@
 use Rattle.std.proofs.Common.{◌≡◌, ◌∙◌, ap, refl, subst, sym}
 use Rattle.krb_gss.specs.declared.negotiating.Negotiation.{Negotiation}
 use Rattle.krb_c.specs.Inner.{decided_on, no_room, undrawn}
-use Rattle.krb_c.specs.Login.{IsDecided, TellsOutcome, stage_of}
+use Rattle.krb_c.specs.Login.{Judges, TellsProgress, stage_of}
 use Rattle.krb_c.specs.declared.login_state.LoginState.{LoginState}
 use Rattle.krb_c.proofs.login.Login.answer.Goals as goal
 
@@ -20,7 +20,7 @@ pub returns : goal.returns
 returns c =
     let stage : stage_of c.args.self.now.held.value ≡ c.deref_mut.result.now.negotiation =
     c.in-Some.ensures ∙ ap (λ (state : LoginState). state.negotiation) (sym c.deref_mut.ensures.value) in
-    decided_on c.decide.new.self c.decide.new.kept c.in-Ok.drawn.0 c.in-Ok.drawn.1 c.put.ensures c.put-2.ensures c.in-Ok.ensures.drawn
-    (subst (λ (before : Negotiation). IsDecided c.args.service.now c.decide.new.service before c.decide.new.self c.decide.new.kept c.args.input.now c.args.now c.in-Ok.drawn.0 c.in-Ok.drawn.1)
-    (sym stage) c.decide.ensures)
-    (subst (λ (state : LoginState). TellsOutcome state.outcome c.args.out.now c.tell-answer.new.out c.tell-answer.result) c.deref.ensures c.tell-answer.ensures)
+    decided_on c.judge.new.self c.judge.new.kept c.in-Ok.drawn.0 c.in-Ok.drawn.1 c.put.ensures c.put-2.ensures c.in-Ok.ensures.drawn
+    (subst (λ (before : Negotiation). Judges c.args.service.now.is_shared c.args.service.now c.judge.new.service before c.judge.new.self c.judge.new.kept c.args.input.now c.args.now c.in-Ok.drawn.0 c.in-Ok.drawn.1)
+    (sym stage) c.judge.ensures)
+    (subst (λ (state : LoginState). TellsProgress state.progress c.args.out.now c.answer-answer.new.out c.answer-answer.result) c.deref.ensures c.answer-answer.ensures)

@@ -20,6 +20,7 @@ returns c = let accept = c.accept-outcome.ensures in let outcome = c.accept-outc
       setup = accept.setup;
       terms = refl;
       subkey = refl;
+      shared = refl;
       moves = accept.moves;
       offset = accept.offset;
       memory = accept.memory;
@@ -30,6 +31,6 @@ returns c = let accept = c.accept-outcome.ensures in let outcome = c.accept-outc
           (accept.answer history stands) accept.setup (accept.goes_on history stands);
       refusal = refl;
       told_is = c.keep.ensures.answer
-          ∙ ap (λ (before : ℕ). told_of before (full_of (record { service = record { acceptor = c.accept-outcome.new.self; terms = c.args.self.now.service.terms }; subkey_type = c.args.self.now.subkey_type; refusal = refused_by outcome })) outcome)
+          ∙ ap (λ (before : ℕ). told_of before (full_of (record { service = record { acceptor = c.accept-outcome.new.self; terms = c.args.self.now.service.terms }; subkey_type = c.args.self.now.subkey_type; is_shared = c.args.self.now.is_shared; refusal = refused_by outcome })) outcome)
           (c.refused-full.ensures ∙ ap (λ (memory : Limited Memory). memory.refused) c.memory.ensures);
     }))

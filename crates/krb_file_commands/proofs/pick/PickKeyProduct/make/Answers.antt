@@ -31,5 +31,5 @@ returns-in_err-line g c =
 pub returns : goal.returns
 returns g c =
     value_made _ _ _ _ _ _ _ _ _ IsAnswerOf OutOfMemory Read c.read.result c.read.ensures.reads c.in_ok-keytab.keytab c.in_ok-line.line c.in_ok-keytab.was
-    (of_file IsKeytab _ c.in_ok-keytab.keytab _ c.in_ok-keytab.ensures.reads.found (record { entry = c.in_ok-entry.entry.now; chosen = c.in_ok-entry.ensures.chosen; line = c.in_ok-line.ensures }))
+    (of_file IsKeytab _ c.in_ok-keytab.keytab _ c.in_ok-keytab.ensures.reads.found (record { entry = c.in_ok-entry.entry.now; picked = c.in_ok-entry.ensures.chosen; line = c.in_ok-line.ensures }))
     (λ given e is has. none_unpicked c.each_file_has_one_answer.ensures.one c.each_choice_is_one.ensures _ given c.in_ok-keytab.keytab c.in_ok-entry.entry.now is c.in_ok-entry.ensures.chosen e has) (search rules)

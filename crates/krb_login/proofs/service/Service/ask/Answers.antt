@@ -1,8 +1,10 @@
-use Rattle.std.proofs.Common.{ap, sym, subst}
+use Rattle.std.proofs.Common.{ap, inl, refl, sym, subst}
 use Rattle.krb_gss.specs.Negotiation.{IsAsking}
 use Rattle.krb_gss.specs.declared.mechanism.Mechanism.{Mechanism}
 use Rattle.krb_login.specs.Inner.{Holds}
-use Rattle.krb_login.specs.Login.{call_for}
+use Rattle.krb_login.specs.Limits.{asking, faulty, of_none, of_request}
+use Rattle.krb_login.specs.Login.{IsOfNone, call_for, left}
+use Rattle.krb_login.specs.declared.cause.Cause.{Cause}
 use Rattle.krb_login.specs.declared.opening.Held.{Held}
 use Rattle.krb_login.proofs.Stepping.{carried, nobody_yet}
 use Rattle.krb_login.proofs.service.Service.ask.Goals as goal
@@ -25,4 +27,45 @@ pub returns-in-Ok-Request-clause-forgets : goal.returns-in-Ok-Request-clause-for
 returns-in-Ok-Request-clause-forgets g c forgets history stands confounder choice judged =
     let held = subst (λ (it : Held). Holds c.args.negotiation.now c.args.bytes.now it) c.in-Ok-Request.field-0-is c.in-Ok-Request.ensures.held in
     c.question.ensures.forgets forgets history stands judged c.args.negotiation.now c.args.bytes.now confounder choice
+    (carried _ c.args.bytes.now _ _ _ _ c.in-Ok-Request.carrier-is (ap (λ r. r.now) c.in-Ok-Request.request-is) held)
+
+pub returns-in-Err-clause-unchanged : goal.returns-in-Err-clause-unchanged
+returns-in-Err-clause-unchanged g c history stands confounder choice = record {
+  after = history;
+  is_after = inl (left (subst (λ (cause : Cause). IsOfNone cause) (sym c.not_opened.ensures.cause) tt) refl);
+  stands = λ same. (λ stamp. (λ has. has, λ has. has), refl);
+}
+
+pub returns-in-Ok-Nothing-clause-unchanged : goal.returns-in-Ok-Nothing-clause-unchanged
+returns-in-Ok-Nothing-clause-unchanged g c history stands confounder choice = record {
+  after = history;
+  is_after = inl (left c.go_on.ensures.leaves refl);
+  stands = λ same. (λ stamp. (λ has. has, λ has. has), refl);
+}
+
+pub returns-in-Ok-Request-clause-unchanged : goal.returns-in-Ok-Request-clause-unchanged
+returns-in-Ok-Request-clause-unchanged g c history stands confounder choice =
+    let held = subst (λ (it : Held). Holds c.args.negotiation.now c.args.bytes.now it) c.in-Ok-Request.field-0-is c.in-Ok-Request.ensures.held in
+    c.question.ensures.unchanged history stands c.args.negotiation.now c.args.bytes.now confounder choice
+    (carried _ c.args.bytes.now _ _ _ _ c.in-Ok-Request.carrier-is (ap (λ r. r.now) c.in-Ok-Request.request-is) held)
+
+pub returns-in-Err-clause-limit : goal.returns-in-Err-clause-limit
+returns-in-Err-clause-limit g c history stands confounder choice = of_none (faulty c.in-Err.fault c.in-Err.ensures.faulty) refl
+
+pub returns-in-Ok-Nothing-clause-limit : goal.returns-in-Ok-Nothing-clause-limit
+returns-in-Ok-Nothing-clause-limit g c history stands confounder choice =
+    let held = subst (λ (it : Held). Holds c.args.negotiation.now c.args.bytes.now it) c.in-Ok-Nothing.field-0-is c.in-Ok-Nothing.ensures.held in
+    of_none (asking _ held.0 held.1) refl
+
+pub returns-in-Ok-Request-clause-limit : goal.returns-in-Ok-Request-clause-limit
+returns-in-Ok-Request-clause-limit g c history stands confounder choice =
+    let held = subst (λ (it : Held). Holds c.args.negotiation.now c.args.bytes.now it) c.in-Ok-Request.field-0-is c.in-Ok-Request.ensures.held in
+    of_request _ _
+    (carried _ c.args.bytes.now _ _ _ _ c.in-Ok-Request.carrier-is (ap (λ r. r.now) c.in-Ok-Request.request-is) held)
+    (c.question.ensures.limit history stands) (λ cause is not. c.question.ensures.uncounted history cause stands is not)
+
+pub returns-in-Ok-Request-clause-goes_on : goal.returns-in-Ok-Request-clause-goes_on
+returns-in-Ok-Request-clause-goes_on g c history stands confounder choice =
+    let held = subst (λ (it : Held). Holds c.args.negotiation.now c.args.bytes.now it) c.in-Ok-Request.field-0-is c.in-Ok-Request.ensures.held in
+    c.question.ensures.goes_on history stands c.args.negotiation.now c.args.bytes.now confounder choice
     (carried _ c.args.bytes.now _ _ _ _ c.in-Ok-Request.carrier-is (ap (λ r. r.now) c.in-Ok-Request.request-is) held)

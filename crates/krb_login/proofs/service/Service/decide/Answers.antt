@@ -1,7 +1,7 @@
 use Rattle.std.proofs.Common.{◌∷◌, refl}
 use Rattle.krb_ap.specs.Setup.{arrival}
 use Rattle.krb_login.specs.Login.{added, call_with}
-use Rattle.krb_login.proofs.Stepping.{no_longer, undecided_if_same}
+use Rattle.krb_login.proofs.Stepping.{heeds_at, no_longer, undecided_if_same}
 use Rattle.krb_login.proofs.service.Service.decide.Goals as goal
 
 pub returns-in-Ok-clause-decided : goal.returns-in-Ok-clause-decided
@@ -55,3 +55,9 @@ returns-in-Err-clause-unchanged g c history stands negotiation bytes carries =
       is_after = on.is_after;
       stands = λ same. c.in-Err.ensures.unchanged (undecided_if_same (call_with c.args.self.now.terms c.args.self.now.acceptor.setup history negotiation bytes c.args.given) c.in-Err.refused on.after on.is_after same);
     }
+
+pub returns-in-Ok-clause-limit : goal.returns-in-Ok-clause-limit
+returns-in-Ok-clause-limit g c history stands = heeds_at _ _ _ _ _ _ _ _ _ (λ none. absurd none) (c.in-Ok.ensures.limit history stands)
+
+pub returns-in-Err-clause-limit : goal.returns-in-Err-clause-limit
+returns-in-Err-clause-limit g c history stands = c.in-Err.ensures.limit history stands

@@ -8,7 +8,7 @@ use Rattle.krb_ap.proofs.Afterwards.{after_named}
 use Rattle.krb_ap.proofs.Truth.{is_so, is_not}
 use Rattle.krb_login.specs.Login.{HasCause, call_for, deciding, added}
 use Rattle.krb_login.specs.declared.cause.Cause.{Cause}
-use Rattle.krb_login.proofs.Stepping.{no_refusal, not_its_own, unlike}
+use Rattle.krb_login.proofs.Stepping.{heeds_at, no_refusal, not_its_own, unlike}
 use Rattle.krb_login.proofs.service.Service.judge.Goals as goal
 
 pub returns-then-is_memory-clause-refused : goal.returns-then-is_memory-clause-refused
@@ -34,7 +34,7 @@ returns-in-Err-clause-goes_on g c history stands negotiation bytes confounder ch
 
 pub returns-in-Some-clause-refused : goal.returns-in-Some-clause-refused
 returns-in-Some-clause-refused g c history stands negotiation bytes confounder choice carries =
-    c.turn_away.ensures.cause (call_for c.args.self.now.terms c.args.self.now.acceptor.setup history negotiation bytes c.args.now confounder choice) carries refl
+    c.turn_away.ensures.cause c.in-Ok.ensures.service (call_for c.args.self.now.terms c.args.self.now.acceptor.setup history negotiation bytes c.args.now confounder choice) carries refl
     (c.in-Ok.ensures.answer history stands) c.in-Some.ensures
 
 pub returns-in-Some-clause-goes_on : goal.returns-in-Some-clause-goes_on
@@ -79,3 +79,16 @@ returns-in-Err-clause-unchanged g c = λ none. absurd (none c.refuse.ensures.dec
 
 pub returns-in-Some-clause-unchanged : goal.returns-in-Some-clause-unchanged
 returns-in-Some-clause-unchanged g c = λ none. absurd (none c.turn_away.ensures.decides)
+
+pub returns-then-is_memory-clause-limit : goal.returns-then-is_memory-clause-limit
+returns-then-is_memory-clause-limit g c = λ history stands. heeds_at _ _ _ _ _ _ _ _ _ (λ _. c.out_of_memory.ensures.cause) (c.in-Err.ensures.limit history stands)
+
+pub returns-in-Err-clause-limit : goal.returns-in-Err-clause-limit
+returns-in-Err-clause-limit g c = λ history stands.
+    heeds_at _ _ _ _ _ _ _ _ _ (λ out. absurd (unlike _ _ (is_not _ _ c.is_memory.ensures c.if-is_memory.false) out)) (c.in-Err.ensures.limit history stands)
+
+pub returns-in-Some-clause-limit : goal.returns-in-Some-clause-limit
+returns-in-Some-clause-limit g c = λ history stands. heeds_at _ _ _ _ _ _ _ _ _ (λ out. absurd (no_refusal _ _ out)) (c.in-Ok.ensures.limit history stands)
+
+pub returns-clause-limit : goal.returns-clause-limit
+returns-clause-limit g c = λ history stands. heeds_at _ _ _ _ _ _ _ _ _ (λ out. absurd (no_refusal _ _ out)) (c.in-Ok.ensures.limit history stands)

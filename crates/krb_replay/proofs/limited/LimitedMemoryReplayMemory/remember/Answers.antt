@@ -1,8 +1,8 @@
 use Rattle.std.proofs.Common.{◌≡◌, ◌⊎◌, ◌∷◌, ℤ, subst, sym}
 use Rattle.std.specs.Prelude.{IsErr, OnErr, OnOk}
-use Rattle.krb_replay.specs.Limit.{CountsOne, IsFull, IsPastAny, Reaches, limits_of}
+use Rattle.krb_replay.specs.Limit.{CountsFirst, CountsOne, IsFull, IsPastAny, Reaches, limits_of}
 use Rattle.krb_replay.specs.Memory.{AddsStamp, SameStamps}
-use Rattle.krb_replay.proofs.LimitLaws.{counted_within, full_within}
+use Rattle.krb_replay.proofs.LimitLaws.{counted_within, first_within, full_within}
 use Rattle.krb_replay.proofs.limited.LimitedMemoryReplayMemory.remember.Goals as goal
 
 pub returns-clause-ok : goal.returns-clause-ok
@@ -28,6 +28,22 @@ returns-clause-full_any g c =
     (IsErr c.remember.result)
     (λ full. room (full.0, subst (λ (since : ℤ). Reaches (g.M.ReplayMemory.has c.self.inside.memory) since c.args.tuple (record { all = c.self.inside.limit; of_client = c.self.inside.limit_for_client })) (sym counts.0) full.1))
     (c.remember.ensures.full oldest counts.1) past)
+    (λ full. let yes = c.is_full.ensures.1 full in let no = c.if-is_full.false in absurd (cc))
+
+pub returns-clause-first_any : goal.returns-clause-first_any
+returns-clause-first_any g c =
+    subst (λ limited. (IsFull g.M.ReplayMemory.has limited c.args.tuple → ⊥) → (oldest : ℤ)
+    → (limited.oldest ≡ oldest) × g.M.ReplayMemory.counts_since limited.memory oldest
+    → IsPastAny (g.M.ReplayMemory.has limited.memory) oldest c.args.tuple (limits_of limited ∷ g.M.ReplayMemory.limits limited.memory)
+    → CountsFirst (g.M.ReplayMemory.has limited.memory) oldest c.args.tuple (limits_of limited ∷ g.M.ReplayMemory.limits limited.memory)
+    (limited.refused ∷ g.M.ReplayMemory.refusals limited.memory) (c.self.inside.refused ∷ g.M.ReplayMemory.refusals c.remember.new.self))
+    c.self.view_is
+    (λ room oldest counts past.
+    first_within (g.M.ReplayMemory.has c.self.inside.memory) oldest c.args.tuple (record { all = c.self.inside.limit; of_client = c.self.inside.limit_for_client })
+    (g.M.ReplayMemory.limits c.self.inside.memory) c.self.inside.refused (g.M.ReplayMemory.refusals c.self.inside.memory) (g.M.ReplayMemory.refusals c.remember.new.self)
+    (IsErr c.remember.result)
+    (λ full. room (full.0, subst (λ (since : ℤ). Reaches (g.M.ReplayMemory.has c.self.inside.memory) since c.args.tuple (record { all = c.self.inside.limit; of_client = c.self.inside.limit_for_client })) (sym counts.0) full.1))
+    (c.remember.ensures.first oldest counts.1) past)
     (λ full. let yes = c.is_full.ensures.1 full in let no = c.if-is_full.false in absurd (cc))
 
 pub returns-clause-room_any : goal.returns-clause-room_any

@@ -1,0 +1,3 @@
+pub mod AddedLaws
+pub mod OpeningLaws
+pub mod SightLaws

@@ -1,0 +1,10 @@
+pub mod Choice
+pub mod Data
+pub mod Ticket
+pub mod Age
+pub mod Authenticator
+pub mod Seen
+pub mod LookAt
+pub mod CauseLines
+pub mod Keyed
+pub mod Inner

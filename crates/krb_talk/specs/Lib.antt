@@ -1,0 +1,11 @@
+pub mod Agreeing
+pub mod ListMic
+pub mod States
+pub mod Pending
+pub mod Checking
+pub mod Serving
+pub mod Talks
+pub mod Talk
+pub mod Inner
+pub mod Turns
+pub mod Laws

@@ -1,0 +1,179 @@
+//! A client that names another mechanism first, and Kerberos after it.
+
+ghost use Rattle.std.specs.Prelude.{◌≡◌, ◌⊎◌, ℕ, List, IfErr, IfOk, OnErr, Option, Some, Ok, Err, MatchResult};
+ghost use Rattle.std.specs.Option.{MatchOption};
+ghost use Rattle.krb_gss.specs.Listing.{IsListing};
+ghost use Rattle.krb_gss.specs.Later.{IsLaterFault};
+ghost use Rattle.krb_gss.specs.ListMic.{IsMicFault, WritesRequestMic};
+ghost use Rattle.krb_gss.specs.Checksum.{bytes_if};
+ghost use Rattle.krb_talk.specs.Checking.{Checks};
+ghost use Rattle.krb_talk.specs.ListMic.{HoldsBoth};
+
+use crate::agreeing::context_of;
+use crate::checking::{Admitted, Checking, ListFault};
+use crate::mic::Replying;
+use crate::pending::Pending;
+use krb_ap::ReplyOptions;
+use krb_context::Options;
+use krb_gss::{
+    Mechanism, Negotiation, TokenFault, later_mic, open_later, open_listing, wrap_request_mic,
+};
+use krb_login::LetIn;
+use std::alloc::{AllocError, Global};
+use std::marker::Model;
+
+/// The mechanisms of a client that names another one first, and Kerberos after it.
+#[derive(Debug, Drop)]
+pub struct Listed {
+    mechanism: Mechanism,
+    list: Vec<u8>,
+}
+
+impl Model for Listed {
+    ghost use Rattle.krb_talk.specs.States.{Listing};
+
+    ghost Value = { Listing };
+
+    ghost view = { λ l. record {
+      mechanism = l.mechanism;
+      list = l.list.items;
+    } };
+}
+
+/// What is chosen for a check. There is no `Debug`, so no log shows a key.
+#[derive(Drop)]
+pub struct Chosen<'a> {
+    /// The confounder of the reply: 16 random bytes, those that the service was given for its decision.
+    pub confounder: &'a [u8; 16],
+    /// What the service chose for the reply, the same as for its decision.
+    pub choice: &'a ReplyOptions,
+    /// How the context takes and writes the messages after the login.
+    pub options: Options,
+}
+
+impl Listed {
+    /// Opens a client's first token that names another mechanism first, and Kerberos after it. Returns `None` for other bytes, which
+    /// are for [`Service::answer`](krb_login::Service::answer) with a negotiation that begins.
+    ///
+    /// # Errors
+    /// `AllocError`: there is no memory for a copy of the list.
+    pub fn open(alloc: Global, bytes: &[u8]) -> Result<Option<Listed>, AllocError>
+        ensures found { IfOk result (λ it. MatchOption it ((mechanism : Mechanism) (list : List ℕ) → IsListing mechanism list bytes.now → ⊥)
+            (λ listed. IsListing listed.mechanism listed.list bytes.now)) }
+        ensures memory { OnErr result ((mechanism : Mechanism) × (list : List ℕ) × IsListing mechanism list bytes.now) }
+    {
+        match open_listing(bytes) {
+            None => Ok(None),
+            Some(listing) => {
+                let list = Vec::from_slice(alloc, listing.list)?;
+                Ok(Some(Listed {
+                    mechanism: listing.mechanism,
+                    list,
+                }))
+            }
+        }
+    }
+
+    /// Asks the client for its token of Kerberos and the MIC of its list (request-mic: RFC 4178, section 4.2.2).
+    ///
+    /// # Errors
+    /// `AllocError`: out of memory.
+    pub fn request_mic(&self, alloc: Global) -> Result<Vec<u8>, AllocError>
+        ensures { IfOk result (λ bytes. WritesRequestMic self.now.mechanism bytes.items) }
+    {
+        wrap_request_mic(alloc, self.mechanism)
+    }
+
+    /// Returns the state of the service's negotiation for the client's next message: the client was asked for its token.
+    pub fn negotiation(&self) -> Negotiation
+        ensures { result ≡ Negotiation.Asked self.now.mechanism }
+    {
+        Negotiation::Asked(self.mechanism)
+    }
+
+    /// Goes on with a client whose request, in its next message `bytes`, was let in by the service.
+    ///
+    /// The client is let in only with its MIC of the list (RFC 4178, section 5). A client that asked for no reply has to send it with
+    /// its token. Any other one may do so. If it doesn't, it is asked for it, with the reply, and [`Pending::finish`] takes it.
+    ///
+    /// # Errors
+    /// The first that applies:
+    /// - `Token`: the bytes aren't a client's later message with a token.
+    /// - `OtherKey`: the client's subkey isn't of type 19 or 20.
+    /// - `Missing`: there is no mechListMIC, and the client awaits no reply.
+    /// - `Wrong`: the mechListMIC isn't the client's MIC of the list, or the context doesn't take it.
+    /// - `OutOfMemory`: there is no memory for what goes back.
+    pub fn check(
+        self,
+        alloc: Global,
+        bytes: &[u8],
+        login: LetIn,
+        chosen: Chosen<'_>,
+    ) -> Result<Checking, ListFault>
+        ensures { Checks (record {
+          list = self.list;
+          bytes = bytes.now;
+          accepted = login.accepted;
+          confounder = chosen.entry.confounder.now;
+          choice = chosen.entry.choice.now;
+          options = chosen.entry.options;
+        }) result }
+    {
+        let Chosen {
+            confounder,
+            choice,
+            options,
+        } = chosen;
+        let accepted = login.accepted;
+        let (mechanism, mic) = match held(bytes) {
+            Ok(held) => held,
+            Err(fault) => return Err(ListFault::Token(fault)),
+        };
+        let Some(context) = context_of(&accepted, choice, options) else {
+            return Err(ListFault::OtherKey);
+        };
+        let pending = Pending::new(accepted, self.list, context);
+        let replying = Replying {
+            mechanism,
+            confounder,
+            choice,
+        };
+        match mic {
+            Some(mic) => shown(pending.let_in(alloc, mic, replying)),
+            None => waits(pending.ask(alloc, replying)),
+        }
+    }
+}
+
+fn shown(made: Result<Admitted, ListFault>) -> Result<Checking, ListFault>
+    ensures { MatchResult made (λ login. result ≡ Ok (Checking.Shown login)) (λ fault. result ≡ Err fault) }
+{
+    match made {
+        Ok(login) => Ok(Checking::Shown(login)),
+        Err(fault) => Err(fault),
+    }
+}
+
+fn waits(made: Result<(Pending, Vec<u8>), ListFault>) -> Result<Checking, ListFault>
+    ensures { MatchResult made (λ it. result ≡ Ok (Checking.Waits it.0 it.1)) (λ fault. result ≡ Err fault) }
+{
+    match made {
+        Ok((pending, sent)) => Ok(Checking::Waits(pending, sent)),
+        Err(fault) => Err(fault),
+    }
+}
+
+/// The name of Kerberos and the MIC in a client's later message.
+fn held<'a>(bytes: &'a [u8]) -> Result<(Mechanism, Option<&'a [u8]>), TokenFault>
+    ensures found { IfOk result (λ it. HoldsBoth it.0 (bytes_if it.1) bytes.entry.now) }
+    ensures faulty { IfErr result (λ fault. IsLaterFault bytes.entry.now fault ⊎ IsMicFault bytes.entry.now fault) }
+{
+    let later = match open_later(bytes) {
+        Ok(later) => later,
+        Err(fault) => return Err(fault),
+    };
+    match later_mic(bytes) {
+        Ok(mic) => Ok((later.mechanism, mic)),
+        Err(fault) => Err(fault),
+    }
+}

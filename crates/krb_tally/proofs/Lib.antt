@@ -1,0 +1,2 @@
+pub mod BucketLaws
+pub mod TallyLaws

@@ -1,0 +1,76 @@
+//! What no clause says: with ample memory each call succeeds, also past one bucket.
+
+use crate::Tally;
+use std::test::Fail;
+
+// Times out of order, which split buckets. A tally that fails past its first bucket would pass each
+// clause.
+#[test]
+fn counts_two_thousand_times_out_of_order(rt: HostRuntime) -> Result<(), Fail> {
+    let mut tally = Tally::new(rt.alloc());
+    for n in 0..2000u32 {
+        tally.add(i64::from(n * 7 % 2000))?;
+    }
+    assert_eq!(rt; tally.len(), 2000);
+    assert_eq!(rt; tally.first(), Some(0));
+    for n in 0..2000u32 {
+        assert_eq!(rt; tally.since(i64::from(n)), 2000 - n as usize);
+        assert!(rt; tally.contains(i64::from(n)));
+    }
+    assert!(rt; !tally.contains(2000));
+    Ok(())
+}
+
+// Times in falling order always go into the first bucket.
+#[test]
+fn counts_falling_times(rt: HostRuntime) -> Result<(), Fail> {
+    let mut tally = Tally::new(rt.alloc());
+    for n in (0..2000u32).rev() {
+        tally.add(i64::from(n))?;
+    }
+    assert_eq!(rt; tally.len(), 2000);
+    assert_eq!(rt; tally.since(1999), 1);
+    assert_eq!(rt; tally.since(600), 1400);
+    Ok(())
+}
+
+// Times are removed in order, as a memory frees them, and each once.
+#[test]
+fn removes_what_was_added(rt: HostRuntime) -> Result<(), Fail> {
+    let mut tally = Tally::new(rt.alloc());
+    for n in 0..1500u32 {
+        tally.add(i64::from(n))?;
+        tally.add(i64::from(n))?;
+    }
+    for n in 0..1000u32 {
+        tally.remove(i64::from(n));
+        tally.remove(i64::from(n));
+        tally.remove(i64::from(n));
+    }
+    tally.remove(-1);
+    tally.remove(1499);
+    assert_eq!(rt; tally.len(), 999);
+    assert_eq!(rt; tally.since(i64::MIN), 999);
+    assert_eq!(rt; tally.since(1499), 1);
+    assert_eq!(rt; tally.since(i64::MAX), 0);
+    Ok(())
+}
+
+// The same time many times is in several buckets.
+#[test]
+fn counts_one_time_often(rt: HostRuntime) -> Result<(), Fail> {
+    let mut tally = Tally::new(rt.alloc());
+    assert_eq!(rt; tally.first(), None);
+    for _ in 0..1200u32 {
+        tally.add(7)?;
+    }
+    assert_eq!(rt; tally.since(7), 1200);
+    assert_eq!(rt; tally.since(8), 0);
+    for _ in 0..1200u32 {
+        assert!(rt; tally.contains(7));
+        tally.remove(7);
+    }
+    assert!(rt; !tally.contains(7));
+    assert_eq!(rt; tally.first(), None);
+    Ok(())
+}
