@@ -206,7 +206,7 @@ def test_a_store_with_a_fault_of_its_own(cache):
 
 
 def test_the_loop_goes_on(cache):
-    """Twenty clients over a store that takes a second for each."""
+    """Twenty clients over a store that takes two seconds for each."""
     ticks = []
 
     async def ticking():
@@ -222,14 +222,14 @@ def test_the_loop_goes_on(cache):
         return found
 
     def said():
-        time.sleep(1)
+        time.sleep(2)
         return True
 
     began = time.monotonic()
     *found, repeat, asks = asyncio.run(answer_all(serving(Asked(said))))
     assert [it.client for it in found] == ["alice@EX"] * 20
     assert repeat.cause == Code.REPEAT and isinstance(asks, GoOn)
-    assert time.monotonic() - began < 15 and max(later - it for it, later in zip(ticks, ticks[1:])) < 0.8
+    assert time.monotonic() - began < 30 and max(later - it for it, later in zip(ticks, ticks[1:])) < 1.8
 
 
 def test_a_task_that_is_cancelled(cache):

@@ -24,13 +24,13 @@ from support.instances import ACCEPTED, BATCH, EARLY, PYTHON, REPEAT, SERVICE, S
 
 pytestmark = [pytest.mark.packages, pytest.mark.slow]
 # How many requests there are in each phase, at most how many in a portion, and more for what comes after the phases.
-REQUESTS, PORTION, MORE = int(os.environ.get("STORES_REQUESTS", "240")), 240, 12
+REQUESTS, PORTION, MORE = int(os.environ.get("STORES_REQUESTS", "240")), 240, 24
 # How often each process is killed in the second phase, or once in each portion.
 KILLS = 4
 # How long a process waits for the store while both run on a busy machine, and where that is tested; how long a portion
-# may take; and how long a process in C and one in Python that is started again, which on a machine that does nothing
-# else takes less than a second, too.
-PATIENT, IMPATIENT, SECONDS, STARTING = 20, 1, 120, {Served: 1, Instance: 5}
+# may take; and how long a process that is started again, which on a machine that does nothing else takes less than a
+# second. (A pause after the start would take 300.)
+PATIENT, IMPATIENT, SECONDS, STARTING = 20, 1, 120, 20
 SKEW = ("refused", "SKEW")
 # Runs a program over the package whose boot is named by a file.
 WITH_BOOT = """
@@ -210,9 +210,16 @@ class Phases:
             one.start()
 
 
+def once_it_answers(instance, requests):
+    """What an instance says first that isn't that the store has failed. (A store on a busy machine may miss the time
+    limit once more.)"""
+    found = (instance.asked(it) for it in itertools.islice(requests, 5))
+    return next((it for it in found if it != STORE), STORE)
+
+
 def in_time(store, instance, requests):
     """A store that is stopped after an instance has connected to it."""
-    yield "an instance that has started", is_it(instance.asked(next(requests)), ACCEPTED)
+    yield "an instance that has started", is_it(once_it_answers(instance, requests), ACCEPTED)
     for when in ("at first", "later"):
         store.signalled(signal.SIGSTOP)
         began = time.monotonic()
@@ -221,7 +228,7 @@ def in_time(store, instance, requests):
         store.signalled(signal.SIGCONT)
         yield f"a store that doesn't answer, {when}", is_it(found, STORE)
         yield "the refusal comes in time", None if IMPATIENT - 0.1 < took < IMPATIENT + 10 else f"after {took} seconds"
-        yield f"a store that answers again, {when}", is_it(instance.asked(next(requests)), ACCEPTED)
+        yield f"a store that answers again, {when}", is_it(once_it_answers(instance, requests), ACCEPTED)
 
 
 def too_late(store, instance, ahead, request):
@@ -244,7 +251,7 @@ def started_again(instance, request):
     yield "a process that is started again lets a new request in", is_it(instance.asked(request), ACCEPTED)
     took = time.monotonic() - began
     print(f"started again, and a request let in: {took:.2f} seconds")
-    yield "and at once", None if took < STARTING[type(instance)] else f"after {took} seconds"
+    yield "and at once", None if took < STARTING else f"after {took} seconds"
 
 
 def over(store, kinds, folder, library):

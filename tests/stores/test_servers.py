@@ -78,17 +78,17 @@ def test_old_stamps_are_forgotten(server):
 def test_an_answer_that_comes_too_late(server, tmp_path):
     """It isn't taken for the answer about the next stamp, nor about the same."""
     proxy = Proxy(server, tmp_path)
-    store, late, known = opened(server, where=proxy.where, seconds=0.5), named(), named()
+    store, late, known = opened(server, where=proxy.where, seconds=1.5), named(), named()
     assert store.add(known, LATER)
-    proxy.seconds = 1.0
+    proxy.seconds = 4.5
     began = time.monotonic()
-    with pytest.raises(StoreFailed, match="0.5 seconds|Timeout"):
+    with pytest.raises(StoreFailed, match="1.5 seconds|Timeout"):
         store.add(late, LATER)
-    assert 0.4 < time.monotonic() - began < 1.0
+    assert 1.4 < time.monotonic() - began < 4.4
     proxy.seconds = 0.0
-    for _ in range(3):
+    for _ in range(4):
         assert not store.add(known, LATER)
-        time.sleep(0.3)
+        time.sleep(1)
     assert not store.add(late, LATER) and store.add(named(), LATER)
 
 

@@ -64,10 +64,20 @@ def test_the_token_comes_with_faults(server, path, status):
     assert answer.status == status and answer.token
 
 
+def ask_with_a_large_head(server, kind, token):
+    """The answer to this token. h11, which Debian's uvicorn uses, refuses more than 16 KiB by itself, with 400, if they
+    come in parts. How they come depends on the machine's pace, so it is asked again then."""
+    for _ in range(50 if "uvicorn" in kind else 1):
+        answer = server.ask(token=token)
+        if answer.status != 400:
+            break
+    return answer
+
+
 @pytest.mark.parametrize("size", [9_000, 44_000])
-def test_large_tokens(server, size):
+def test_large_tokens(server, kind, size):
     """In base64 these are 12 kB and 60 kB."""
-    answer = server.ask(token=web.token(size=size))
+    answer = ask_with_a_large_head(server, kind, web.token(size=size))
     assert (answer.status, answer.body) == (200, WHO)
 
 
@@ -78,7 +88,8 @@ def test_malformed_headers(server):
 
 def test_a_token_that_is_too_long(server, kind):
     """(a request to uWSGI has at most 64 KiB of headers, and nginx answers)"""
-    assert server.ask(token=bytes(65_537)).status == (500 if "uWSGI" in kind else 431)
+    answer = ask_with_a_large_head(server, kind, bytes(65_537))
+    assert answer.status == (500 if "uWSGI" in kind else 431)
     assert server.ask(token=web.token()).status == 200
 
 
