@@ -3,66 +3,28 @@
     toolchain VERSION          what `rt version` prints; it goes for the lines that follow
     CRATE/WHAT.edit HASH       this edit was refused
 
-Whether an edit is refused depends on the edit, on the functions that it changes and their proofs, on what its crate states (its sources
-without the bodies of functions), on its definitions and lemmas, on what the crates below state, and on the toolchain. The hash is of all
-that, without comments. (An edit of what stands outside functions, or of a const fn, depends on all sources and proofs of its crate.) A
-line holds only while the edit applies, since an edit may name a comment.
+Whether an edit is refused depends on the edit, on the functions that it changes and their proofs, on the heads of the functions that these name
+(tests/edits_stated.py), on its crate's lemmas, on what its crate and the crates below state beside functions, definitions among it, and on the
+toolchain. The hash is of all that, without comments. (An edit of what stands outside functions, or of a const fn, depends on all sources and
+proofs of its crate.) A line holds only while the edit applies, since an edit may name a comment.
 
 Lines are believed, but not for long: the edits are dealt to slots, and each commit has the slot of its number (`share`).
 """
 import hashlib
 import os
-import re
 import subprocess
 from functools import lru_cache
 
-from source_text import functions_of, without_comments
+from edits_stated import files_below, read, source, stated, without_its_comments, words_of
+from source_text import without_comments
 
 FILE = "tests/edits.lock"
 # After so many commits each edit's turn has come.
 SLOTS = 24
 # Of these, the slots of edits that change what stands outside functions: they need a check of their own, and of the whole crate.
 OUTSIDE = 4
-COMMENT_OF_ANTT = re.compile(r"(?m)(?:^|(?<=\s))--(?=\s|$).*$")
 # The files of a function's own proof.
 OWN_PROOF = ("Answers.antt", "Invariants.antt", "Proof.antt")
-
-
-def files_below(folder):
-    for at, folders, names in os.walk(folder):
-        folders.sort()
-        for name in sorted(names):
-            yield f"{at}/{name}"
-
-
-@lru_cache(maxsize=None)
-def read(path):
-    with open(path, encoding="utf-8", errors="surrogateescape") as it:
-        return it.read()
-
-
-def stated(text):
-    """A source without its comments and the bodies of its functions, with single spaces."""
-    kept, at = [], 0
-    for it in functions_of(text):
-        if not it.is_const:
-            kept += [text[at : it.opens], "{}"]
-            at = it.ends
-    return " ".join(without_comments("".join([*kept, text[at:]])).split())
-
-
-def without_its_comments(path):
-    """A file's text without its comments, with single spaces."""
-    text = read(path)
-    text = without_comments(text) if path.endswith(".rt") else COMMENT_OF_ANTT.sub("", text) if path.endswith(".antt") else text
-    return " ".join(text.split())
-
-
-@lru_cache(maxsize=None)
-def stated_by(folder):
-    """What a crate states: its sources without bodies, and its definitions, by file."""
-    sources = [(os.path.relpath(it, folder), stated(read(it))) for it in files_below(f"{folder}/src")]
-    return (*sources, *[(os.path.relpath(it, folder), without_its_comments(it)) for it in files_below(f"{folder}/specs")])
 
 
 def toolchain():
@@ -91,10 +53,25 @@ def proofs_of(folder):
 
 @lru_cache(maxsize=None)
 def sum_below(crate, known):
-    """The hash of what the edits of a crate have in common: what it states, its lemmas, and what the crates below state."""
-    below = [(name, known[name].deps, stated_by(known[name].folder)) for name in sorted(crate.below)]
+    """The hash of what the edits of a crate have in common: what it states beside functions, its lemmas, and what the crates below state so."""
+    below = [(name, known[name].deps, stated(known[name].folder).rest) for name in sorted(crate.below)]
     lemmas = [it for it in proofs_of(crate.folder) if not it[0]]
-    return sum_of(crate.name, sorted(crate.deps), stated_by(crate.folder), lemmas, below)
+    return sum_of(crate.name, sorted(crate.deps), stated(crate.folder).rest, lemmas, below)
+
+
+@lru_cache(maxsize=None)
+def words_of_lemmas(crate, known):
+    """The names in a crate's lemmas, and in what macros may write there."""
+    lemmas = [words_of(text) for folder, _, text in proofs_of(crate.folder) if not folder]
+    return frozenset().union(*lemmas, *(stated(known[it].folder).of_macros for it in [crate.name, *crate.below]))
+
+
+def named_heads(crate, known, texts):
+    """The heads of all functions that are named in these texts or in lemmas."""
+    words = words_of_lemmas(crate, known).union(*map(words_of, texts))
+    all_stated = [(it, stated(known[it].folder)) for it in sorted([crate.name, *crate.below])]
+    words |= {own for _, it in all_stated for other, own in it.renamed if other in words}
+    return [(name, it.named(words)) for name, it in all_stated]
 
 
 def hash_of(edit, known, version):
@@ -106,7 +83,11 @@ def hash_of(edit, known, version):
     whole = ()
     if edit.is_outside or edit.is_seen or not changed:
         whole = ([without_its_comments(it) for it in files_below(f"{crate.folder}/src")], proofs_of(crate.folder))
-    return sum_of(version, " ".join(read(edit.file).split()), sum_below(crate, known), changed, proofs, whole)[:32]
+    owners = [words for _, owner, *_ in changed for _, words in owner]
+    texts = [text for *_, text in [*changed, *proofs]] + [*edit.changed.values(), *owners] + (whole[0] if whole else [])
+    imports = [(path, source(f"{crate.folder}/{path}").imported(text)) for path, *_, text in changed]
+    parts = (sum_below(crate, known), named_heads(crate, known, texts), imports, changed, proofs, whole)
+    return sum_of(version, " ".join(read(edit.file).split()), *parts)[:32]
 
 
 def read_lock(top):

@@ -8,6 +8,7 @@ import sys
 import tempfile
 
 import edits_lock
+import edits_stated
 from edits import crates_of
 
 SOURCE = """// Functions whose edits show what the runner of edits tells apart.
@@ -144,7 +145,7 @@ def run_of(room, edits, *more):
     return ran.returncode, ran.stdout
 
 
-# A crate below, of which the other uses nothing: it is there to be changed.
+# A crate below, of which the other uses nothing: it is there to be changed. One of its functions has a name that the other says.
 LOW = """//! A crate below.
 #![tactic(auto)]
 
@@ -156,29 +157,44 @@ pub fn one() -> u32
 {
     1
 }
+
+pub fn third() -> u32
+    ensures { result ≡ 3 }
+{
+    3
+}
 """
 
 # An edit that names a comment, too.
 NAMES_A_COMMENT = ("names_a_comment", "    n + n", "    n + n + 1\nold: // Where an edit may stand.\nnew: // Here.", None)
+# The edits of the lock's test: of a function, of one that calls it, and one that changes a comment outside of functions, too.
+LOCKED = [EDITS[1], EDITS[9], NAMES_A_COMMENT]
 
-# What is changed (file, old text, new text), and how many of two edits are tried again for it: one that changes a function, and one that
-# names a comment outside of functions, too.
+# What is changed (file, old text, new text), and how many of the three are tried again for it.
 CHANGES = [
     ("a comment of the crate below", "low/src/lib.rt", "// A number.", "// One.", 0),
     ("a body of the crate below", "low/src/lib.rt", "    1\n", "    2 - 1\n", 0),
     ("a comment", "sample/src/lib.rt", "// Functions whose edits show", "// These show", 0),
     ("a comment of a proof", "sample/proofs/six_times/Answers.antt", "pub returns :", "-- What is returned.\npub returns :", 0),
+    ("a contract of the crate below that nothing names", "low/src/lib.rt", "result ≡ 1", "result ≤ 1", 0),
+    ("a private function of the crate below", "low/src/lib.rt", "// A number.", "fn other() -> u32 {\n    2\n}\n", 0),
     ("the body of another function", "sample/src/lib.rt", "    n / 2", "    n / 4", 1),
-    ("the proof of another function", "sample/proofs/six_times/Answers.antt", "search rules", "search (rules)", 1),
+    ("the contract of another function", "sample/src/lib.rt", "ensures { result ≤ n }", "ensures { n ≤ n }", 1),
+    ("a new function", "sample/src/lib.rt", "pub fn part", "fn other() -> u32 {\n    2\n}\n\npub fn part", 1),
     ("a comment that an edit names", "sample/src/lib.rt", "// Where an edit may stand.", "// Elsewhere.", 1),
     ("an edit", "sample/edits/twice_is_none.edit", "    0", "    1", 1),
-    ("a contract of the crate below", "low/src/lib.rt", "result ≡ 1", "result ≤ 1", 2),
-    ("a definition of the crate below", "low/specs/Lib.antt", "", "pub mod More\n", 2),
-    ("the body that they change", "sample/src/lib.rt", "    n + n\n", "    n + n + 0\n", 2),
-    ("a contract", "sample/src/lib.rt", "ensures { result ≤ n }", "ensures { n ≤ n }", 2),
-    ("a definition", "sample/specs/Lib.antt", "", "pub mod More\n", 2),
-    ("a lemma", "sample/proofs/Lemmas.antt", "", "pub lemma : ℕ\n", 2),
+    ("a proof", "sample/proofs/six_times/Answers.antt", "search rules", "search (rules)", 2),
+    ("the body that an edit changes", "sample/src/lib.rt", "    n + n\n", "    n + n + 0\n", 2),
     ("the function's own proof", "sample/proofs/twice/Answers.antt", "", "pub returns : goal.returns\n", 2),
+    ("a contract of the crate below that an edit's function names", "low/src/lib.rt", "result ≡ 3", "result ≤ 3", 2),
+    ("the contract of the function that it calls", "sample/src/lib.rt", "ensures { result ≡ n * 2 }", "ensures { result ≤ n * 2 }", 3),
+    ("the attribute of a function that it calls", "sample/src/lib.rt", "pub fn twice", "#[inline]\npub fn twice", 3),
+    ("the contract of a trait", "sample/src/lib.rt", "ensures { result ≤ 1 };", "ensures { result ≤ 2 };", 3),
+    ("a constant", "sample/src/lib.rt", "MOST: u32 = 1000", "MOST: u32 = 1001", 3),
+    ("an import of a sign", "sample/src/lib.rt", "◌+◌, ◌*◌}", "◌+◌, ◌*◌, ◌<◌}", 3),
+    ("a definition of the crate below", "low/specs/Lib.antt", "", "pub mod More\n", 3),
+    ("a definition", "sample/specs/Lib.antt", "", "pub mod More\n", 3),
+    ("a lemma", "sample/proofs/Lemmas.antt", "", "pub lemma : ℕ\n", 3),
 ]
 TURN = "edits: sample: 1 edits are tried: it is their turn"
 
@@ -207,16 +223,16 @@ def commit(room):
 def check_lock(hold):
     """What makes the runner try an edit again, and that a line that lies is found when its turn comes."""
     with tempfile.TemporaryDirectory(prefix="edits-test-") as room:
-        made(room, [EDITS[1], NAMES_A_COMMENT])
+        made(room, LOCKED)
         write(f"{room}/crates.txt", "low:\nsample: low\n")
         write(f"{room}/crates/low/src/lib.rt", LOW)
         git(room, "init", "-q")
         commit(room)
         plan = lambda: run_of(room, [], "--plan")[1]
         tried = lambda: int((re.search(r"edits: sample: (\d+) edits are tried: changed since", plan()) or [0, 0])[1])
-        hold("without a lock all is tried", tried() == 2)
+        hold("without a lock all is tried", tried() == 3)
         status, said = run_of(room, [])
-        hold("a line is written if an edit is refused", status == 0 and said.endswith("\n2 passed, 0 failed\n") and tried() == 0)
+        hold("a line is written if an edit is refused", status == 0 and said.endswith("\n3 passed, 0 failed\n") and tried() == 0)
         for what, file, old, new, again in CHANGES:
             path = f"{room}/crates/{file}"
             text = read(path)
@@ -229,9 +245,23 @@ def check_lock(hold):
         hold("all is as it was", tried() == 0)
         status, said = run_of(room, [], "--edit", EDITS[1][0])
         hold("one edit by its name, and the lines of others stay", status == 0 and said.endswith("\n1 passed, 0 failed\n") and tried() == 0)
-        os.remove(f"{room}/crates/sample/edits/{NAMES_A_COMMENT[0]}.edit")
+        for it in LOCKED[1:]:
+            os.remove(f"{room}/crates/sample/edits/{it[0]}.edit")
         check_toolchains(hold, room)
         check_turns(hold, room, plan)
+
+
+def check_imports(hold):
+    """What a source imports, and that a function is found under another name."""
+    found = dict(edits_stated.leaves("a::{b, c::{d as e, *}, f::self}"))
+    hold("the names of imports", found == {"b": "a::b", "e": "a::c::d as e", "*": "a::c::*", "self": "a::f::self"})
+    it = edits_stated.Source("use a::{b, c::d as e};\npub use f::g as h;\nmod i;\n\npub fn j(k: b) -> u8 {\n    e(k)\n}\n")
+    hold("functions under other names", it.renamed == [("e", "d"), ("h", "g")])
+    hold("what is handed on is stated", it.rest == ("", ["pub use f::g as h;"], ()))
+    hold("what a function's head imports", it.imported(it.heads[0][2]) == ("a::b",))
+    it = edits_stated.Source("type A = B<C>;\nimpl<T: X> B<T> {\n    pub fn new() -> B<T> {\n    }\n\n    fn of(&self) {\n    }\n}\n")
+    hold("the type of a function without self", [(name, of_type) for name, *_, of_type in it.heads] == [("new", "B"), ("of", "")])
+    hold("a type under another name", sorted(it.renamed) == [("A", "B"), ("A", "C")])
 
 
 def check_toolchains(hold, room):
@@ -302,6 +332,7 @@ def main():
         tried = [it for it in told(unproved) if " wasn't tried" not in it and " doesn't apply" not in it]
         hold("nothing where the crate isn't proved", status == 1 and not tried and f"\n0 passed, {len(EDITS)} failed\n" in unproved)
     check_lock(hold)
+    check_imports(hold)
     if failed:
         print(said)
         print(f"edits' own test: FAILED: {', '.join(failed)}")
