@@ -14,11 +14,14 @@ from . import ROOT, layout
 DOCUMENT = "docs/PROOFS.md"
 SEALING = ["krb_enc/key::seal", "krb_enc/key::open", "krb_enc/laws::sealed_text_opens"]
 ACCEPT, MAKE, FINISH = "krb_ap/acceptor::accept", "krb_ap/request::make_request", "krb_ap/finish::finish"
+# (a new service stands for the empty history)
+NEW = ["krb_ap/acceptor::new", "krb_ap/acceptor::started"]
+ONCE = ["krb_ap/laws::no_stamp_twice", "krb_ap/acceptor::serve", "krb_ap/laws::no_stamp_twice_in_a_life"]
 LOGIN = ["krb_login/service::answer", "krb_login/laws::only_by_right", "krb_login/laws::answers_that"]
 # The promises, and the functions whose contracts state them: laws, and calls of the library.
 PROMISES = [
     ("Each layer meets its definition: sealing", SEALING),
-    ("Acceptance is sound", [ACCEPT, "krb_ap/laws::one_answer", "krb_ap/laws::no_stamp_twice"]),
+    ("Acceptance is sound", [ACCEPT, *NEW, "krb_ap/laws::one_answer", *ONCE]),
     ("A good request gets in", [ACCEPT, MAKE, "krb_ap/laws::built_is_accepted"]),
     ("Both sides agree", [ACCEPT, FINISH, "krb_ap/laws::both_agree"]),
     ("A shared store lets in once", [ACCEPT, "krb_ap/laws::a_store_lets_in_once"]),

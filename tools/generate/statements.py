@@ -17,12 +17,12 @@ SAID = {
         "with some confounder, gives the bytes that it was given.",
     "Acceptance is sound":
         "After any calls, a service accepts a request exactly if it meets every rule; otherwise it reports the first "
-        "cause in the table of ACCEPTANCE.md that applies, or that memory ran out. `one_answer` says that the rules "
-        "decide each call, and that no two answers are right. `no_stamp_twice` says that no two accepted calls of a "
-        "run have the same service, client and time. That is about all calls of an acceptor: a new one stands for the "
-        "empty history (`Acceptor::new` and `started`: `stands`), and each call goes on from there (`goes_on`), so "
-        "that its answers are a run. `serve` says it in one clause (`once`), and `no_stamp_twice_in_a_life` for a "
-        "keytab that is replaced on the way.",
+        "cause in the table of ACCEPTANCE.md that applies, or that memory ran out. That is about all calls of an "
+        "acceptor: a new one stands for the empty history (`new` and `started`: `stands`), and each call goes on from "
+        "there (`goes_on`), so that its answers are a run. `one_answer` says that the rules decide each call, and that "
+        "no two answers are right. No two accepted calls of a run have the same service, client and time: "
+        "`no_stamp_twice` says so of each run, `serve` in one clause (`once`), and `no_stamp_twice_in_a_life` of a "
+        "keytab that is replaced on the way. Across a restart, `both_agree` says it (`once`), below.",
     "A good request gets in":
         "A request that `make_request` builds is accepted, if the key of the keytab opens its ticket, and nothing "
         "else stands against it: the clocks, the ticket's times, a repeat, or a start.",
