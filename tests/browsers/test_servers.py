@@ -100,7 +100,7 @@ from fevstunik.clients import httpx as for_httpx, requests as for_requests
 kind, *urls = sys.argv[1:]
 warnings.simplefilter("ignore")
 if kind == "httpx":
-    session = httpx.Client(auth=for_httpx.Negotiate(), verify=False, trust_env=False, follow_redirects=True)
+    session = httpx.Client(auth=for_httpx.Negotiate(), verify=False, trust_env=False, follow_redirects=True, timeout=60)
 else:
     session = requests.Session()
     session.verify = session.trust_env = False
