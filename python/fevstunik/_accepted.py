@@ -5,13 +5,13 @@ import enum
 import os
 from ctypes import byref, c_int32
 from dataclasses import dataclass, field
-from functools import lru_cache
+from functools import lru_cache, partial
 from types import TracebackType
 from typing import Any, Self, TypeVar
 
 from . import _interface
 from ._codes import Code
-from ._library import Handle, Secret, Shown, done, filled, fitting, read
+from ._library import Handle, Secret, Shown, done, filled, fitting, layout_of, read
 from ._tokens import CHECKSUM, Context
 from ._values import CONFOUNDER, Key, Moment, TicketFlags, TypedData, chosen, moment_of
 
@@ -234,15 +234,20 @@ def known_by(kind: type[_Known], handle: Handle, skew: int, **more: Any) -> _Kno
     return made
 
 
+# (to read all numbers at once takes half as long as one by one)
+_NUMBERS = layout_of(_interface.Known)
+
+
 def _read(handle: Handle) -> dict[str, Any]:
-    known, data = read(_interface.Known, lambda *words: handle.inside("accepted_known", *words))
-    return dict(
-        client=known.client.text(data), service=known.service.text(data), time=moment_of(known.ctime, known.cusec),
-        authtime=known.authtime, starttime=_start(handle), endtime=known.endtime, flags=_flags(known.flags),
-        session_key=Key(known.session_type, known.session_key.of(data)),
-        subkey=Key(known.subkey_type, known.subkey.of(data)) if known.has_subkey else None,
-        seq=known.seq if known.has_seq else None, wants_reply=known.wants_reply,
-        client_type=known.name_type, service_type=known.service_type)
+    known, data = read(_interface.Known, partial(handle.inside, "accepted_known"))
+    (client, client_size, key, key_size, subkey, subkey_size, service, service_size, authtime, endtime, ctime, cusec, flags, seq, client_type,
+     service_type, key_type, subkey_type, has_subkey, has_seq, wants_reply) = _NUMBERS.unpack_from(known)
+    return {
+        "client": data[client:client + client_size].decode(), "service": data[service:service + service_size].decode(),
+        "time": moment_of(ctime, cusec), "authtime": authtime, "starttime": _start(handle), "endtime": endtime, "flags": _flags(flags),
+        "session_key": Key(key_type, data[key:key + key_size]),
+        "subkey": Key(subkey_type, data[subkey:subkey + subkey_size]) if has_subkey else None,
+        "seq": seq if has_seq else None, "wants_reply": wants_reply, "client_type": client_type, "service_type": service_type}
 
 
 # (a member of an enumeration is found more slowly)

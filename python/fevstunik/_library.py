@@ -5,10 +5,12 @@ import atexit
 import ctypes
 import operator
 import os
+import struct
 import threading
 from collections.abc import Callable
 from ctypes import byref
 from dataclasses import fields
+from functools import partial
 from typing import Any, NoReturn, SupportsIndex, TypeVar, Union
 
 from ._codes import Code
@@ -129,8 +131,9 @@ def filled(call: Callable[[Any, int], Answer], room: int = ROOM) -> bytes:
 
 
 def bytes_of(buffer: Any, size: int) -> bytes:
-    """The first bytes of a buffer. (To copy all of a small one is faster than ctypes.string_at.)"""
-    return bytes(buffer.raw[:size])
+    """The first bytes of a buffer."""
+    found: bytes = buffer[:size]
+    return found
 
 
 def octets(data: Bytes) -> bytes:
@@ -167,9 +170,20 @@ _Struct = TypeVar("_Struct", bound=ctypes.Structure)
 
 def read(kind: type[_Struct], call: Callable[[Any, Any, int], Answer]) -> tuple[_Struct, bytes]:
     """The struct that a call returns, and the bytes in which its spans are places."""
-    struct = kind()
-    data = filled(lambda buffer, room: call(byref(struct), buffer, room))
-    return struct, data
+    made = kind()
+    return made, filled(partial(call, byref(made)))
+
+
+def layout_of(kind: type[ctypes.Structure]) -> struct.Struct:
+    """The layout of a struct's numbers, those of its structs among them."""
+    return struct.Struct("@" + _letters(kind))
+
+
+def _letters(kind: Any) -> str:
+    """The types of a struct's numbers, as the module struct names them."""
+    if not issubclass(kind, ctypes.Structure):
+        return str(kind._type_)
+    return "".join(_letters(it) for _, it in kind._fields_)
 
 
 class Secret:
@@ -223,7 +237,7 @@ class Handle(Secret):
         # (a signal handler may make a call while its thread has the lock)
         self._lock = threading.RLock()
         self._opaque: Any = opaque()
-        self._kind = kind
+        self._free = f"{kind}_free"
         # The pointer to it, for a call that has the lock, or for the thread that made it.
         self.pointer: Any = byref(self._opaque)
         self._made_in = here()
@@ -231,7 +245,7 @@ class Handle(Secret):
     def __del__(self) -> None:
         # (weakref.finalize takes seven times as long)
         if not self._is_over and self._made_in == here():
-            self.library.call(f"{self._kind}_free", self.pointer)
+            self.library.call(self._free, self.pointer)
 
     def locked(self) -> threading._RLock:
         """The lock, to be entered for a call."""
@@ -250,7 +264,7 @@ class Handle(Secret):
         return self.library.call(name, self.pointer, *words)
 
     def close(self) -> None:
-        self.call(f"{self._kind}_free")
+        self.call(self._free)
 
     @classmethod
     def end(cls) -> None:
