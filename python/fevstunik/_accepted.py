@@ -239,7 +239,7 @@ _NUMBERS = layout_of(_interface.Known)
 
 
 def _read(handle: Handle) -> dict[str, Any]:
-    known, data = read(_interface.Known, partial(handle.inside, "accepted_known"))
+    known, data = read(_interface.Known, partial(handle.library.call, "accepted_known", handle.accepted))
     (client, client_size, key, key_size, subkey, subkey_size, service, service_size, authtime, endtime, ctime, cusec, flags, seq, client_type,
      service_type, key_type, subkey_type, has_subkey, has_seq, wants_reply) = _NUMBERS.unpack_from(known)
     return {
@@ -261,7 +261,7 @@ def _flags(flags: int) -> TicketFlags:
 
 def _start(handle: Handle) -> int | None:
     start = _interface.Time()
-    answer = handle.inside("accepted_start", byref(start))
+    answer = handle.library.call("accepted_start", handle.accepted, byref(start))
     if answer.code == _NOTHING:
         return None
     done(answer)

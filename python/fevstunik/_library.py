@@ -127,7 +127,9 @@ def filled(call: Callable[[Any, int], Answer], room: int = ROOM) -> bytes:
         room = answer.size
         buffer = ctypes.create_string_buffer(room)
         answer = call(buffer, room)
-    return bytes_of(buffer, done(answer).size)
+    if answer.code != _OK:
+        raise fault_of(answer)
+    return bytes_of(buffer, answer.size)
 
 
 def bytes_of(buffer: Any, size: int) -> bytes:
@@ -228,7 +230,7 @@ os.register_at_fork(after_in_child=_begin_life)
 class Handle(Secret):
     """A handle of the library, of the kind whose function ``KIND_free`` frees it. One call at a time uses it."""
 
-    _made_in: tuple[object, int] | None = None
+    _made_in: tuple[object, int] = object(), 0
     # At the end of the process, when other threads may be in a call still, nothing is freed.
     _is_over = False
 
@@ -240,6 +242,8 @@ class Handle(Secret):
         self._free = f"{kind}_free"
         # The pointer to it, for a call that has the lock, or for the thread that made it.
         self.pointer: Any = byref(self._opaque)
+        # The same to what was accepted, if there is such a thing.
+        self.accepted: Any = self.pointer
         self._made_in = here()
 
     def __del__(self) -> None:
@@ -250,7 +254,8 @@ class Handle(Secret):
     def locked(self) -> threading._RLock:
         """The lock, to be entered for a call."""
         # (in a child, the lock may be held by a thread that isn't there)
-        if self._made_in != here():
+        life, number = self._made_in
+        if life is not _life or number != os.getpid():
             raise RuntimeError("this was made before a fork, and belongs to the process that made it")
         return self._lock
 

@@ -237,14 +237,17 @@ class Connection(Secret):
 
     def _stamp(self) -> tuple[bytes, int, int]:
         """The stamp of the request, and the second and microsecond until which the service would have it kept."""
-        until, stamp = read(_interface.Time, partial(self._handle.call, "login_stamp"))
+        handle = self._handle
+        with handle.locked():
+            until, stamp = read(_interface.Time, partial(handle.library.call, "login_stamp", handle.pointer))
         return stamp, until.seconds, until.micros
 
-    def _settled(self, said: int, at: Moment, random: bytes) -> Login | Refused:
+    def _settled(self, said: int, at: _interface.Time, random: bytes) -> Login | Refused:
         """What is decided after the store has spoken."""
-        buffer, looked, handle = Buffer(), _interface.Time(at.seconds, at.micros), self._handle
+        buffer, handle = Buffer(), self._handle
         with handle.locked():
-            answer, reply = self._whole(handle.inside("login_settle", said, byref(looked), buffer, ROOM), buffer)
+            answer = handle.library.call("login_settle", handle.pointer, said, byref(at), buffer, ROOM)
+            answer, reply = self._whole(answer, buffer)
             return self._outcome(answer, reply, random)
 
     def _let_in(self, reply: bytes, random: bytes) -> Login:
@@ -318,13 +321,13 @@ def _ticks() -> float:
     return time.clock_gettime(time.CLOCK_BOOTTIME)
 
 
-def _later(now: When | None, began: float) -> Moment:
+def _later(now: When | None, began: float) -> _interface.Time:
     """The service's clock, which said `now` when this clock of the machine said `began`."""
     if now is None:
-        return Moment.now()
+        return clock(None)
     at = Moment.of(now)
     more, micros = divmod(at.micros + int(1_000_000 * (_ticks() - began)), 1_000_000)
-    return Moment(min(at.seconds + more, LAST_SECOND), micros)
+    return _interface.Time(min(at.seconds + more, LAST_SECOND), micros)
 
 
 class _LoginHandle(Handle):
@@ -332,10 +335,10 @@ class _LoginHandle(Handle):
 
     def __init__(self) -> None:
         super().__init__("login", _interface.LoginHandle)
-        self._accepted = byref(self._opaque.accepted)
+        self.accepted = byref(self._opaque.accepted)
 
     def inside(self, name: str, *words: Any) -> Any:
-        first = self._accepted if name.startswith("accepted_") else self.pointer
+        first = self.accepted if name.startswith("accepted_") else self.pointer
         return self.library.call(name, first, *words)
 
 
@@ -425,7 +428,7 @@ class Service(Serving):
         REPEAT: a request of this service, client and time was seen before (ticket for host/web@EX, etype 19, kvno 3)
         """
         try:
-            connection = self.login()
+            connection = Connection(self)
         except MemoryError:
             return Refused(Code.OUT_OF_MEMORY)
         return connection.answer(data, now)
