@@ -5,12 +5,10 @@ import atexit
 import ctypes
 import operator
 import os
-import struct
 import threading
 from collections.abc import Callable
 from ctypes import byref
 from dataclasses import fields
-from functools import partial
 from typing import Any, NoReturn, SupportsIndex, TypeVar, Union
 
 from ._codes import Code
@@ -170,22 +168,14 @@ def fitting(number: int, bits: int, signed: bool = False) -> int:
 _Struct = TypeVar("_Struct", bound=ctypes.Structure)
 
 
-def read(kind: type[_Struct], call: Callable[[Any, Any, int], Answer]) -> tuple[_Struct, bytes]:
-    """The struct that a call returns, and the bytes in which its spans are places."""
-    made = kind()
-    return made, filled(partial(call, byref(made)))
-
-
-def layout_of(kind: type[ctypes.Structure]) -> struct.Struct:
-    """The layout of a struct's numbers, those of its structs among them."""
-    return struct.Struct("@" + _letters(kind))
-
-
-def _letters(kind: Any) -> str:
-    """The types of a struct's numbers, as the module struct names them."""
-    if not issubclass(kind, ctypes.Structure):
-        return str(kind._type_)
-    return "".join(_letters(it) for _, it in kind._fields_)
+def read(kind: type[_Struct], call: Callable[..., Answer], *words: Any) -> tuple[_Struct, bytes]:
+    """The struct that a call with these first arguments returns, and the bytes in which its spans are places."""
+    made, buffer = kind(), Buffer()
+    place = byref(made)
+    answer = call(*words, place, buffer, ROOM)
+    if answer.code == _SHORT:
+        return made, filled(lambda *into: call(*words, place, *into), answer.size)
+    return made, bytes_of(buffer, done(answer).size)
 
 
 class Secret:

@@ -7,7 +7,6 @@ import time
 from collections.abc import Iterable
 from ctypes import byref
 from dataclasses import dataclass, field
-from functools import partial
 from typing import TYPE_CHECKING, Any
 
 from . import _interface
@@ -239,7 +238,7 @@ class Connection(Secret):
         """The stamp of the request, and the second and microsecond until which the service would have it kept."""
         handle = self._handle
         with handle.locked():
-            until, stamp = read(_interface.Time, partial(handle.library.call, "login_stamp", handle.pointer))
+            until, stamp = read(_interface.Time, handle.library.call, "login_stamp", handle.pointer)
         return stamp, until.seconds, until.micros
 
     def _settled(self, said: int, at: _interface.Time, random: bytes) -> Login | Refused:
