@@ -61,8 +61,8 @@ class _File:
         self._cursor = self.base.cursor()
 
     def run(self, last: float, statement: str, *words: object) -> sqlite3.Cursor:
-        """Run a statement, and return its cursor, which the next one uses, too. It is tried again while another process writes, until this
-        moment of the monotonic clock."""
+        """Run a statement, and return its cursor, which the next one uses, too. It is tried again while another
+        process writes, until this moment of the monotonic clock."""
         tried = 0
         while True:
             try:
@@ -77,8 +77,8 @@ class _File:
 
 
 def _wait(tried: int) -> None:
-    """Wait for another process that writes, after so many tries. Unless it was interrupted, it is done sooner than after any sleep (even one of
-    0 seconds takes 50 microseconds)."""
+    """Wait for another process that writes, after so many tries. Unless it was interrupted, it is done sooner than
+    after any sleep (even one of 0 seconds takes 50 microseconds)."""
     if tried >= _AT_ONCE:
         time.sleep(min(0.0001 * 2 ** (tried - _AT_ONCE), 0.002) * random.random())
 
