@@ -74,7 +74,7 @@ def test_a_store_after_a_fork(path):
 def test_a_fork_while_a_store_is_asked(path):
     """The child would take the parent's locks for its own: it refuses, and the parent goes on."""
     store = SQLite(path)
-    busy = store._connection()
+    busy = store._connection(store._idle())
 
     def child(_):
         for call in (lambda: store.add(b"a", LATER), lambda: SQLite(path)):
@@ -160,6 +160,22 @@ def test_old_stamps_are_forgotten(path):
         assert 0 <= before + 1 - left <= 64
         before = left
     assert before == 300 and all(not store.add(b"new %d" % it, LATER) for it in range(300))
+
+
+def test_old_stamps_after_many_that_are_kept(path):
+    """Those that are kept are passed by, a portion at a time."""
+    store = SQLite(path)
+    until = NOW * 1_000_000
+    with contextlib.closing(sqlite3.connect(store.path)) as base, base:
+        base.executemany("INSERT INTO stamps VALUES (?, ?)", [(b"a%03d" % it, 2 * until) for it in range(200)])
+        base.executemany("INSERT INTO stamps VALUES (?, ?)", [(b"z%03d" % it, 1) for it in range(10)])
+    for number in range(3 * 32 + 1):
+        assert store.add(b"%d" % number + b"b" * 8, LATER)
+    assert rows(store, "SELECT count(*) FROM stamps WHERE key >= x'7a'") == (10,)
+    for number in range(3 * 32):
+        assert store.add(b"%d" % number + b"c" * 8, LATER)
+    assert rows(store, "SELECT count(*) FROM stamps WHERE key >= x'7a'") == (0,)
+    assert rows(store, "SELECT count(*) FROM stamps") == (200 + 6 * 32 + 1,)
 
 
 def test_a_stamp_that_may_have_been_forgotten(path):
