@@ -9,3 +9,4 @@ pub mod OrderLaws
 pub mod SetLaws
 pub mod SizeLaws
 pub mod TimedLaws
+pub mod TimesLaws

@@ -17,6 +17,7 @@ use crate::pair::{ByClient, Pair};
 use crate::skew::Skew;
 use crate::stamp_bytes::write_time;
 use krb_name::Principal;
+use krb_tally::Timed;
 use krb_time::{Microseconds, Moment, Seconds};
 use std::alloc::{AllocError, Global};
 use std::cmp::Ordering;
@@ -145,6 +146,14 @@ fn moment_of(micros: i64) -> Option<Moment>
         micros.div_euclid(1_000_000),
         micros.rem_euclid(1_000_000) as u32,
     )
+}
+
+impl Timed for Tuple {
+    ghost timestamp = { λ stamp. stamp.time };
+
+    fn timestamp(&self) -> i64 {
+        self.time.micros()
+    }
 }
 
 impl Ord for Tuple {

@@ -1,5 +1,5 @@
 -- The items of all buckets, and after a change of one of them.
-use Rattle.std.proofs.Common.{◌≡◌, ℕ, zero, suc, ℤ, ◌≤ℤ◌, ◌<ℤ◌, ◌+◌, ◌<◌, ◌≤◌, Bool, false, List, [], ◌∷◌, ◌++◌, All, Contains, length, get_or, set, take, drop, refl, sym, ap, subst, ◌∙◌, add-one, append_assoc, length-append, int_lt, not, Option, Some, is_some, slice_get, unwrap_or, true≢false, arith}
+use Rattle.std.proofs.Common.{◌≡◌, ℕ, zero, suc, ℤ, ◌≤ℤ◌, ◌<ℤ◌, ◌+◌, ◌<◌, ◌≤◌, Bool, false, List, [], ◌∷◌, ◌++◌, All, Contains, length, get_or, set, take, drop, refl, sym, ap, subst, ◌∙◌, append_assoc, length-append, int_lt, not, Option, Some, is_some, slice_get, unwrap_or, true≢false, arith}
 use Rattle.std.specs.List.{insert, remove}
 use Rattle.std.specs.List.Sorted.{IsPermutation}
 use Rattle.std.proofs.lemmas.Int.{ints}
@@ -8,7 +8,7 @@ use Rattle.std.proofs.lemmas.List.Elements.{All-append, All-contains, All-nil, A
 use Rattle.std.proofs.lemmas.List.Sorted.{IsPermutation-middle, IsPermutation-sym}
 use Rattle.std.proofs.lemmas.List.Sums.{count_by-le-length, length-filter}
 use Rattle.krb_tally.specs.Times.{HasEqual, LacksEqual, number_since}
-use Rattle.krb_tally.specs.Inner.Buckets.{AddsIn, Fits, IsAt, IsIn, IsPlace, IsRising, Reaches, TakesOut, all_of}
+use Rattle.krb_tally.specs.Inner.Buckets.{AddsIn, Fits, IsRising, Reaches, TakesOut, all_of}
 use Rattle.krb_tally.proofs.BucketLaws.{all_left, all_right, all_since, apart, at_place, both_parts, early_lacks, has_right, lacks_both, late_lacks, none_since, rising_less, rising_more, rising_right}
 
 pub all_append : {X : Type 0} (a b : List (List X)) → all_of (a ++ b) ≡ all_of a ++ all_of b
@@ -341,6 +341,17 @@ module _ {X : Type 0} (when : X → ℤ) where
 pub found_after : {X : Type 0} (eq : X → X → Bool) (buckets : List (List X)) (at : ℕ) (item : X) → HasEqual eq (all_of (drop at buckets)) item → HasEqual eq (all_of buckets) item
 found_after eq buckets at item has =
     subst (λ items. HasEqual eq items item) (sym (cut buckets at)) (has_right eq (all_of (take at buckets)) (all_of (drop at buckets)) item has)
+
+-- the first of the first bucket is the first of all
+pub head_of : {X : Type 0} (buckets : List (List X)) (here : List X) (first : X) → Some here ≡ slice_get buckets 0 → Contains here first → first ≡ get_or here 0 first
+    → slice_get (all_of buckets) 0 ≡ Some first
+head_of [] here first is there place = absurd (true≢false (ap (λ (one : Option _). is_some one) is))
+head_of ([] ∷ xs) here first is there place =
+    let none : here ≡ [] = ap (λ one. unwrap_or one here) is in
+    absurd (let within = there.1 in let length_is = ap (λ items. length items) none in omega arith)
+head_of ((y ∷ ys) ∷ xs) here first is there place =
+    let same : here ≡ y ∷ ys = ap (λ one. unwrap_or one here) is in
+    sym (ap (λ it. Some it) (place ∙ ap (λ items. get_or items 0 first) same))
 
 -- what is taken out at the first place is the first item
 pub first_out : {X : Type 0} (old new : List (List X)) (bucket at : ℕ) (item : X) → TakesOut old bucket at item new → bucket ≡ 0 → at ≡ 0 → all_of old ≡ item ∷ all_of new

@@ -37,7 +37,7 @@ impl<T: Timed> Model for Tally<T> {
     ghost view = { λ tally. all_of tally.buckets.items };
 
     ghost invariant = { λ tally. (tally.len ≡ length (all_of tally.buckets.items))
-        × ((length (all_of tally.buckets.items) < 2 ^ 64) × IsRising T.timestamp (all_of tally.buckets.items)) };
+        × ((length (all_of tally.buckets.items) < 2 ^ 63) × IsRising T.timestamp (all_of tally.buckets.items)) };
 }
 
 impl<T: Timed + Drop> Tally<T> {
@@ -53,7 +53,8 @@ impl<T: Timed + Drop> Tally<T> {
 
     /// Returns how many items there are.
     pub fn len(&self) -> usize
-        ensures { result ≡ length self.now }
+        ensures len { result ≡ length self.now }
+        ensures small { result < 2 ^ 63 }
     {
         let Tally { len, .. } = self;
         *len
@@ -61,7 +62,7 @@ impl<T: Timed + Drop> Tally<T> {
 
     /// Returns the first item, if there is any. No other is before it.
     pub fn first(&self) -> Option<&T>
-        ensures there { MatchOption result (self.now ≡ []) (λ first. Contains self.now first.now) }
+        ensures first { MatchOption result (self.now ≡ []) (λ first. slice_get self.now 0 ≡ Some first.now) }
         ensures least { MatchOption result (self.now ≡ []) (λ first. All (λ item. T.timestamp first.now ≤ℤ T.timestamp item) self.now) }
     {
         first_of(self.buckets.as_slice())
@@ -83,11 +84,11 @@ impl<T: Timed + Drop> Tally<T> {
         ensures ok { OnOk result (IsPermutation (item ∷ self.old) self.new) }
         ensures err { OnErr result (self.new ≡ self.old) }
     {
-        let Some(len) = self.len.checked_add(1) else {
+        if self.len >= isize::MAX as usize {
             return Err(AllocError);
-        };
+        }
         add_in(&mut self.buckets, item)?;
-        self.len = len;
+        self.len += 1;
         Ok(())
     }
 
@@ -152,7 +153,7 @@ fn has_in<T: Timed + PartialEq + Drop>(buckets: &[Bucket<T>], item: &T) -> bool
 // The first of the items, which are in order.
 fn first_of<T: Timed + Drop>(buckets: &[Bucket<T>]) -> Option<&T>
     requires { IsRising T.timestamp (all_of buckets.now) }
-    ensures there { MatchOption result (all_of buckets.now ≡ []) (λ first. Contains (all_of buckets.now) first.now) }
+    ensures first { MatchOption result (all_of buckets.now ≡ []) (λ first. slice_get (all_of buckets.now) 0 ≡ Some first.now) }
     ensures least { MatchOption result (all_of buckets.now ≡ []) (λ first. All (λ item. T.timestamp first.now ≤ℤ T.timestamp item) (all_of buckets.now)) }
 {
     match buckets.first() {

@@ -1,4 +1,4 @@
-use Rattle.std.proofs.Common.{◌≡◌, ◌<◌, ◌<ℤ◌, ◌≤ℤ◌, ◌+◌, ℕ, ℤ, Bool, List, [], All, Contains, length, get_or, take, arith, subst}
+use Rattle.std.proofs.Common.{◌≡◌, ◌<◌, ◌<ℤ◌, ◌≤ℤ◌, ℕ, ℤ, Bool, List, [], All, Contains, length, get_or, take, arith, subst}
 use Rattle.std.proofs.lemmas.Int.{ints}
 use Rattle.std.proofs.lemmas.List.{get_or_read, take_all}
 use Rattle.krb_tally.specs.Times.{HasEqual, LacksEqual}

@@ -1,5 +1,4 @@
-use Rattle.std.proofs.Common.{◌≡◌, ◌+◌, length, take, arith}
-use Rattle.krb_tally.specs.Inner.Buckets.{all_of}
+use Rattle.std.proofs.Common.{◌+◌, arith}
 use Rattle.krb_tally.proofs.TallyLaws.{length_more, length_part}
 use Rattle.krb_tally.proofs.tally.number_of_all.Goals as goal
 

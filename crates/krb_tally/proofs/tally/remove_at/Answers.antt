@@ -1,4 +1,4 @@
-use Rattle.std.proofs.Common.{◌≡◌, ◌∙◌, ◌<◌, length, List, [], get_or, set, ap, sym, subst, arith}
+use Rattle.std.proofs.Common.{◌≡◌, ◌∙◌, ◌<◌, length, get_or, set, ap, sym, subst, arith}
 use Rattle.std.specs.List.{remove}
 use Rattle.krb_tally.specs.Inner.Buckets.{IsRising, TakesOut, all_of}
 use Rattle.krb_tally.proofs.TallyLaws.{gone_in, less_in, stands, taken_rising}

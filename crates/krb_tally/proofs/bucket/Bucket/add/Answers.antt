@@ -1,8 +1,8 @@
-use Rattle.std.proofs.Common.{◌≡◌, ℕ, ℤ, List, ◌≤ℤ◌, ◌<ℤ◌, ◌<◌, All, length, take, drop, subst, arith, to_z, of_z}
+use Rattle.std.proofs.Common.{◌≡◌, ℕ, ℤ, List, ◌≤ℤ◌, ◌<ℤ◌, All, take, drop, subst, arith, to_z, of_z}
 use Rattle.std.specs.Int.{w64}
 use Rattle.std.specs.List.{insert}
 use Rattle.std.proofs.lemmas.Int.{ints}
-use Rattle.krb_tally.specs.Inner.Buckets.{AddsIn, IsRising}
+use Rattle.krb_tally.specs.Inner.Buckets.{AddsIn}
 use Rattle.krb_tally.proofs.BucketLaws.{added_length, added_rising, adds}
 use Rattle.krb_tally.proofs.bucket.Bucket.add.Goals as goal
 

@@ -1,8 +1,8 @@
-use Rattle.std.proofs.Common.{◌≡◌, ◌≢◌, ◌<◌, ◌≤ℤ◌, ◌<ℤ◌, ℕ, ℤ, List, All, get_or, take, drop, length, ap, sym, subst, ◌∙◌, arith, to_z, of_z, rules}
+use Rattle.std.proofs.Common.{◌≡◌, ◌≢◌, ◌<◌, ◌≤ℤ◌, ◌<ℤ◌, ℕ, ℤ, List, All, get_or, take, drop, length, ap, subst, ◌∙◌, arith, to_z, of_z, rules}
 use Rattle.std.specs.Int.{w64}
 use Rattle.std.proofs.lemmas.Int.{ints}
 use Rattle.std.proofs.lemmas.List.{get_or_read}
-use Rattle.krb_tally.specs.Inner.Buckets.{IsAt, IsRising}
+use Rattle.krb_tally.specs.Inner.Buckets.{IsRising}
 use Rattle.krb_tally.proofs.BucketLaws.{lacks}
 use Rattle.krb_tally.proofs.bucket.Bucket.find.Goals.{else-at-len-via-then-at-len+else-timestamp-time, else-at-len-via-else-at-len}
 use Rattle.krb_tally.proofs.bucket.Bucket.find.Goals as goal

@@ -1,4 +1,4 @@
-use Rattle.std.proofs.Common.{ℤ, List, ap, sym, subst, arith, length}
+use Rattle.std.proofs.Common.{ap, sym, subst, arith, length}
 use Rattle.krb_tally.specs.Inner.Buckets.{IsRising}
 use Rattle.krb_tally.proofs.BucketLaws.{rising_remove}
 use Rattle.krb_tally.proofs.bucket.Bucket.take.Goals as goal
