@@ -1,9 +1,9 @@
 -- The times of each client after one more tuple or one less.
-use Rattle.std.proofs.Common.{◌≡◌, ◌≢◌, ℕ, ℤ, zero, suc, ◌+◌, ◌<◌, ◌≤◌, ◌&&◌, Bool, true, false, not, cond, int_lt, Option, Some, None, List, [], ◌∷◌, length, All, Contains, get_or, refl, sym, ap, subst, ◌∙◌, arith}
+use Rattle.std.proofs.Common.{◌≡◌, ◌≢◌, ◌⊎◌, inl, inr, ℕ, ℤ, zero, suc, ◌≤ℤ◌, ◌+◌, ◌<◌, ◌≤◌, ◌&&◌, Bool, true, false, not, cond, int_lt, Option, Some, None, List, [], ◌∷◌, length, All, Contains, get_or, refl, sym, ap, subst, ◌∙◌, arith}
 use Rattle.std.specs.Prelude.{Result, Ok, Err, OnErr, OnOk}
-use Rattle.std.specs.List.{filter, list_any, sum_by}
+use Rattle.std.specs.List.{filter}
 use Rattle.std.specs.List.Sorted.{IsPermutation}
-use Rattle.std.specs.Ordering.{is_eq}
+use Rattle.std.specs.Ordering.{eq_by_cmp, is_eq}
 use Rattle.std.specs.declared.cmp.Ordering.{Ordering}
 use Rattle.std.specs.declared.cmp.Ordering.TheVariants.{Less, Equal, Greater}
 use Rattle.std.specs.Cmp.{IsTotalOrder}
@@ -12,20 +12,24 @@ use Rattle.std.specs.Map.{lookup}
 use Rattle.std.specs.BTreeMap.{BTreeMap, Updates, get, is_at}
 use Rattle.std.proofs.lemmas.Cmp.{tied_itself}
 use Rattle.std.proofs.lemmas.Int.{ints}
-use Rattle.std.proofs.lemmas.List.Sorted.{IsPermutation-refl, length_permutation, sum_by-IsPermutation}
+use Rattle.std.proofs.lemmas.List.Sorted.{Contains-permutation, IsPermutation-refl, IsPermutation-sym, length_permutation, sum_by-IsPermutation}
+use Rattle.std.proofs.lemmas.List.Elements.{All-contains}
+use Rattle.std.proofs.lemmas.Map.Views.{tells_apart}
+use Rattle.std.proofs.lemmas.List.Sums.{length-filter}
 use Rattle.krb_replay.specs.Stamp.{RealmAndName, Stamp}
-use Rattle.krb_replay.specs.Inner.Held.{AreTimed, is_before, is_of, is_recent, number_of, since}
-use Rattle.krb_replay.specs.Inner.Order.{TwoNames, client_cmp, names_of}
+use Rattle.krb_replay.specs.Inner.Held.{AreCounted, AreTimed, is_before, is_of, is_recent, number_before, number_of, since}
+use Rattle.krb_replay.specs.Inner.Counts.{AddsOne}
+use Rattle.krb_replay.specs.Memory.{AddsStamp}
+use Rattle.krb_tally.specs.Times.{HasEqual, LacksEqual}
+use Rattle.krb_replay.specs.Inner.Order.{TwoNames, client_cmp, names_of, stamp_cmp, stamp_total}
 use Rattle.krb_replay.specs.Inner.Times.{AddsTime, HasNoEmpty, SameTimes, TakesTime, number_by, one_at, times_by}
-use Rattle.krb_replay.proofs.HeldLaws.{filter_longer, weighed}
-
-as_sum : {X : Type 0} (p : X → Bool) (xs : List X) → length (filter p xs) ≡ sum_by (λ x. weighed (p x)) xs
-as_sum p [] = refl
-as_sum p (x ∷ xs) = filter_longer p x xs ∙ ap (λ (n : ℕ). weighed (p x) + n) (as_sum p xs)
+use Rattle.krb_replay.proofs.DropLaws.{among_rest, first_or_rest}
+use Rattle.krb_replay.proofs.HeldLaws.{all_of_none, both_kept, filter_longer, late_is, weighed}
+use Rattle.krb_replay.proofs.OrderLaws.{exact_stamps}
 
 -- as many pass in another order
 pub same_number : {X : Type 0} (p : X → Bool) (xs ys : List X) → IsPermutation xs ys → length (filter p ys) ≡ length (filter p xs)
-same_number p xs ys moved = as_sum p ys ∙ (sum_by-IsPermutation (λ x. weighed (p x)) xs ys moved ∙ sym (as_sum p xs))
+same_number p xs ys moved = length-filter p ys ∙ (sum_by-IsPermutation (λ x. cond (p x) 1 0) xs ys moved ∙ sym (length-filter p xs))
 
 -- one more, or one less
 pub one_more : {X : Type 0} (p : X → Bool) (x : X) (xs ys : List X) → IsPermutation (x ∷ xs) ys → length (filter p ys) ≡ weighed (p x) + length (filter p xs)
@@ -186,6 +190,10 @@ pub time_there : (time : ℤ) (times : List ℤ) → 0 < length (filter (λ (t :
 time_there time [] some = absurd (omega arith)
 time_there time (x ∷ xs) some = there_by (not (int_lt x time) && not (int_lt time x)) time x xs refl some (time_there time xs)
 
+pub none_there : (times : List ℤ) → length times ≤ 0 → times ≡ []
+none_there [] none = refl
+none_there (x ∷ times) none = absurd (omega arith)
+
 -- one that is there alone
 pub alone : (times : List ℤ) (time : ℤ) → length times ≤ 1 → Contains times time → times ≡ time ∷ []
 alone [] time few there = let within = there.1 in absurd (omega arith)
@@ -203,3 +211,145 @@ from_ok (Err e) give h = h
 pub from_err : {A E : Type 0} {P Q : Type 0} (answer : Result A E) → (P → Q) → OnErr answer P → OnErr answer Q
 from_err (Ok x) give h = h
 from_err (Err e) give h = give h
+
+-- ---- what is held
+
+swap_tests : (a b : Bool) → weighed (a && b) ≡ weighed (b && a)
+swap_tests true true = refl
+swap_tests true false = refl
+swap_tests false true = refl
+swap_tests false false = refl
+
+module _ (cmp : TwoNames → TwoNames → Ordering) where
+  pub timed_none : (stamps : List Stamp) (times : BTreeMap TwoNames (List ℤ)) → stamps ≡ [] → ((names : TwoNames) → times_by cmp times names ≡ []) → HasNoEmpty cmp times
+      → AreTimed cmp stamps times
+  timed_none stamps times is none no_empty = record {
+    each = λ names passes. ap (λ (list : List ℤ). length (filter passes list)) (none names)
+        ∙ ap (λ (list : List Stamp). length (filter (λ stamp. passes stamp.time && is_at (cmp (names_of stamp)) names) list)) (sym is);
+    no_empty = no_empty;
+  }
+
+  pub timed_still : (stamps : List Stamp) (before after : BTreeMap TwoNames (List ℤ)) → AreTimed cmp stamps before → SameTimes cmp before after → AreTimed cmp stamps after
+  timed_still stamps before after timed same = record {
+    each = λ names passes. same.times names passes ∙ timed.each names passes;
+    no_empty = same.no_empty timed.no_empty;
+  }
+
+  pub timed_more : (old new : List Stamp) (before after : BTreeMap TwoNames (List ℤ)) (added : Stamp) → AreTimed cmp old before → IsPermutation (added ∷ old) new
+      → AddsTime cmp before after (names_of added) added.time → AreTimed cmp new after
+  timed_more old new before after added timed moved adds = record {
+    each = λ names passes.
+        let one = one_more (λ (stamp : Stamp). passes stamp.time && is_at (cmp (names_of stamp)) names) added old new moved in
+        let was = timed.each names passes in
+        let now = adds.times names passes in
+        let swapped = swap_tests (passes added.time) (is_at (cmp (names_of added)) names) in
+        omega arith;
+    no_empty = adds.no_empty timed.no_empty;
+  }
+
+  pub timed_less : (first : Stamp) (rest : List Stamp) (before after : BTreeMap TwoNames (List ℤ)) → AreTimed cmp (first ∷ rest) before
+      → TakesTime cmp before after (names_of first) first.time → AreTimed cmp rest after
+  timed_less first rest before after timed takes = record {
+    each = λ names passes.
+        let all = filter_longer (λ (stamp : Stamp). passes stamp.time && is_at (cmp (names_of stamp)) names) first rest in
+        let was = timed.each names passes in
+        let now = takes.times names passes in
+        let swapped = swap_tests (passes first.time) (is_at (cmp (names_of first)) names) in
+        omega arith;
+    no_empty = takes.no_empty timed.no_empty;
+  }
+
+  -- the counts after one more stamp
+  pub counted_more : (old new : List Stamp) (before after : BTreeMap TwoNames ℕ) (added : Stamp) → AreCounted cmp old before → IsPermutation (added ∷ old) new
+      → AddsOne cmp before after (names_of added) → AreCounted cmp new after
+  counted_more old new before after added counted moved more = record {
+    each = λ names.
+        let one = one_more (λ (stamp : Stamp). is_at (cmp (names_of stamp)) names) added old new moved in
+        let was = counted.each names in
+        let now = more.counts names in
+        omega arith;
+    no_zero = more.no_zero counted.no_zero;
+  }
+
+  module _ (total : IsTotalOrder cmp) where
+    own_key : (names : TwoNames) → is_at (cmp names) names ≡ true
+    own_key names = ap is_eq (tied_itself total names)
+
+    -- what was added is there
+    pub added_there : (old new : BTreeMap TwoNames (List ℤ)) (names : TwoNames) (time : ℤ) → AddsTime cmp old new names time → Contains (times_by cmp new names) time
+    added_there old new names time adds =
+        time_there time (times_by cmp new names)
+        (let now = adds.times names (λ (t : ℤ). not (int_lt t time) && not (int_lt time t)) in
+        let one : one_at cmp names names (not (int_lt time time) && not (int_lt time time)) ≡ 1 =
+        ap (λ (at : Bool). cond (at && (not (int_lt time time) && not (int_lt time time))) 1 0) (own_key names) ∙ ap (λ (at : Bool). cond at 1 0) (own_time time) in
+        omega arith)
+
+    -- the first stamp's time is there
+    pub first_timed : (first : Stamp) (rest : List Stamp) (times : BTreeMap TwoNames (List ℤ)) → AreTimed cmp (first ∷ rest) times
+        → Contains (times_by cmp times (names_of first)) first.time
+    first_timed first rest times timed =
+        time_there first.time (times_by cmp times (names_of first))
+        (let passes : ℤ → Bool = λ (t : ℤ). not (int_lt t first.time) && not (int_lt first.time t) in
+        let is = timed.each (names_of first) (λ (t : ℤ). not (int_lt t first.time) && not (int_lt first.time t)) in
+        let all = filter_longer (λ (stamp : Stamp). (not (int_lt stamp.time first.time) && not (int_lt first.time stamp.time)) && is_at (cmp (names_of stamp)) (names_of first)) first rest in
+        let one : weighed ((not (int_lt first.time first.time) && not (int_lt first.time first.time)) && is_at (cmp (names_of first)) (names_of first)) ≡ 1 =
+        ap (λ (at : Bool). weighed (at && is_at (cmp (names_of first)) (names_of first))) (own_time first.time) ∙ ap (λ (at : Bool). weighed at) (own_key (names_of first)) in
+        omega arith)
+
+-- one more that isn't before a moment
+pub none_before : (oldest : ℤ) (old new now : List Stamp) (added : Stamp) → IsPermutation (added ∷ old) new → old ≡ now → oldest ≤ℤ added.time
+    → number_before None oldest new ≡ number_before None oldest now
+none_before oldest old new now added moved same recent =
+    let one = one_more (is_before oldest) added old new moved in
+    let later : weighed (is_before oldest added) ≡ 0 = ap weighed (late_is oldest added recent) in
+    let few = all_of_none (filter (is_before oldest) new) in
+    let were = all_of_none (filter (is_before oldest) old) in
+    let whole = ap (λ (stamps : List Stamp). number_before None oldest stamps) same in
+    omega arith
+
+-- how many of a client there are, and how many since a moment
+pub number_of_client : (client : RealmAndName) (names : TwoNames) (stamps : List Stamp) (times : BTreeMap TwoNames (List ℤ)) → names.1 ≡ client → AreTimed client_cmp stamps times
+    → length (times_by client_cmp times names) ≡ number_of (Some client) stamps
+number_of_client client names stamps times is timed =
+    sym (all_pass (times_by client_cmp times names)) ∙ (timed.each names (λ (time : ℤ). true)
+    ∙ ap (λ (name : RealmAndName). number_of (Some name) stamps) is)
+
+pub number_since_of : (client : RealmAndName) (names : TwoNames) (oldest : ℤ) (stamps : List Stamp) (times : BTreeMap TwoNames (List ℤ)) → names.1 ≡ client → AreTimed client_cmp stamps times
+    → number_by client_cmp times names (is_recent oldest) ≡ number_of (Some client) (since oldest stamps)
+number_since_of client names oldest stamps times is timed =
+    timed.each names (is_recent oldest)
+    ∙ (ap (λ (list : List Stamp). length list)
+    (sym (both_kept (λ stamp. is_at (client_cmp (names_of stamp)) names) (λ stamp. not (is_before oldest stamp)) (λ stamp. is_recent oldest stamp.time && is_at (client_cmp (names_of stamp)) names)
+    (λ stamp. refl) stamps))
+    ∙ ap (λ (name : RealmAndName). number_of (Some name) (since oldest stamps)) is)
+
+-- a stamp is added
+pub added_by : (old new : List Stamp) (added : Stamp) → IsPermutation (added ∷ old) new → AddsStamp (Contains old) (Contains new) added
+added_by old new added moved stamp = (
+  λ there. elim (first_or_rest added old stamp (Contains-permutation new (added ∷ old) stamp (IsPermutation-sym (added ∷ old) new moved) there)) [
+    | inl same ↦ inl (sym same)
+    | inr before ↦ inr before
+  ],
+  λ either. Contains-permutation (added ∷ old) new stamp moved (elim either [
+    | inl same ↦ (zero, omega arith, sym same)
+    | inr before ↦ among_rest added old stamp before
+  ]),
+)
+
+-- what a look-up finds
+pub found_by : (held stamps : List Stamp) (stamp : Stamp) (answer : Bool) → held ≡ stamps → (answer ≡ true → HasEqual (eq_by_cmp stamp_cmp) held stamp)
+    → (answer ≡ false → LacksEqual (λ (one : Stamp). one.time) (eq_by_cmp stamp_cmp) held stamp)
+    → (answer ≡ true → Contains stamps stamp) × (Contains stamps stamp → answer ≡ true)
+found_by held stamps stamp true same found lacks = (
+  λ yes. let has = found yes in
+      subst (λ (list : List Stamp). Contains list stamp) same (subst (λ (one : Stamp). Contains held one) (tells_apart exact_stamps has.one stamp has.equal) has.there),
+  λ there. refl,
+)
+found_by held stamps stamp false same found lacks = (
+  λ yes. absurd (cc),
+  λ there.
+      let none = All-contains (λ (one : Stamp). one.time ≡ stamp.time → eq_by_cmp stamp_cmp one stamp ≡ false) held stamp (lacks refl)
+      (subst (λ (list : List Stamp). Contains list stamp) (sym same) there) refl in
+      let own : eq_by_cmp stamp_cmp stamp stamp ≡ true = ap is_eq (tied_itself stamp_total stamp) in
+      absurd (cc),
+)

@@ -54,8 +54,11 @@ impl ClientTimes {
         ensures ok { OnOk result (AddsTime client_cmp self.old.times self.new.times client time) }
         ensures err { OnErr result (SameTimes client_cmp self.old.times self.new.times) }
     {
-        if let Some(times) = self.times.get_mut(&client) {
-            return times.add(time);
+        if self.of(&client) > 0 {
+            match self.times.get_mut(&client) {
+                Some(times) => return times.add(time),
+                None => return Err(AllocError),
+            }
         }
         let mut times = Tally::new(self.alloc);
         times.add(time)?;

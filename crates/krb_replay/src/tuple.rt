@@ -82,6 +82,13 @@ impl Tuple {
         &self.names
     }
 
+    /// Returns one more holder of the names. Allocates no memory.
+    pub(crate) fn share_names(&self) -> Result<ByClient, AllocError>
+        ensures { IfOk result (λ names. names ≡ names_of self.now) }
+    {
+        Ok(ByClient::new(self.names.pair().share()?))
+    }
+
     /// Returns whether the tuple has the same client as another one, if there is another.
     pub(crate) fn is_of(&self, client_of: Option<&Tuple>) -> bool
         ensures { result ≡ is_of (option_map (λ tuple. tuple.now.client) client_of.entry) self.now }

@@ -5,11 +5,11 @@ use Rattle.std.specs.Prelude.{◌≡◌, ◌⊎◌, ◌&&◌, ◌+◌, ◌≤◌
 use Rattle.std.specs.List.{filter}
 use Rattle.std.specs.BTreeMap.{BTreeMap, is_at}
 use Rattle.std.specs.declared.cmp.Ordering.{Ordering}
-use Rattle.std.specs.Ordering.{is_eq}
+use Rattle.std.specs.Ordering.{eq_by_cmp, is_eq}
 use Rattle.krb_replay.specs.Stamp.{RealmAndName, Stamp}
 use Rattle.krb_replay.specs.Inner.Counts.{HasNoZero, count_by}
 use Rattle.krb_replay.specs.Inner.Times.{HasNoEmpty, number_by}
-use Rattle.krb_replay.specs.Inner.Order.{TwoNames, name_cmp, names_of}
+use Rattle.krb_replay.specs.Inner.Order.{TwoNames, name_cmp, names_of, stamp_cmp}
 
 abbrev pub is_before : ℤ → Stamp → Bool
 is_before oldest stamp = int_lt stamp.time oldest
@@ -43,6 +43,10 @@ AreLive oldest held aside = (since oldest held ≡ held) × (aside ≡ [])
 abbrev pub FreesAtMost : ℕ → ℤ → List Stamp → List Stamp → List Stamp → List Stamp → Type 0
 FreesAtMost some oldest old aside new left = (length new + length left + some ≡ length old + length aside)
     ⊎ (AreLive oldest new left × ((length new + length left ≤ length old + length aside) × (length old + length aside ≤ length new + length left + some)))
+
+-- no stamp is there twice
+abbrev pub IsOnce : List Stamp → Type 0
+IsOnce stamps = (stamp : Stamp) → length (filter (λ one. eq_by_cmp stamp_cmp one stamp) stamps) ≤ 1
 
 -- The times of each key's stamps are kept, each as often as a stamp has it. No key is kept that no
 -- stamp has.
