@@ -226,6 +226,7 @@ fn uncount(clients: &mut ClientTimes, pairs: &mut Counts<Pair>, names: &ByClient
     ensures client { TakesTime client_cmp clients.old.times clients.new.times names.now time }
     ensures pair { TakesOne pair_cmp pairs.old.counts pairs.new.counts names.now }
 {
+    let pair = names.pair();
     clients.remove(names, time);
-    pairs.remove(names.pair());
+    pairs.remove(pair);
 }

@@ -159,7 +159,8 @@ impl Timed for Tuple {
     ghost timestamp = { λ stamp. stamp.time };
 
     fn timestamp(&self) -> i64 {
-        self.time.micros()
+        let time = self.time();
+        time.micros()
     }
 }
 

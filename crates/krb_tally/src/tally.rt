@@ -344,7 +344,11 @@ fn add_in<T: Timed + Drop>(buckets: &mut Vec<Bucket<T>>, item: T) -> Result<(), 
 }
 
 // Adds an item to a bucket.
-fn add_to<T: Timed + Drop>(buckets: &mut Vec<Bucket<T>>, bucket: usize, item: T) -> Result<(), AllocError>
+fn add_to<T: Timed + Drop>(
+    buckets: &mut Vec<Bucket<T>>,
+    bucket: usize,
+    item: T,
+) -> Result<(), AllocError>
     requires within { bucket < length buckets.old.items }
     requires fits { Fits T.timestamp buckets.old.items (T.timestamp item) bucket (suc bucket) }
     requires rising { IsRising T.timestamp (all_of buckets.old.items) }
@@ -357,7 +361,11 @@ fn add_to<T: Timed + Drop>(buckets: &mut Vec<Bucket<T>>, bucket: usize, item: T)
 }
 
 // Adds a bucket of one item.
-fn add_new<T: Timed + Drop>(buckets: &mut Vec<Bucket<T>>, bucket: usize, item: T) -> Result<(), AllocError>
+fn add_new<T: Timed + Drop>(
+    buckets: &mut Vec<Bucket<T>>,
+    bucket: usize,
+    item: T,
+) -> Result<(), AllocError>
     requires within { bucket ≤ length buckets.old.items }
     requires fits { Fits T.timestamp buckets.old.items (T.timestamp item) bucket bucket }
     requires rising { IsRising T.timestamp (all_of buckets.old.items) }

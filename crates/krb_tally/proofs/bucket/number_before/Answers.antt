@@ -15,13 +15,21 @@ is_late when items middle here said moment is time less = subst (λ one. moment 
 pub loop-low-preserved-then-timestamp-time : goal.loop-low-preserved-then-timestamp-time
 loop-low-preserved-then-timestamp-time g c =
     let inv = c.loop-low.invariant in
-    let early = c.if-timestamp-time.true in
-    (omega arith, inv.1, search_more g.T.Timed.timestamp c.args.items.now c.requires _ c.index-items-middle.result (to_z w64 (of_z w64 c.args.time)) (omega arith)
-    (is_early g.T.Timed.timestamp c.args.items.now _ c.index-items-middle.result c.timestamp.result (to_z w64 (of_z w64 c.args.time)) c.index-items-middle.is c.timestamp.ensures (omega (arith, ints))), inv.3)
+    let early = c.if-timestamp-time.true in (
+      omega arith,
+      inv.1,
+      search_more g.T.Timed.timestamp c.args.items.now c.requires _ c.index-items-middle.result (to_z w64 (of_z w64 c.args.time)) (omega arith)
+          (is_early g.T.Timed.timestamp c.args.items.now _ c.index-items-middle.result c.timestamp.result (to_z w64 (of_z w64 c.args.time)) c.index-items-middle.is c.timestamp.ensures (omega (arith, ints))),
+      inv.3,
+    )
 
 pub loop-low-preserved : goal.loop-low-preserved
 loop-low-preserved g c =
     let inv = c.loop-low.invariant in
-    let late = c.if-timestamp-time.false in
-    (omega arith, omega arith, inv.2, search_less g.T.Timed.timestamp c.args.items.now c.requires _ c.index-items-middle.result (to_z w64 (of_z w64 c.args.time)) (omega arith)
-    (is_late g.T.Timed.timestamp c.args.items.now _ c.index-items-middle.result c.timestamp.result (to_z w64 (of_z w64 c.args.time)) c.index-items-middle.is c.timestamp.ensures (omega (arith, ints))))
+    let late = c.if-timestamp-time.false in (
+      omega arith,
+      omega arith,
+      inv.2,
+      search_less g.T.Timed.timestamp c.args.items.now c.requires _ c.index-items-middle.result (to_z w64 (of_z w64 c.args.time)) (omega arith)
+          (is_late g.T.Timed.timestamp c.args.items.now _ c.index-items-middle.result c.timestamp.result (to_z w64 (of_z w64 c.args.time)) c.index-items-middle.is c.timestamp.ensures (omega (arith, ints))),
+    )

@@ -1,16 +1,14 @@
-use Rattle.std.proofs.Common.{◌≡◌, ◌≤ℤ◌, ◌<◌, ◌+◌, ◌≤◌, ◌∷◌, ◌∙◌, ℤ, List, false, true, Contains, ap, arith, length, of_z, refl, subst, sym, to_z}
-use Rattle.std.specs.Int.{w64}
-use Rattle.std.specs.List.Sorted.{IsPermutation}
+use Rattle.std.proofs.Common.{◌≡◌, ◌≤ℤ◌, ◌∷◌, ℤ, List, Contains, ap, arith, length, refl, subst, sym}
 use Rattle.std.proofs.lemmas.Int.{ints}
 use Rattle.std.proofs.lemmas.List.Sorted.{length_permutation}
 use Rattle.std.specs.BTreeMap.{BTreeMap}
 use Rattle.std.specs.declared.cmp.Ordering.{Ordering}
 use Rattle.krb_replay.specs.Stamp.{Stamp}
 use Rattle.krb_replay.specs.Memory.{AddsStamp}
-use Rattle.krb_replay.specs.Inner.Counts.{AddsOne, TakesOne, count_by}
+use Rattle.krb_replay.specs.Inner.Counts.{AddsOne}
 use Rattle.krb_replay.specs.Inner.Held.{AreCounted, AreTimed, IsOnce}
 use Rattle.krb_replay.specs.Inner.Order.{TwoNames, client_cmp, client_total, names_of, pair_cmp, pair_total}
-use Rattle.krb_replay.specs.Inner.Times.{AddsTime, TakesTime, times_by}
+use Rattle.krb_replay.specs.Inner.Times.{AddsTime}
 use Rattle.krb_replay.proofs.SetLaws.{adds_nothing}
 use Rattle.krb_replay.proofs.HeldLaws.{counted_still}
 use Rattle.krb_replay.proofs.CountLaws.{more_and_less, some_counted}

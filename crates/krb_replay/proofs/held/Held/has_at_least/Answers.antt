@@ -1,10 +1,6 @@
-use Rattle.std.proofs.Common.{◌≡◌, ◌∙◌, ◌≤◌, ℤ, Option, ap, arith, of_z, to_z}
-use Rattle.std.specs.Int.{w64}
+use Rattle.std.proofs.Common.{Option, arith}
 use Rattle.std.specs.Option.{option_map}
-use Rattle.std.proofs.lemmas.Int.{ints}
-use Rattle.std.proofs.lemmas.Bool.{leb-true, le-leb}
 use Rattle.krb_replay.specs.Stamp.{RealmAndName}
-use Rattle.krb_replay.specs.Inner.Held.{number_of, since}
 use Rattle.krb_replay.proofs.HeldLaws.{two_sides}
 use Rattle.krb_replay.proofs.held.Held.has_at_least.Goals as goal
 

@@ -1,5 +1,3 @@
-use Rattle.std.proofs.Common.{subst, sym, arith}
-use Rattle.krb_replay.specs.Inner.Held.{IsOnce}
 use Rattle.krb_replay.specs.Inner.Order.{client_cmp, pair_cmp}
 use Rattle.krb_replay.proofs.HeldLaws.{counted_none}
 use Rattle.krb_replay.proofs.OnceLaws.{once_none}

@@ -1,5 +1,4 @@
-use Rattle.std.proofs.Common.{◌≡◌, ◌<◌, ◌∷◌, ◌∙◌, ℤ, List, Contains, ap, arith, drop, of_z, subst, sym, to_z}
-use Rattle.std.specs.Int.{w64}
+use Rattle.std.proofs.Common.{◌≡◌, ◌<◌, ℤ, List, Contains, arith, subst, sym}
 use Rattle.std.specs.BTreeMap.{BTreeMap}
 use Rattle.std.proofs.lemmas.Int.{ints}
 use Rattle.krb_replay.specs.Stamp.{Stamp}

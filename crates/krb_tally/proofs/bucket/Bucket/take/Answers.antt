@@ -7,6 +7,8 @@ pub invariant_of-self : goal.invariant_of-self
 invariant_of-self g c =
     let len = ap (λ items. length items) c.self.view_is in
     let others = c.requires.others in
-    let within = c.requires.within in
-    (omega (arith, c.remove.ensures.len), subst (λ items. IsRising g.T.Timed.timestamp items) (sym c.remove.ensures.items)
-    (rising_remove g.T.Timed.timestamp c.self.inside.items.items c.args.at c.remove.result (omega arith) c.self.invariant.1))
+    let within = c.requires.within in (
+      omega (arith, c.remove.ensures.len),
+      subst (λ items. IsRising g.T.Timed.timestamp items) (sym c.remove.ensures.items)
+          (rising_remove g.T.Timed.timestamp c.self.inside.items.items c.args.at c.remove.result (omega arith) c.self.invariant.1),
+    )
