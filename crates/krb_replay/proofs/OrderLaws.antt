@@ -24,11 +24,6 @@ second_tied Less other e = absurd (cc)
 second_tied Equal other e = e
 second_tied Greater other e = absurd (cc)
 
-greater_decides : (one other : Ordering) → one ≡ Greater → is_gt (ordering_then one other) ≡ false → ⊥
-greater_decides Less other e f = cc
-greater_decides Equal other e f = cc
-greater_decides Greater other e f = cc
-
 pub exact_lists : {K : Type 0} (R : K → K → Ordering) → CmpEqualImpliesEq R → CmpEqualImpliesEq (slice_cmp R)
 exact_lists R exact [] [] e = refl
 exact_lists R exact [] (y ∷ ys) e = absurd (cc)
@@ -61,32 +56,3 @@ exact_stamps one other e =
     let servers : one.server ≡ other.server = exact_names one.server other.server (first_tied _ _ names) in
     let clients : one.client ≡ other.client = exact_names one.client other.client (second_tied _ _ names) in
     λ i. record { server = servers i; client = clients i; time = times i }
-
--- stamps in order differ
-pub once_from_ordered : (stamps : List Stamp) → IsStrictlySortedBy stamp_cmp stamps → AllPairs (λ one other. one ≢ other) stamps
-once_from_ordered stamps ordered i j d below within same =
-    let less : stamp_cmp (get_or stamps i d) (get_or stamps j d) ≡ Less = Less-from_sorted stamp_cmp stamps i j d ordered below within in
-    let tied : stamp_cmp (get_or stamps i d) (get_or stamps j d) ≡ Equal =
-    ap (λ other. stamp_cmp (get_or stamps i d) other) (sym same) ∙ tied_itself stamp_total (get_or stamps i d) in
-    cc
-
--- what isn't after another one isn't later
-pub not_later : (one other : Stamp) → is_gt (stamp_cmp one other) ≡ false → one.time ≤ℤ other.time
-not_later one other not_after =
-    by_ranked _ _ _ (int_cmp one.time other.time) (int_ranked one.time other.time _ refl)
-    (λ is less. omega (arith, ints))
-    (λ is same. omega (arith, ints))
-    (λ is more. absurd (greater_decides _ _ is not_after))
-
-less_decides : (one other : Ordering) → one ≡ Less → is_lt (ordering_then one other) ≡ false → ⊥
-less_decides Less other e f = cc
-less_decides Equal other e f = cc
-less_decides Greater other e f = cc
-
--- and what isn't before another one isn't earlier
-pub not_earlier : (one other : Stamp) → is_lt (stamp_cmp one other) ≡ false → other.time ≤ℤ one.time
-not_earlier one other not_before =
-    by_ranked _ _ _ (int_cmp one.time other.time) (int_ranked one.time other.time _ refl)
-    (λ is less. absurd (less_decides _ _ is not_before))
-    (λ is same. omega (arith, ints))
-    (λ is more. omega (arith, ints))

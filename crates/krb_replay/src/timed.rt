@@ -178,8 +178,7 @@ impl ReplayMemory for TimedMemory {
     }
 
     fn len(&self) -> usize {
-        let held = self.held.len();
-        held - self.held.number_before(None, self.oldest, held)
+        self.held.number_since(None, self.oldest)
     }
 
     fn latest(&self) -> Option<Moment> {

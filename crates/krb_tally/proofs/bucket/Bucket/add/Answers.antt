@@ -6,22 +6,24 @@ use Rattle.krb_tally.specs.Inner.Buckets.{AddsIn}
 use Rattle.krb_tally.proofs.BucketLaws.{added_length, added_rising, adds}
 use Rattle.krb_tally.proofs.bucket.Bucket.add.Goals as goal
 
-added : (times slice new : List ℤ) (at : ℕ) (said time : ℤ) → slice ≡ times → said ≡ time → All (λ x. x <ℤ said) (take at slice) → All (λ x. said ≤ℤ x) (drop at slice)
-    → new ≡ insert times at said → AddsIn times time new
-added times slice new at said time same t early late is =
-    subst (λ (one : ℤ). AddsIn times one new) t
-    (adds times at said (subst (λ (all : List ℤ). All (λ x. x <ℤ said) (take at all)) same early) (subst (λ (all : List ℤ). All (λ x. said ≤ℤ x) (drop at all)) same late) new is)
-
-here : (c : goal.In_ok-insert) → AddsIn c.self.inside.times.items c.args.time c.insert.new.self.items
-here c =
-    added c.self.inside.times.items c.as_slice.result.now c.insert.new.self.items c.number_before-at.result (to_z w64 (of_z w64 c.args.time)) c.args.time
-    c.as_slice.ensures.value (omega (arith, ints)) c.number_before-at.ensures.before c.number_before-at.ensures.from c.in_ok-insert.ensures.items
+added : {X : Type 0} (when : X → ℤ) (items slice new : List X) (at : ℕ) (said : ℤ) (item : X) → slice ≡ items → said ≡ when item
+    → All (λ x. when x <ℤ said) (take at slice) → All (λ x. said ≤ℤ when x) (drop at slice) → new ≡ insert items at item → AddsIn when items item new
+added when items slice new at said item same t early late is =
+    adds when items at item
+    (subst (λ (one : ℤ). All (λ x. when x <ℤ one) (take at items)) t (subst (λ all. All (λ x. when x <ℤ said) (take at all)) same early))
+    (subst (λ (one : ℤ). All (λ x. one ≤ℤ when x) (drop at items)) t (subst (λ all. All (λ x. said ≤ℤ when x) (drop at all)) same late)) new is
 
 pub invariant_of-self-2 : goal.invariant_of-self-2
-invariant_of-self-2 c = (
-  added_length c.self.inside.times.items c.insert.new.self.items c.args.time (here c),
-  added_rising c.self.inside.times.items c.insert.new.self.items c.args.time c.self.invariant.1 (here c),
-)
+invariant_of-self-2 g c =
+    let here : AddsIn g.T.Timed.timestamp c.self.inside.items.items c.args.item c.insert.new.self.items =
+    added g.T.Timed.timestamp c.self.inside.items.items c.as_slice.result.now c.insert.new.self.items c.number_before-at.result (to_z w64 (of_z w64 c.timestamp.result)) c.args.item
+    c.as_slice.ensures.value (let t = c.timestamp.ensures in omega (arith, ints)) c.number_before-at.ensures.before c.number_before-at.ensures.from c.in_ok-insert.ensures.items in (
+      added_length g.T.Timed.timestamp c.self.inside.items.items c.insert.new.self.items c.args.item here,
+      added_rising g.T.Timed.timestamp c.self.inside.items.items c.insert.new.self.items c.args.item c.self.invariant.1 here,
+    )
 
 pub returns-clause-ok : goal.returns-clause-ok
-returns-clause-ok c = subst (λ (old : List ℤ). AddsIn old c.args.time c.insert.new.self.items) c.self.view_is (here c)
+returns-clause-ok g c =
+    subst (λ old. AddsIn g.T.Timed.timestamp old c.args.item c.insert.new.self.items) c.self.view_is
+    (added g.T.Timed.timestamp c.self.inside.items.items c.as_slice.result.now c.insert.new.self.items c.number_before-at.result (to_z w64 (of_z w64 c.timestamp.result)) c.args.item
+    c.as_slice.ensures.value (let t = c.timestamp.ensures in omega (arith, ints)) c.number_before-at.ensures.before c.number_before-at.ensures.from c.in_ok-insert.ensures.items)
