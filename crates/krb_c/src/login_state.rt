@@ -170,20 +170,20 @@ impl LoginState {
                     decided,
                 );
                 let (outcome, _) = outcome_of(decision, is_full);
-                self.progress = Progress::Decided(outcome);
+                self.set(Progress::Decided(outcome));
             }
             Step::Ask(asking) => {
                 let mut over = Talk::new(IN_ORDER);
                 over.end();
                 let talk = replace(&mut self.talk, over);
-                self.progress = Progress::Waiting(Question {
+                self.set(Progress::Waiting(Question {
                     asking,
                     confounder,
                     choice,
                     message,
                     negotiation: next,
                     talk,
-                });
+                }));
             }
         }
     }
@@ -243,8 +243,15 @@ impl LoginState {
         ensures is_kept { IsKept is_full decision self.new kept.new }
     {
         let (outcome, accepted) = outcome_of(decision, is_full);
-        self.progress = Progress::Decided(outcome);
+        self.set(Progress::Decided(outcome));
         *kept = accepted;
+    }
+
+    fn set(&mut self, progress: Progress)
+        ensures talk { self.new.talk ≡ self.old.talk }
+        ensures progress { self.new.progress ≡ progress }
+    {
+        self.progress = progress;
     }
 
     /// Decides by what a store said, if the login waits for one. `accepted` gets what is known of a
@@ -262,12 +269,12 @@ impl LoginState {
         let question = match replace(&mut self.progress, Progress::Nothing) {
             Progress::Waiting(question) => question,
             other => {
-                self.progress = other;
+                self.set(other);
                 return Answer::plain(code::NOT_WAITING);
             }
         };
         let Ok(mut kept) = Box::new(alloc, AcceptedState::nothing()) else {
-            self.progress = Progress::Waiting(question);
+            self.set(Progress::Waiting(question));
             return Answer::plain(code::OUT_OF_MEMORY);
         };
         self.settle_by(alloc, &mut kept, question, said, now);
@@ -311,7 +318,7 @@ impl LoginState {
     pub(crate) fn clear(&mut self)
         ensures { self.new ≡ undecided self.old }
     {
-        self.progress = Progress::Nothing;
+        self.set(Progress::Nothing);
     }
 
     /// Returns what became of what a client sent, with the bytes that go back.
@@ -425,26 +432,26 @@ fn outcome_of(decision: Decision, is_full: bool) -> (Outcome, AcceptedState)
 {
     match decision {
         Decision::LetIn(login) => (
-            outcome(Answer::plain(code::OK), login.answer),
+            answered(Answer::plain(code::OK), login.answer),
             kept(login.accepted, false),
         ),
         Decision::Shown(login) => (
-            outcome(Answer::plain(code::OK), login.answer),
+            answered(Answer::plain(code::OK), login.answer),
             kept(login.accepted, true),
         ),
         Decision::GoOn(bytes) => (
-            outcome(Answer::plain(code::GO_ON), Some(bytes)),
+            answered(Answer::plain(code::GO_ON), Some(bytes)),
             AcceptedState::nothing(),
         ),
         Decision::Refused(refused) => (refusal(refused, is_full), AcceptedState::nothing()),
         Decision::Unshown(unshown) => (
-            outcome(list_told(unshown.fault), unshown.answer),
+            answered(list_told(unshown.fault), unshown.answer),
             AcceptedState::nothing(),
         ),
     }
 }
 
-fn outcome(answer: Answer, bytes: Option<Vec<u8>>) -> Outcome
+fn answered(answer: Answer, bytes: Option<Vec<u8>>) -> Outcome
     ensures { result ≡ record { answer = answer; asked = None; bytes = bytes } }
 {
     Outcome {
