@@ -27,5 +27,5 @@ returns c =
     c.in-Some.ensures ∙ ap (λ (state : LoginState). state.talk) (sym c.deref_mut.ensures.value) in
     decided_on c.judge.new.self c.judge.new.kept c.in-Ok.drawn.0 c.in-Ok.drawn.1 c.put.ensures c.put-2.ensures c.in-Ok.ensures.drawn
     (subst (λ (before : Talk). Judges c.args.service.now.is_shared c.args.service.now c.judge.new.service before c.judge.new.self c.judge.new.kept c.args.input.now c.args.now c.in-Ok.drawn.0 c.in-Ok.drawn.1)
-    (sym talk) (judged _ _ _ _ _ _ _ _ _ _ _ c.in-Ok-message.ensures c.judge.ensures))
+    (sym talk) (judged _ _ _ _ _ _ _ _ _ _ _ c.in-Ok-message_if.ensures c.judge.ensures))
     (subst (λ (state : LoginState). TellsProgress state.progress c.args.out.now c.answer-answer.new.out c.answer-answer.result) c.deref.ensures c.answer-answer.ensures)
