@@ -1,6 +1,6 @@
 """Messages after a login beside the GSS-API of MIT (python3-gssapi), Heimdal and Java, as client and as service: with
-session keys of both types, with and without a subkey of the service, with and without a reply; after a negotiation whose
-list of mechanisms names NTLM first; and examples/sign."""
+session keys of both types, with and without a subkey of the service, with and without a reply; after a negotiation
+whose list of mechanisms names NTLM first; and examples/sign."""
 import os
 import subprocess
 import sys
@@ -231,7 +231,7 @@ def field_of(answer, tag):
 @pytest.mark.parametrize("number", [19, 20])
 @pytest.mark.parametrize("theirs, mode", CLIENTS, ids=lambda it: it)
 def test_their_mic_of_a_list(checks, fevstunik, realm, folder, theirs, number, mode, subkey):
-    """Another library's client in a negotiation that this test writes, which names NTLM first: its MIC of the list, and ours."""
+    """Another library's client in a negotiation that this test writes, which names NTLM first: its MIC, and ours."""
     keytab = fevstunik.Keytab((realm.folder / "www.keytab").read_bytes())
     with fevstunik.Service(keytab, f"{SERVICE}@{REALM}", first_life=True, subkey=subkey) as service, Peer(
         realm, folder, theirs, "initiate", "HTTP@localhost", mode, cache=f"alice{number}"
@@ -248,7 +248,8 @@ def test_their_mic_of_a_list(checks, fevstunik, realm, folder, theirs, number, m
         else:
             peer.ask("mic", LIST)
             login = connection.answer(gss_rules.going_on(token, mic=peer.bytes()))
-            checks.equal("the client takes our MIC", peer.said("verify", LIST, field_of(login.reply, 0xA3)), "verified")
+            mic = field_of(login.reply, 0xA3)
+            checks.equal("the client takes our MIC", peer.said("verify", LIST, mic), "verified")
         checks.equal("who it is", (login.client, login.list_shown), (ALICE, True))
         what = f"{theirs}'s client after a list, type {number}, {mode}, subkey {subkey}"
         with login.messages() as ours:
@@ -283,7 +284,7 @@ def attacked(attack, number, token):
 @pytest.mark.parametrize("subkey", [None, 20], ids=lambda it: f"subkey {it}")
 @pytest.mark.parametrize("mode", ["mutual", "plain"])
 def test_ntlm_first(checks, fevstunik, realm, folder, mode, subkey, attack):
-    """MIT's client with Debian's gss-ntlmssp, which offers NTLM first with a token of its own, and Kerberos after it."""
+    """MIT's client with Debian's gss-ntlmssp, which offers NTLM first with a token of its, and Kerberos after it."""
     keytab = fevstunik.Keytab((realm.folder / "www.keytab").read_bytes())
     with fevstunik.Service(keytab, f"{SERVICE}@{REALM}", first_life=True, subkey=subkey) as service, Peer(
         realm, folder, "MIT", "initiate", "HTTP@localhost", mode, "listed", cache="alice20"

@@ -1,8 +1,10 @@
-"""Clients that name another mechanism before Kerberos: each side shows the list of mechanisms by its MIC (RFC 4178, section 5)."""
+"""Clients that name another mechanism before Kerberos: each side shows the list of mechanisms by its MIC (RFC 4178,
+section 5)."""
 import pytest
 
 from fevstunik import (
-    Code, ContextFlags, CredentialCache, GoOn, Key, Keytab, Messages, Moment, Refused, Service, Side, make_request, open_answer)
+    Code, ContextFlags, CredentialCache, GoOn, Key, Keytab, KrbError, Messages, Moment, Refused, Service, Side,
+    make_request, open_answer)
 
 from support import c_cases, der, fixture, gss_rules
 from support.der import element
@@ -45,17 +47,27 @@ def kerberos(request):
 
 
 def asked(cache, wants_reply=True, subkey=None):
-    return make_request(cache, NAME, now=NOW, subkey=SUBKEYS.get(subkey), seq=7, wants_reply=wants_reply, context=ContextFlags(0))
+    return make_request(cache, NAME, now=NOW, subkey=SUBKEYS.get(subkey), seq=7, wants_reply=wants_reply,
+                        context=ContextFlags(0))
 
 
 def silent_side(subkey=None):
     """The client's side if it asked for no reply."""
-    return Messages(Side.CLIENT, Key(19, fixture.SESSION_KEY), client_subkey=SUBKEYS.get(subkey), client_seq=7, service_seq=7)
+    return Messages(Side.CLIENT, Key(19, fixture.SESSION_KEY), client_subkey=SUBKEYS.get(subkey), client_seq=7,
+                    service_seq=7)
 
 
 def mic_in(answer, kind):
     """The MIC at the end of an answer: a header of 16 bytes and a tag of 16 (type 19) or 24 (type 20)."""
     return answer[-32:] if kind == 19 else answer[-40:]
+
+
+def reply_in(answer):
+    """The AP-REP in a later answer, which names no mechanism (RFC 4178, section 4.2.2)."""
+    fields = gss_rules.Reader(answer, 0, len(answer)).enter(0xA1).enter(0x30)
+    fields.enter(0xA0)
+    token = fields.enter(0xA2).enter(0x04).left()
+    return token[token.index(b"\2\0\x6f") + 2:]
 
 
 def goes_on(login, client, numbers):
@@ -79,7 +91,7 @@ def test_a_client_that_awaits_a_reply(cache, theirs, ours, shares):
         assert isinstance(asks, GoOn) and asks.reply == REQUEST_MIC
         asks = connection.answer(gss_rules.going_on(kerberos(request)), NOW)
         assert isinstance(asks, GoOn) and asks.reply[:9].endswith(b"\xa0\3\n\1\1")
-        agreed = pending.finish(open_answer(asks.reply).message)
+        agreed = pending.finish(reply_in(asks.reply))
         client = agreed.messages()
         assert client.verify_mic(LIST, mic_in(asks.reply, kind)).name == "NEXT"
         login = connection.answer(gss_rules.going_on(None, mic=client.mic(LIST)), NOW)
@@ -129,12 +141,13 @@ def test_who_awaits_a_reply_and_is_not_let_in(cache, what, cause, shares):
         connection = service.login()
         connection.answer(gss_rules.negotiation(OTHERS, None) if what == "a changed list" else FIRST, NOW)
         sent = connection.answer(gss_rules.going_on(kerberos(request)), NOW).reply
-        client = pending.finish(open_answer(sent).message).messages()
+        client = pending.finish(reply_in(sent)).messages()
         if what == "a later number":
             client.mic(b"")
         mic = client.mic(LIST)
         last = {"a changed MIC": gss_rules.going_on(None, mic=mic[:-1] + bytes([mic[-1] ^ 1])),
-                "the service's MIC": gss_rules.going_on(None, mic=mic_in(sent, 20)), "no MIC": gss_rules.going_on(None, INCOMPLETE),
+                "the service's MIC": gss_rules.going_on(None, mic=mic_in(sent, 20)),
+                "no MIC": gss_rules.going_on(None, INCOMPLETE),
                 "the session key": gss_rules.going_on(None, mic=silent_side().mic(LIST)),
                 "the token again": gss_rules.going_on(kerberos(request)), "no message": b"\xa1\0"}
         decision = connection.answer(last.get(what, gss_rules.going_on(None, mic=mic)), NOW)
@@ -151,7 +164,8 @@ def test_who_awaits_none_and_is_not_let_in(cache, what, cause, shares):
     with serving(Store() if shares else None) as service:
         connection = service.login()
         connection.answer(gss_rules.negotiation(OTHERS, None) if what == "a changed list" else FIRST, NOW)
-        refused(connection.answer(gss_rules.going_on(kerberos(request), mic=None if what == "no MIC" else mic), NOW), cause)
+        second = gss_rules.going_on(kerberos(request), mic=None if what == "no MIC" else mic)
+        refused(connection.answer(second, NOW), cause)
         assert connection.answer(gss_rules.going_on(None, mic=mic), NOW).cause == Code.NEGOTIATION_OVER
 
 
@@ -159,7 +173,8 @@ def test_a_subkey_of_another_type():
     client = der.name(1, b"alice")
     part = der.enc_ticket_part(0, der.key(19, fixture.SESSION_KEY), b"EX", client, fixture.AUTHTIME, fixture.ENDTIME)
     auth = der.authenticator(b"EX", client, 5, NOW, subkey=der.key(18, bytes(32)))
-    request = der.request(0, c_cases.ticket(part), der.encrypted(19, fixture.sealed(19, fixture.SESSION_KEY, 11, bytes(16), auth)))
+    cipher = fixture.sealed(19, fixture.SESSION_KEY, 11, bytes(16), auth)
+    request = der.request(0, c_cases.ticket(part), der.encrypted(19, cipher))
     with serving() as service:
         connection = service.login()
         connection.answer(FIRST, NOW)
@@ -174,11 +189,12 @@ def test_a_request_that_is_refused(cache):
         connection = service.login()
         connection.answer(FIRST, NOW)
         decision = connection.answer(gss_rules.going_on(kerberos(request)), NOW)
-        assert (decision.cause, decision.asked.name, open_answer(decision.reply).error.code) == (Code.REPEAT, NAME, 34)
+        error = KrbError.read(decision.reply[decision.reply.index(b"\3\0\x7e") + 2:])
+        assert (decision.cause, decision.asked.name, error.code) == (Code.REPEAT, NAME, 34)
 
 
 def test_a_store_is_asked_once_and_before_the_reply(cache):
-    """Of a stamp that the store has, the client is refused in its second message; by the third one the store isn't asked."""
+    """Of a stamp that the store has, the client is refused in its second message; by a third one it isn't asked."""
     store, (request, _) = Store(), asked(cache)
     with serving(store) as service, serving(store) as other:
         assert other.answer(request, NOW).client == "alice@EX"

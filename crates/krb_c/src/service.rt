@@ -1,6 +1,6 @@
 //! A service that accepts requests.
 
-ghost use Rattle.std.specs.Prelude.{◌≡◌, None};
+ghost use Rattle.std.specs.Prelude.{None, false, ◌≡◌};
 ghost use Rattle.krb_c.specs.Service.{DecidesAlone, IsMomentOf, Remembers, TellsLatest, TellsUsage, Turns, cleared, emptied, latest_of, nothing_kept};
 ghost use Rattle.krb_c.specs.Answer.{plain};
 ghost use Rattle.krb_c.specs.Codes.{bad_moment, empty_handle};

@@ -7,8 +7,8 @@ its answer.
     side.py accept NAME                   takes the other side's first token as its first line, and answers with its
                                           own, or "-"
 
-A later line is `token HEX` (an initiator's answer), `step HEX` (the same, after which it says `complete` or `incomplete`
-and its own next token, or "-"), `wrap sealed|plain HEX`, `unwrap HEX`, `mic HEX`,
+A later line is `token HEX` (an initiator's answer), `step HEX` (the same, after which it says `complete` or
+`incomplete` and its own next token, or "-"), `wrap sealed|plain HEX`, `unwrap HEX`, `mic HEX`,
 `verify HEX HEX` or `limit sealed|plain SIZE`.
 """
 import sys
