@@ -7,7 +7,7 @@ from ctypes import byref, c_int32
 from dataclasses import dataclass, field
 from functools import lru_cache
 from types import TracebackType
-from typing import Any, Self, TypeVar
+from typing import TYPE_CHECKING, Any, Self, TypeVar
 
 from . import _interface
 from ._codes import Code
@@ -42,7 +42,7 @@ class Stamp(Shown):
 
 @dataclass(frozen=True)
 class Known(Secret):
-    """What is known of a client whose request was accepted."""
+    """What is known of a client whose request was accepted. What few programs ask for is made when it is first asked for."""
 
     client: str
     service: str
@@ -60,6 +60,14 @@ class Known(Secret):
     _handle: Handle = field(repr=False, compare=False)
     _skew: int = field(repr=False, compare=False)
     _lists: dict[_List, tuple[TypedData, ...]] = field(repr=False, compare=False, default_factory=dict)
+
+    # (hidden from mypy, which would let any name be asked for)
+    if not TYPE_CHECKING:
+        def __getattr__(self, name):
+            if name not in _SELDOM:
+                raise AttributeError(f"{type(self).__name__!r} object has no attribute {name!r}")
+            self.__dict__.update(_seldom(*self.__dict__["_found"]))
+            return self.__dict__[name]
 
     @property
     def addresses(self) -> tuple[TypedData, ...]:
@@ -229,20 +237,24 @@ _Known = TypeVar("_Known", bound=Known)
 def known_by(kind: type[_Known], handle: Handle, skew: int, **more: Any) -> _Known:
     """What the handle holds, as an object of this kind, which has more fields. The caller has the handle's lock, or has made it. (To set the
     fields of a frozen dataclass one by one takes five times as long.)"""
+    known, data = read(_interface.Known, handle.library.call, "accepted_known", handle.accepted)
     made = object.__new__(kind)
-    made.__dict__.update(_read(handle), _handle=handle, _skew=skew, _lists={}, **more)
+    made.__dict__.update(
+        client=known.client.text(data), starttime=_start(handle), endtime=known.endtime, flags=_flags(known.flags), wants_reply=known.wants_reply,
+        _found=(known, data), _handle=handle, _skew=skew, _lists={}, **more)
     return made
 
 
-def _read(handle: Handle) -> dict[str, Any]:
-    known, data = read(_interface.Known, lambda *words: handle.inside("accepted_known", *words))
-    return dict(
-        client=known.client.text(data), service=known.service.text(data), time=moment_of(known.ctime, known.cusec),
-        authtime=known.authtime, starttime=_start(handle), endtime=known.endtime, flags=_flags(known.flags),
-        session_key=Key(known.session_type, known.session_key.of(data)),
-        subkey=Key(known.subkey_type, known.subkey.of(data)) if known.has_subkey else None,
-        seq=known.seq if known.has_seq else None, wants_reply=known.wants_reply,
-        client_type=known.name_type, service_type=known.service_type)
+_SELDOM = frozenset({"service", "time", "authtime", "session_key", "subkey", "seq", "client_type", "service_type"})
+
+
+def _seldom(known: _interface.Known, data: bytes) -> dict[str, Any]:
+    """What is made of the library's numbers when it is first asked for: the names of _SELDOM."""
+    return {
+        "service": known.service.text(data), "time": moment_of(known.ctime, known.cusec), "authtime": known.authtime,
+        "session_key": Key(known.session_type, known.session_key.of(data)),
+        "subkey": Key(known.subkey_type, known.subkey.of(data)) if known.has_subkey else None,
+        "seq": known.seq if known.has_seq else None, "client_type": known.name_type, "service_type": known.service_type}
 
 
 # (a member of an enumeration is found more slowly)
@@ -256,7 +268,7 @@ def _flags(flags: int) -> TicketFlags:
 
 def _start(handle: Handle) -> int | None:
     start = _interface.Time()
-    answer = handle.inside("accepted_start", byref(start))
+    answer = handle.library.call("accepted_start", handle.accepted, byref(start))
     if answer.code == _NOTHING:
         return None
     done(answer)

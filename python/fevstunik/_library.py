@@ -125,12 +125,15 @@ def filled(call: Callable[[Any, int], Answer], room: int = ROOM) -> bytes:
         room = answer.size
         buffer = ctypes.create_string_buffer(room)
         answer = call(buffer, room)
-    return bytes_of(buffer, done(answer).size)
+    if answer.code != _OK:
+        raise fault_of(answer)
+    return bytes_of(buffer, answer.size)
 
 
 def bytes_of(buffer: Any, size: int) -> bytes:
-    """The first bytes of a buffer. (To copy all of a small one is faster than ctypes.string_at.)"""
-    return bytes(buffer.raw[:size])
+    """The first bytes of a buffer."""
+    found: bytes = buffer[:size]
+    return found
 
 
 def octets(data: Bytes) -> bytes:
@@ -165,11 +168,14 @@ def fitting(number: int, bits: int, signed: bool = False) -> int:
 _Struct = TypeVar("_Struct", bound=ctypes.Structure)
 
 
-def read(kind: type[_Struct], call: Callable[[Any, Any, int], Answer]) -> tuple[_Struct, bytes]:
-    """The struct that a call returns, and the bytes in which its spans are places."""
-    struct = kind()
-    data = filled(lambda buffer, room: call(byref(struct), buffer, room))
-    return struct, data
+def read(kind: type[_Struct], call: Callable[..., Answer], *words: Any) -> tuple[_Struct, bytes]:
+    """The struct that a call with these first arguments returns, and the bytes in which its spans are places."""
+    made, buffer = kind(), Buffer()
+    place = byref(made)
+    answer = call(*words, place, buffer, ROOM)
+    if answer.code == _SHORT:
+        return made, filled(lambda *into: call(*words, place, *into), answer.size)
+    return made, bytes_of(buffer, done(answer).size)
 
 
 class Secret:
@@ -214,7 +220,7 @@ os.register_at_fork(after_in_child=_begin_life)
 class Handle(Secret):
     """A handle of the library, of the kind whose function ``KIND_free`` frees it. One call at a time uses it."""
 
-    _made_in: tuple[object, int] | None = None
+    _made_in: tuple[object, int] = object(), 0
     # At the end of the process, when other threads may be in a call still, nothing is freed.
     _is_over = False
 
@@ -223,20 +229,23 @@ class Handle(Secret):
         # (a signal handler may make a call while its thread has the lock)
         self._lock = threading.RLock()
         self._opaque: Any = opaque()
-        self._kind = kind
+        self._free = f"{kind}_free"
         # The pointer to it, for a call that has the lock, or for the thread that made it.
         self.pointer: Any = byref(self._opaque)
+        # The same to what was accepted, if there is such a thing.
+        self.accepted: Any = self.pointer
         self._made_in = here()
 
     def __del__(self) -> None:
         # (weakref.finalize takes seven times as long)
         if not self._is_over and self._made_in == here():
-            self.library.call(f"{self._kind}_free", self.pointer)
+            self.library.call(self._free, self.pointer)
 
     def locked(self) -> threading._RLock:
         """The lock, to be entered for a call."""
         # (in a child, the lock may be held by a thread that isn't there)
-        if self._made_in != here():
+        life, number = self._made_in
+        if life is not _life or number != os.getpid():
             raise RuntimeError("this was made before a fork, and belongs to the process that made it")
         return self._lock
 
@@ -250,7 +259,7 @@ class Handle(Secret):
         return self.library.call(name, self.pointer, *words)
 
     def close(self) -> None:
-        self.call(f"{self._kind}_free")
+        self.call(self._free)
 
     @classmethod
     def end(cls) -> None:

@@ -2,10 +2,9 @@
 from __future__ import annotations
 
 import ctypes
-import enum
 import os
 import time
-from collections.abc import Callable, Iterable
+from collections.abc import Iterable
 from ctypes import byref
 from dataclasses import dataclass, field
 from typing import TYPE_CHECKING, Any
@@ -17,31 +16,27 @@ from ._errors import Fault, StoreFailed
 from ._files import Keytab, kvnos_of
 from ._interface import Answer
 from ._library import (
-    ROOM, Buffer, Bytes, Handle, Secret, bytes_of, done, fault_of, filled, fitting, library, octets, read, text_of)
+    ROOM, Buffer, Bytes, Handle, Secret, bytes_of, done, fault_of, fitting, library, octets, read, text_of)
 from ._messages import Messages, Side
 from ._service import Refused, Serving, options_of
 from ._shown import fit_for_a_line
 from ._tokens import GoOn, bindings_of
-from ._values import CONFOUNDER, LAST_SECOND, Key, Moment, When, clock
+from ._values import CONFOUNDER, LAST_SECOND, Key, Moment, When, clock, moment_of
 
 if TYPE_CHECKING:
     from .stores import Store
 
 _IGNORED, _IF_SENT, _REQUIRED = range(3)
+# What a store says of a stamp, as the library takes it.
+_NEW, _KNOWN, _FAILED = range(1, 4)
 # How many bytes of a key each type has.
 _KEYS = {None: 0, 19: 16, 20: 32}
 # The largest skew for which the file of a store is made, unless its service has a larger one.
 _SKEW = 300
+# (a member of an enumeration is found more slowly)
+_OK, _GO_ON, _ASK_STORE, _SHORT = Code.OK.value, Code.GO_ON.value, Code.ASK_STORE.value, Code.SHORT_BUFFER.value
 # The call wasn't made as it should be, so nothing was decided.
-_MISUSE = (Code.EMPTY_HANDLE, Code.BAD_MOMENT, Code.BAD_RANDOM, Code.NOT_WAITING)
-
-
-class _Said(enum.IntEnum):
-    """What a store says of a stamp, as the library takes it."""
-
-    NEW = 1
-    KNOWN = 2
-    FAILED = 3
+_MISUSE = frozenset(it.value for it in (Code.EMPTY_HANDLE, Code.BAD_MOMENT, Code.BAD_RANDOM, Code.NOT_WAITING))
 
 
 @dataclass(frozen=True)
@@ -211,20 +206,21 @@ class Connection(Secret):
                 return self._out_of_memory()
 
     def _decision(self, data: bytes, now: When | None) -> Login | GoOn | Refused | _Waiting:
-        began, random = _ticks(), os.urandom(CONFOUNDER + _KEYS[self._service._subkey])
+        began, random = _ticks(), os.urandom(self._service._random)
         answer, reply = self._answer(data, now, random)
-        if answer.code == Code.ASK_STORE:
+        if answer.code == _ASK_STORE:
             self._over = True
-            return _Waiting(self, random, lambda: _later(now, began))
+            return _Waiting(self, random, now, began)
         return self._outcome(answer, reply, random)
 
     def _outcome(self, answer: Answer, reply: bytes, random: bytes) -> Login | GoOn | Refused:
         """What comes of a message that is decided on."""
-        self._over = answer.code != Code.GO_ON
-        if answer.code == Code.GO_ON:
+        code = answer.code
+        self._over = code != _GO_ON
+        if code == _GO_ON:
             self._random = random
             return GoOn(reply)
-        if answer.code == Code.OK:
+        if code == _OK:
             return self._let_in(reply, random)
         asked, held = self._for_a_log(answer.code)
         self._handle.close()
@@ -236,24 +232,32 @@ class Connection(Secret):
         with serving.locked():
             # (the clock is read with the lock: otherwise an earlier moment could come after a later one)
             at = clock(now)
-            answer = serving.inside(
-                "service_answer", self._handle.pointer, data, len(data), byref(at), random, len(random), buffer, ROOM)
+            answer = serving.library.call(
+                "service_answer", serving.pointer, self._handle.pointer, data, len(data), byref(at), random, len(random), buffer, ROOM)
         return self._whole(answer, buffer)
 
     def _whole(self, answer: Answer, buffer: Any) -> tuple[Answer, bytes]:
         """What was decided, and the bytes that go back, for which this buffer may be too short."""
-        if answer.code == Code.SHORT_BUFFER:
+        if answer.code == _SHORT:
             buffer = ctypes.create_string_buffer(answer.size)
             answer = self._handle.call("login_answer", buffer, answer.size)
         if answer.code in _MISUSE:
             raise fault_of(answer)
         return answer, bytes_of(buffer, answer.size)
 
-    def _settled(self, said: _Said, at: Moment, random: bytes) -> Login | GoOn | Refused:
+    def _stamp(self) -> tuple[bytes, int, int]:
+        """The stamp of the request, and the second and microsecond until which the service would have it kept."""
+        handle = self._handle
+        with handle.locked():
+            until, stamp = read(_interface.Time, handle.library.call, "login_stamp", handle.pointer)
+        return stamp, until.seconds, until.micros
+
+    def _settled(self, said: int, at: _interface.Time, random: bytes) -> Login | GoOn | Refused:
         """What is decided after the store has spoken."""
-        buffer, looked = Buffer(), _interface.Time(at.seconds, at.micros)
-        with self._handle.locked():
-            answer, reply = self._whole(self._handle.inside("login_settle", said, byref(looked), buffer, ROOM), buffer)
+        buffer, handle = Buffer(), self._handle
+        with handle.locked():
+            answer = handle.library.call("login_settle", handle.pointer, said, byref(at), buffer, ROOM)
+            answer, reply = self._whole(answer, buffer)
             return self._outcome(answer, reply, random)
 
     def _let_in(self, reply: bytes, random: bytes) -> Login:
@@ -282,9 +286,9 @@ class Connection(Secret):
 class _Waiting:
     """A login that waits for the store. Until it is settled, the library lets nobody read the request."""
 
-    def __init__(self, connection: Connection, random: bytes, later: Callable[[], Moment]) -> None:
-        self._connection, self._random, self._later = connection, random, later
-        self._said = _Said.FAILED
+    def __init__(self, connection: Connection, random: bytes, now: When | None, began: float) -> None:
+        self._connection, self._random, self._now, self._began = connection, random, now, began
+        self._said = _FAILED
         self._fault: Exception | None = None
 
     def ask(self) -> None:
@@ -298,17 +302,17 @@ class _Waiting:
             self._connection._handle.close()
             raise
         # (what a store returns that isn't a bool lets nobody in)
-        self._said = _Said.NEW if is_new is True else _Said.KNOWN if is_new is False else _Said.FAILED
+        self._said = _NEW if is_new is True else _KNOWN if is_new is False else _FAILED
 
     def _add(self) -> object:
-        connection, until = self._connection, _interface.Time()
-        service, store = connection._service, connection._service._store
+        service = self._connection._service
+        store = service._store
         assert store is not None
-        stamp = filled(lambda *into: connection._handle.call("login_stamp", byref(until), *into))
-        last = until.seconds + 2 * (store.largest_skew - service._skew)
+        stamp, seconds, micros = self._connection._stamp()
+        last = seconds + 2 * (store.largest_skew - service._skew)
         if last > LAST_SECOND:
             raise Fault(Code.BAD_MOMENT)
-        return store.add(stamp, Moment(last, until.micros))
+        return store.add(stamp, moment_of(last, micros))
 
     def settled(self) -> Login | GoOn | Refused:
         """What comes of it."""
@@ -316,7 +320,7 @@ class _Waiting:
         try:
             if isinstance(self._fault, MemoryError):
                 raise self._fault
-            decision = connection._settled(self._said, self._later(), self._random)
+            decision = connection._settled(self._said, _later(self._now, self._began), self._random)
         except MemoryError:
             return connection._out_of_memory()
         if isinstance(decision, Refused):
@@ -329,13 +333,13 @@ def _ticks() -> float:
     return time.clock_gettime(time.CLOCK_BOOTTIME)
 
 
-def _later(now: When | None, began: float) -> Moment:
+def _later(now: When | None, began: float) -> _interface.Time:
     """The service's clock, which said `now` when this clock of the machine said `began`."""
     if now is None:
-        return Moment.now()
+        return clock(None)
     at = Moment.of(now)
     more, micros = divmod(at.micros + int(1_000_000 * (_ticks() - began)), 1_000_000)
-    return Moment(min(at.seconds + more, LAST_SECOND), micros)
+    return _interface.Time(min(at.seconds + more, LAST_SECOND), micros)
 
 
 class _LoginHandle(Handle):
@@ -343,10 +347,10 @@ class _LoginHandle(Handle):
 
     def __init__(self) -> None:
         super().__init__("login", _interface.LoginHandle)
-        self._accepted = byref(self._opaque.accepted)
+        self.accepted = byref(self._opaque.accepted)
 
     def inside(self, name: str, *words: Any) -> Any:
-        first = self._accepted if name.startswith("accepted_") else self.pointer
+        first = self.accepted if name.startswith("accepted_") else self.pointer
         return self.library.call(name, first, *words)
 
 
@@ -407,6 +411,8 @@ class Service(Serving):
         options.subkey_type = subkey or 0
         super().__init__(keytab, service, skew, options)
         self._subkey, self._keytab, self._store = subkey, keytab, asked
+        # How many random bytes an answer takes.
+        self._random = CONFOUNDER + _KEYS[subkey]
         self._kvnos: tuple[Keytab, dict[tuple[str, int], list[int]]] | None = None
         for realm in listed or []:
             done(self._handle.call("acceptor_add_realm", realm, len(realm)))
@@ -434,7 +440,7 @@ class Service(Serving):
         REPEAT: a request of this service, client and time was seen before (ticket for host/web@EX, etype 19, kvno 3)
         """
         try:
-            connection = self.login()
+            connection = Connection(self)
         except MemoryError:
             return Refused(Code.OUT_OF_MEMORY)
         return connection.answer(data, now)

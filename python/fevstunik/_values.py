@@ -49,7 +49,7 @@ class Moment:
         >>> Moment.now() > Moment(1_700_000_000)
         True
         """
-        return moment_of(*_clock())
+        return moment_of(*divmod(time.time_ns() // 1000, 1_000_000))
 
     @classmethod
     def of(cls, when: When) -> Moment:
@@ -81,14 +81,11 @@ def moment_of(seconds: int, micros: int) -> Moment:
     return made
 
 
-def _clock() -> tuple[int, int]:
-    """The machine's clock."""
-    return divmod(time.time_ns() // 1000, 1_000_000)
-
-
 def clock(when: When | None) -> _interface.Time:
     """The moment as the library takes it: the machine's clock by default."""
-    return _interface.Time(*_clock()) if when is None else _taken(Moment.of(when))
+    if when is None:
+        return _interface.Time(*divmod(time.time_ns() // 1000, 1_000_000))
+    return _taken(Moment.of(when))
 
 
 def _taken(moment: Moment) -> _interface.Time:

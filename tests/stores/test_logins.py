@@ -157,9 +157,8 @@ def test_the_clock_is_read_again(cache, still):
 
 def test_the_machines_clock_is_read_again(cache, monkeypatch):
     token = make_request(cache, NAME, now=NOW)[0]
-    moments = iter([Moment(NOW), Moment(NOW + 301)])
-    monkeypatch.setattr(_login, "clock", lambda now: _interface.Time(next(moments).seconds, 0))
-    monkeypatch.setattr(_login.Moment, "now", lambda: next(moments))
+    moments = iter([NOW, NOW + 301])
+    monkeypatch.setattr(_login, "clock", lambda now: _interface.Time(next(moments), 0))
     assert serving(Asked(True)).answer(token).cause == Code.SKEW
 
 

@@ -74,7 +74,7 @@ def test_a_store_after_a_fork(path):
 def test_a_fork_while_a_store_is_asked(path):
     """The child would take the parent's locks for its own: it refuses, and the parent goes on."""
     store = SQLite(path)
-    busy = store._connection()
+    busy = store._connection(store._idle())
 
     def child(_):
         for call in (lambda: store.add(b"a", LATER), lambda: SQLite(path)):

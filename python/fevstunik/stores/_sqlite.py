@@ -35,6 +35,8 @@ _ADD = "INSERT INTO stamps (key, keep_until) SELECT ?1, ?2 WHERE ?2 > (SELECT fo
 # After so many stamps, twice as many are looked at, in the order of their keys, and those that are old are forgotten. (An index by time would
 # cost each login as much as the stamp itself.) The last statement notes from which one to go on; after the last, that is the first again.
 _PORTION = 32
+# How often a statement is tried again at once, while another process writes.
+_AT_ONCE = 3
 _SEEN = f"FROM stamps WHERE key >= (SELECT next FROM store) ORDER BY key LIMIT {2 * _PORTION}"
 _NOTE = f"""UPDATE store SET
 forgotten = max(forgotten, ifnull((SELECT max(keep_until) FROM (SELECT keep_until {_SEEN}) WHERE keep_until < ?), 0))"""
@@ -49,24 +51,34 @@ class _File:
     def __init__(self, path: Path, no_answer: Callable[[], Exception]) -> None:
         # (a text is looked up faster than a Path)
         self.path = str(path)
-        self.file, self.no_answer, self.added = _identity(self.path), no_answer, 0
+        found = os.stat(self.path)
+        self.file, self.no_answer, self.added = (found.st_dev, found.st_ino), no_answer, 0
         self.base = sqlite3.connect(f"file:{urllib.parse.quote(self.path)}?mode=rw", uri=True, timeout=0, isolation_level=None,
                                     check_same_thread=False)
+        # (a cursor for each statement takes as long as a tenth of it)
+        self._cursor = self.base.cursor()
 
     def run(self, last: float, statement: str, *words: object) -> sqlite3.Cursor:
-        """Run a statement. It is tried again while another process writes, until this moment of the monotonic clock."""
-        # (at first the processor is given away for a moment: the other one is done soon, unless it was interrupted)
-        wait = 0.0
+        """Run a statement, and return its cursor, which the next one uses, too. It is tried again while another process writes, until this
+        moment of the monotonic clock."""
+        tried = 0
         while True:
             try:
-                return self.base.execute(statement, words)
+                return self._cursor.execute(statement, words)
             except sqlite3.OperationalError as fault:
                 if fault.sqlite_errorcode & 0xff not in (sqlite3.SQLITE_BUSY, sqlite3.SQLITE_LOCKED):
                     raise
             if time.monotonic() > last:
                 raise self.no_answer()
-            time.sleep(wait * random.random())
-            wait = min(2 * wait or 0.0001, 0.002)
+            _wait(tried)
+            tried += 1
+
+
+def _wait(tried: int) -> None:
+    """Wait for another process that writes, after so many tries. Unless it was interrupted, it is done within one more try, and so before any
+    sleep (even one of 0 seconds takes 50 microseconds)."""
+    if tried >= _AT_ONCE:
+        time.sleep(min(0.0001 * 2 ** (tried - _AT_ONCE), 0.002) * random.random())
 
 
 class SQLite(Connected[_File]):
@@ -197,10 +209,10 @@ class SQLite(Connected[_File]):
 
     def _is_there(self, connection: _File) -> None:
         try:
-            is_there = connection.file == _identity(connection.path)
+            found = os.stat(connection.path)
         except FileNotFoundError:
-            is_there = False
-        if not is_there:
+            raise self._removed() from None
+        if connection.file != (found.st_dev, found.st_ino):
             raise self._removed()
 
     def _removed(self) -> StoreFailed:
@@ -234,8 +246,3 @@ def _before_fork() -> None:
 
 
 os.register_at_fork(before=_before_fork)
-
-
-def _identity(path: str) -> tuple[int, int]:
-    found = os.stat(path)
-    return found.st_dev, found.st_ino

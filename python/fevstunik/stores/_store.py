@@ -99,7 +99,8 @@ class Connected(Secret, ABC, Generic[_Connection]):
 
     def add(self, stamp: bytes, keep_until: Moment) -> bool:
         """Add a stamp in one step, and return whether it is new. Raises StoreFailed if that isn't known in time."""
-        connection = self._connection()
+        idle = self._idle()
+        connection = self._connection(idle)
         last = self._last()
         try:
             is_new = self._add(connection, stamp, keep_until, last)
@@ -107,7 +108,8 @@ class Connected(Secret, ABC, Generic[_Connection]):
         except BaseException:
             self._shut(connection)
             raise
-        self._idle().append(connection)
+        # (after a fork in between, these are the parent's)
+        idle.append(connection)
         return is_new
 
     def close(self) -> None:
@@ -123,8 +125,8 @@ class Connected(Secret, ABC, Generic[_Connection]):
             self._own = here(), []
         return self._own[1]
 
-    def _connection(self) -> _Connection:
-        idle = self._idle()
+    def _connection(self, idle: list[_Connection]) -> _Connection:
+        """One of these connections, or a new one if none of them is still open."""
         while idle:
             try:
                 connection = idle.pop()

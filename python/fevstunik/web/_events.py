@@ -19,6 +19,8 @@ _log = logging.getLogger("fevstunik.web")
 _QUIET = frozenset({"NO_TOKEN", "GO_ON", "SESSION", "EXEMPT", "LOGOUT"})
 # What an operator has to look at.
 _LOUD = frozenset({"FULL", "OUT_OF_MEMORY", "STORE_FAILED"})
+# The levels of these decisions; the others are of level INFO.
+_LEVELS = dict.fromkeys(_QUIET, logging.DEBUG) | dict.fromkeys(_LOUD, logging.ERROR)
 # How many proxies a request comes over at the most.
 _HOPS = 32
 Networks = list["ipaddress.IPv4Network | ipaddress.IPv6Network"]
@@ -59,19 +61,20 @@ class Events:
             return dict(self._counts)
 
     def add(self, event: Event, peer: str) -> None:
+        cause = event.cause
         with self._lock:
-            self._counts[event.cause] += 1
+            self._counts[cause] += 1
         if self._counter is not None:
-            self._counter_of(event.cause).inc()
-        level = logging.DEBUG if event.cause in _QUIET else logging.ERROR if event.cause in _LOUD else logging.INFO
+            (self._counters.get(cause) or self._counter_of(cause)).inc()
+        level = _LEVELS.get(cause, logging.INFO)
         if _log.isEnabledFor(level):
-            # (Logger.log would look for the line of the source, which takes as long as the rest)
-            _log.handle(_log.makeRecord(_log.name, level, __file__, 0, _line(event), (), None, extra=_fields(event, peer)))
+            # (Logger.log would look for the line of the source, and for each field whether the record has it, which takes as long as the rest)
+            record = _log.makeRecord(_log.name, level, __file__, 0, _line(event), (), None)
+            record.__dict__.update(_fields(event, peer))
+            _log.handle(record)
 
     def _counter_of(self, cause: str) -> Any:
-        found = self._counters.get(cause)
-        if found is None:
-            found = self._counters[cause] = self._counter.labels(cause=cause)
+        found = self._counters[cause] = self._counter.labels(cause=cause)
         return found
 
 
@@ -82,11 +85,11 @@ def _line(event: Event) -> str:
 
 
 def _fields(event: Event, peer: str) -> dict[str, Any]:
-    asked = event.asked
-    return {
-        "cause": event.cause, "peer": fit_for_a_line(peer), "user": event.client if event.user is None else event.user.client,
-        "asked": None if asked is None else fit_for_a_line(asked.name), "etype": None if asked is None else asked.etype,
-        "kvno": None if asked is None else asked.kvno}
+    user, asked = event.client if event.user is None else event.user.client, event.asked
+    shown = {"cause": event.cause, "peer": fit_for_a_line(peer), "user": user}
+    if asked is None:
+        return {**shown, "asked": None, "etype": None, "kvno": None}
+    return {**shown, "asked": fit_for_a_line(asked.name), "etype": asked.etype, "kvno": asked.kvno}
 
 
 @lru_cache(maxsize=None)

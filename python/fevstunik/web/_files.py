@@ -32,12 +32,15 @@ class Watched:
         self._seen: tuple[int, ...] | None = None
         self._looked = -_PAUSE
 
+    def is_due(self) -> bool:
+        """Whether it is a second since the file was looked at."""
+        return time.monotonic() >= self._looked + _PAUSE
+
     def changed(self, at_once: bool = False) -> bytes | None:
         """The file's bytes, if it isn't the one that was read last. A file that can't be read raises OSError, once."""
-        now = time.monotonic()
-        if not at_once and now < self._looked + _PAUSE:
+        if not at_once and not self.is_due():
             return None
-        self._looked = now
+        self._looked = time.monotonic()
         try:
             it = os.stat(self.path)
         except OSError:

@@ -69,13 +69,13 @@ class Terms:
 
     def is_bound(self, login: Login) -> bool:
         """Whether the client's channel is that of one of the certificates, or may be unknown."""
+        if not self.certificates.known:
+            return True
         try:
             hashes = self.certificates.hashes()
         except (OSError, ValueError) as error:
             _log.error("the old certificates are kept: %s", error)
             hashes = self.certificates.known
-        if not hashes:
-            return True
         try:
             context = login.context
         except Fault:
@@ -112,7 +112,7 @@ class Gate:
         cookies = self._cookies
         if cookies is not None and request.path == cookies.logout:
             return Answer(HTTPStatus.OK, "LOGOUT", (("Set-Cookie", cookies.ended()),)), Event("LOGOUT", "logged out")
-        if request.is_options or self._terms.is_exempt(request.path):
+        if request.is_options or (self._terms.exempt and self._terms.is_exempt(request.path)):
             return Passed(None), Event("EXEMPT", "nobody has to log in here")
         user = None if cookies is None else cookies.user(request.cookies)
         if user is not None:
@@ -128,15 +128,21 @@ class Gate:
         return self._answered(self._decision(token, request.connection))
 
     def _decision(self, token: bytes, connection: Hashable) -> Login | GoOn | Refused:
+        serving = self._serving
+        if serving is None:
+            try:
+                serving = self._made()
+            except StoreFailed as error:
+                _log.error("the store can't be used: %s", error)
+                return Refused(Code.STORE_FAILED)
+        return serving.answer(token, connection)
+
+    def _made(self) -> Serving:
+        """The service of this process, which the first request makes."""
         with self._lock:
             if self._serving is None:
-                try:
-                    self._serving = self._make()
-                except StoreFailed as error:
-                    _log.error("the store can't be used: %s", error)
-                    return Refused(Code.STORE_FAILED)
-            serving = self._serving
-        return serving.answer(token, connection)
+                self._serving = self._make()
+            return self._serving
 
     def _answered(self, decision: Login | GoOn | Refused) -> _Decided:
         if isinstance(decision, Login):
@@ -185,7 +191,7 @@ def _refused(status: HTTPStatus, cause: str, text: str, headers: Headers = (), c
 
 
 def _header(token: bytes) -> tuple[str, str]:
-    return "WWW-Authenticate", f"Negotiate {base64.b64encode(token).decode()}".rstrip()
+    return ("WWW-Authenticate", f"Negotiate {base64.b64encode(token).decode()}") if token else _CHALLENGE
 
 
 def _is_simple(path: str) -> bool:

@@ -44,7 +44,8 @@ class Serving:
 
     def answer(self, token: bytes, connection: Hashable) -> Login | GoOn | Refused:
         """Decide about a token. `connection` stands for the client's connection: the second round of a negotiation comes over the same."""
-        self._look(False)
+        if self._file.is_due():
+            self._look(False)
         # (a proxy's connection carries requests of several clients, so a token that begins a negotiation never goes on with another's)
         going_on = self._taken(connection) if token.startswith(_GOES_ON) else None
         login = going_on or self._service.login()

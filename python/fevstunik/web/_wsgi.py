@@ -57,8 +57,10 @@ class _Answering:
 
     def _is_whole(self, parts: Iterable[bytes]) -> bool:
         """Whether nothing can fail any more, or the server knows how to send it, such as a file."""
+        if isinstance(parts, (list, tuple)):
+            return True
         file = self._environ.get("wsgi.file_wrapper")
-        return isinstance(parts, (list, tuple)) or (isinstance(file, type) and isinstance(parts, file))
+        return isinstance(file, type) and isinstance(parts, file)
 
     def _begin(self, status: str, headers: list[tuple[str, str]], exc_info: Any = None) -> Callable[[bytes], Any]:
         if exc_info and self._write is not None:
@@ -97,7 +99,7 @@ class _Answering:
 
 
 def _page(answer: Answer, environ: dict[str, Any], start: Callable[..., Any]) -> list[bytes]:
-    headers, body = answer.page(_bytes(environ, "HTTP_ACCEPT"))
+    headers, body = answer.page(b"".join(_values(environ, "HTTP_ACCEPT")))
     start(answer.title, list(headers))
     return [] if environ["REQUEST_METHOD"] == "HEAD" else [body]
 
@@ -111,10 +113,7 @@ def request_of(environ: dict[str, Any]) -> Request:
         address, (address, port) if port else None)
 
 
-def _values(environ: dict[str, Any], name: str) -> list[bytes]:
-    return [_bytes(environ, name)] if name in environ else []
-
-
-def _bytes(environ: dict[str, Any], name: str) -> bytes:
-    """The bytes of a header that the server has made a text of."""
-    return str(environ.get(name, "")).encode("latin-1", "replace")
+def _values(environ: dict[str, Any], name: str) -> tuple[bytes, ...]:
+    """The header, in the bytes that the server has made a text of."""
+    text = environ.get(name)
+    return () if text is None else (str(text).encode("latin-1", "replace"),)
