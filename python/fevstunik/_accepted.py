@@ -239,9 +239,9 @@ def known_by(kind: type[_Known], handle: Handle, skew: int, **more: Any) -> _Kno
     fields of a frozen dataclass one by one takes five times as long.)"""
     known, data = read(_interface.Known, handle.library.call, "accepted_known", handle.accepted)
     made = object.__new__(kind)
-    made.__dict__.update(
-        client=known.client.text(data), starttime=_start(handle), endtime=known.endtime, flags=_flags(known.flags), wants_reply=known.wants_reply,
-        _found=(known, data), _handle=handle, _skew=skew, _lists={}, **more)
+    object.__setattr__(made, "__dict__", {
+        "client": known.client.text(data), "starttime": _start(handle), "endtime": known.endtime, "flags": _flags(known.flags),
+        "wants_reply": known.wants_reply, "_found": (known, data), "_handle": handle, "_skew": skew, "_lists": {}, **more})
     return made
 
 

@@ -229,10 +229,9 @@ class Handle(Secret):
         # (a signal handler may make a call while its thread has the lock)
         self._lock = threading.RLock()
         self._opaque: Any = opaque()
-        self._free = f"{kind}_free"
-        # The pointer to it, for a call that has the lock, or for the thread that made it.
+        self._free = kind + "_free"
+        # The pointer to it, for a call that has the lock, or for the thread that made it; and that to what was accepted, if it holds that.
         self.pointer: Any = byref(self._opaque)
-        # The same to what was accepted, if there is such a thing.
         self.accepted: Any = self.pointer
         self._made_in = here()
 

@@ -137,8 +137,7 @@ class Users:
         >>> Users(realms={}, others="{user} of {realm}").name_of("alice@EX")
         'alice of EX'
         """
-        components, realm = parts_of(client)
-        return self._named(components, realm)
+        return self._named(client)[0]
 
     def user_of(self, login: Login) -> User:
         """Return the user who has logged in. Raise NotAllowed if the client isn't let in.
@@ -149,12 +148,17 @@ class Users:
         >>> Users(realms={"EX": "{user}"}).user_of(service.answer(token, now=1_700_000_100)).name
         'alice'
         """
-        components, realm = parts_of(login.client)
         if not self.anonymous and int(login.flags) & _ANONYMOUS_FLAG:
             raise NotAllowed("the client is anonymous")
-        return User(self._named(components, realm), login.client, realm, components, login.endtime, login)
+        client = login.client
+        name, components, realm = self._named(client)
+        return User(name, client, realm, components, login.endtime, login)
 
-    def _named(self, components: tuple[str, ...], realm: str) -> str:
+    # (clients come again)
+    @lru_cache(maxsize=1024)
+    def _named(self, client: str) -> tuple[str, tuple[str, ...], str]:
+        """The application's name of a client, and the client's components and realm."""
+        components, realm = parts_of(client)
         text = self._realms.get(realm, self._others)
         if components == _ANONYMOUS:
             if not self.anonymous:
@@ -166,10 +170,9 @@ class Users:
         name = text.format(user="/".join(components), realm=realm)
         if self._only is not None and name not in self._only:
             raise NotAllowed("the client isn't one of those who are let in")
-        return name
+        return name, components, realm
 
 
-@lru_cache(maxsize=1024)
 def parts_of(name: str) -> tuple[tuple[str, ...], str]:
     """The components and the realm of a name as the library writes it (docs/FORMATS.md, "A principal as text")."""
     if "\\" not in name and name.isascii():
