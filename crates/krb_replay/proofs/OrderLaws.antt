@@ -1,17 +1,12 @@
 -- The order of stamps is strict, and goes by time.
-use Rattle.std.proofs.Common.{◌≡◌, ◌≢◌, ◌≤ℤ◌, List, [], ◌∷◌, get_or, AllPairs, arith, refl, sym, ap, ◌∙◌, false}
+use Rattle.std.proofs.Common.{◌≡◌, [], ◌∷◌, refl}
 use Rattle.std.specs.declared.cmp.Ordering.{Ordering}
-use Rattle.std.specs.Ordering.{ordering_then, int_cmp, nat_cmp, is_gt, is_lt}
+use Rattle.std.specs.Ordering.{ordering_then, int_cmp, nat_cmp}
 use Rattle.std.specs.declared.cmp.Ordering.TheVariants.{Less, Equal, Greater}
 use Rattle.std.specs.Cmp.Lexicographic.{slice_cmp}
-use Rattle.std.specs.List.Sorted.{IsStrictlySortedBy}
-use Rattle.std.proofs.lemmas.Cmp.{int_ranked, by_ranked, tied_itself}
-use Rattle.std.proofs.lemmas.Int.{ints}
-use Rattle.std.proofs.lemmas.Map.Keys.{Less-from_sorted}
 use Rattle.std.proofs.lemmas.Map.Lookups.{CmpEqualImpliesEq, exact_signed, exact_bytes}
 use Rattle.krb_replay.specs.Bytes.{name_bytes}
-use Rattle.krb_replay.specs.Stamp.{Stamp}
-use Rattle.krb_replay.specs.Inner.Order.{name_cmp, parts_cmp, pair_cmp, stamp_cmp, stamp_total}
+use Rattle.krb_replay.specs.Inner.Order.{name_cmp, parts_cmp, pair_cmp, stamp_cmp}
 
 -- both of two orders tie where the one after the other does
 first_tied : (one other : Ordering) → ordering_then one other ≡ Equal → one ≡ Equal

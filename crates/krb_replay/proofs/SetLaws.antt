@@ -1,15 +1,13 @@
 -- Lists of stamps as sets.
-use Rattle.std.proofs.Common.{◌≡◌, ◌≢◌, ◌⊎◌, inl, inr, ℕ, zero, suc, cond, Bool, true, false, List, [], ◌∷◌, ◌++◌, length, AllPairs, Contains, Decides, refl, sym, ap, ◌∙◌, subst, arith}
+use Rattle.std.proofs.Common.{◌≡◌, ◌≢◌, ◌⊎◌, inl, inr, zero, suc, Bool, List, [], ◌∷◌, ◌++◌, AllPairs, Contains, Decides, sym, ap, ◌∙◌, subst, arith}
 use Rattle.std.specs.List.{IsAnyAnswer}
 use Rattle.std.specs.Ordering.{eq_by_cmp, is_eq}
 use Rattle.std.proofs.lemmas.Cmp.{tied_itself}
 use Rattle.std.proofs.lemmas.List.Elements.{contains_decides, Decides-contains, Contains-get_or}
 use Rattle.std.proofs.lemmas.List.Quantifiers.{all_pairs_push}
-use Rattle.std.specs.BTreeMap.{is_at}
-use Rattle.std.specs.BTreeSet.{BTreeSet, contains, IsOrdered, Updates}
-use Rattle.std.proofs.lemmas.Map.Views.{tells_apart, btree_set_contains_iff}
+use Rattle.std.proofs.lemmas.Map.Views.{tells_apart}
 use Rattle.krb_replay.specs.Stamp.{Stamp}
-use Rattle.krb_replay.specs.Memory.{AddsStamp, IsSizeOf, SameStamps}
+use Rattle.krb_replay.specs.Memory.{AddsStamp, SameStamps}
 use Rattle.krb_replay.specs.Inner.Order.{stamp_cmp, stamp_total}
 use Rattle.std.specs.Prelude.{Result, Ok, Err, OnErr}
 use Rattle.krb_replay.proofs.DropLaws.{among_rest, first_or_rest}

@@ -1,5 +1,5 @@
 -- The times of each client after one more tuple or one less.
-use Rattle.std.proofs.Common.{◌≡◌, ◌≢◌, ◌⊎◌, inl, inr, ℕ, ℤ, zero, suc, ◌≤ℤ◌, ◌+◌, ◌<◌, ◌≤◌, ◌&&◌, Bool, true, false, not, cond, int_lt, Option, Some, None, List, [], ◌∷◌, length, All, Contains, get_or, refl, sym, ap, subst, ◌∙◌, arith}
+use Rattle.std.proofs.Common.{◌≡◌, ◌≢◌, inl, inr, ℕ, ℤ, zero, suc, ◌≤ℤ◌, ◌+◌, ◌<◌, ◌≤◌, ◌&&◌, Bool, true, false, not, cond, int_lt, Option, Some, None, List, [], ◌∷◌, length, Contains, refl, sym, ap, subst, ◌∙◌, arith}
 use Rattle.std.specs.Prelude.{Result, Ok, Err, OnErr, OnOk}
 use Rattle.std.specs.List.{filter}
 use Rattle.std.specs.List.Sorted.{IsPermutation}
@@ -17,7 +17,7 @@ use Rattle.std.proofs.lemmas.List.Elements.{All-contains}
 use Rattle.std.proofs.lemmas.Map.Views.{tells_apart}
 use Rattle.std.proofs.lemmas.List.Sums.{length-filter}
 use Rattle.krb_replay.specs.Stamp.{RealmAndName, Stamp}
-use Rattle.krb_replay.specs.Inner.Held.{AreCounted, AreTimed, is_before, is_of, is_recent, number_before, number_of, since}
+use Rattle.krb_replay.specs.Inner.Held.{AreCounted, AreTimed, is_before, is_recent, number_before, number_of, since}
 use Rattle.krb_replay.specs.Inner.Counts.{AddsOne}
 use Rattle.krb_replay.specs.Memory.{AddsStamp}
 use Rattle.krb_tally.specs.Times.{HasEqual, LacksEqual}
