@@ -42,7 +42,7 @@ class Stamp(Shown):
 
 @dataclass(frozen=True)
 class Known(Secret):
-    """What is known of a client whose request was accepted. What few programs ask for is made when it is first asked for."""
+    """What is known of a client whose request was accepted. Some of it is made when it is first asked for."""
 
     client: str
     service: str
@@ -240,16 +240,18 @@ def known_by(kind: type[_Known], handle: Handle, skew: int, **more: Any) -> _Kno
     known, data = read(_interface.Known, handle.library.call, "accepted_known", handle.accepted)
     made = object.__new__(kind)
     object.__setattr__(made, "__dict__", {
-        "client": known.client.text(data), "starttime": _start(handle), "endtime": known.endtime, "flags": _flags(known.flags),
-        "wants_reply": known.wants_reply, "_found": (known, data), "_handle": handle, "_skew": skew, "_lists": {}, **more})
+        "client": known.client.text(data), "starttime": _start(handle), "endtime": known.endtime,
+        "flags": _flags(known.flags), "wants_reply": known.wants_reply, "_found": (known, data),
+        "_handle": handle, "_skew": skew, "_lists": {}, **more})
     return made
 
 
+# The fields that few programs ask for.
 _SELDOM = frozenset({"service", "time", "authtime", "session_key", "subkey", "seq", "client_type", "service_type"})
 
 
 def _seldom(known: _interface.Known, data: bytes) -> dict[str, Any]:
-    """What is made of the library's numbers when it is first asked for: the names of _SELDOM."""
+    """These fields, by their names."""
     return {
         "service": known.service.text(data), "time": moment_of(known.ctime, known.cusec), "authtime": known.authtime,
         "session_key": Key(known.session_type, known.session_key.of(data)),

@@ -230,8 +230,9 @@ class Handle(Secret):
         self._lock = threading.RLock()
         self._opaque: Any = opaque()
         self._free = kind + "_free"
-        # The pointer to it, for a call that has the lock, or for the thread that made it; and that to what was accepted, if it holds that.
+        # The pointer to it, for a call that has the lock, or for the thread that made it.
         self.pointer: Any = byref(self._opaque)
+        # That to what was accepted, if it holds that.
         self.accepted: Any = self.pointer
         self._made_in = here()
 

@@ -21,7 +21,7 @@ from ._messages import Messages, Side
 from ._service import Refused, Serving, options_of
 from ._shown import fit_for_a_line
 from ._tokens import GoOn, bindings_of
-from ._values import CONFOUNDER, LAST_SECOND, Key, Moment, When, clock, moment_of
+from ._values import CONFOUNDER, LAST_SECOND, Key, Moment, When, clock
 
 if TYPE_CHECKING:
     from .stores import Store
@@ -206,7 +206,7 @@ class Connection(Secret):
                 return self._out_of_memory()
 
     def _decision(self, data: bytes, now: When | None) -> Login | GoOn | Refused | _Waiting:
-        began, random = _ticks(), os.urandom(self._service._random)
+        began, random = 0.0 if now is None else _ticks(), os.urandom(self._service._random)
         answer, reply = self._answer(data, now, random)
         if answer.code == _ASK_STORE:
             self._over = True
@@ -233,7 +233,8 @@ class Connection(Secret):
             # (the clock is read with the lock: otherwise an earlier moment could come after a later one)
             at = clock(now)
             answer = serving.library.call(
-                "service_answer", serving.pointer, self._handle.pointer, data, len(data), byref(at), random, len(random), buffer, ROOM)
+                "service_answer", serving.pointer, self._handle.pointer, data, len(data), byref(at),
+                random, len(random), buffer, ROOM)
         return self._whole(answer, buffer)
 
     def _whole(self, answer: Answer, buffer: Any) -> tuple[Answer, bytes]:
@@ -312,7 +313,7 @@ class _Waiting:
         last = seconds + 2 * (store.largest_skew - service._skew)
         if last > LAST_SECOND:
             raise Fault(Code.BAD_MOMENT)
-        return store.add(stamp, moment_of(last, micros))
+        return store.add(stamp, Moment(last, micros))
 
     def settled(self) -> Login | GoOn | Refused:
         """What comes of it."""
@@ -440,7 +441,7 @@ class Service(Serving):
         REPEAT: a request of this service, client and time was seen before (ticket for host/web@EX, etype 19, kvno 3)
         """
         try:
-            connection = Connection(self)
+            connection = self.login()
         except MemoryError:
             return Refused(Code.OUT_OF_MEMORY)
         return connection.answer(data, now)

@@ -439,6 +439,22 @@ def test_what_is_not_bytes(service, data):
     assert connection.answer(asking(), NOW).client == "alice@EX"
 
 
+def test_what_is_first_asked_for_after_the_login_is_closed(service):
+    """It is what it would have been before."""
+    names = ("service", "time", "authtime", "starttime", "endtime", "session_key", "subkey", "seq", "client_type",
+             "service_type")
+    login, other = service.answer(asking(1), NOW), service.answer(asking(2), NOW)
+    before = [getattr(login, name) for name in names]
+    for it in (login, other):
+        it.close()
+    assert [getattr(login, name) for name in names] == before
+    after = [getattr(other, name) for name in names]
+    assert [name for name, one, another in zip(names, before, after) if one != another] == ["time"]
+    assert other.session_key is other.session_key
+    with pytest.raises(AttributeError, match="'Login' object has no attribute 'sessionkey'"):
+        other.sessionkey
+
+
 def test_a_closed_service(service):
     connection, login = service.login(), service.answer(asking(), NOW)
     service.close()

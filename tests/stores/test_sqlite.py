@@ -162,6 +162,22 @@ def test_old_stamps_are_forgotten(path):
     assert before == 300 and all(not store.add(b"new %d" % it, LATER) for it in range(300))
 
 
+def test_old_stamps_after_many_that_are_kept(path):
+    """Those that are kept are passed by, a portion at a time."""
+    store = SQLite(path)
+    until = NOW * 1_000_000
+    with contextlib.closing(sqlite3.connect(store.path)) as base, base:
+        base.executemany("INSERT INTO stamps VALUES (?, ?)", [(b"a%03d" % it, 2 * until) for it in range(200)])
+        base.executemany("INSERT INTO stamps VALUES (?, ?)", [(b"z%03d" % it, 1) for it in range(10)])
+    for number in range(3 * 32 + 1):
+        assert store.add(b"%d" % number + b"b" * 8, LATER)
+    assert rows(store, "SELECT count(*) FROM stamps WHERE key >= x'7a'") == (10,)
+    for number in range(3 * 32):
+        assert store.add(b"%d" % number + b"c" * 8, LATER)
+    assert rows(store, "SELECT count(*) FROM stamps WHERE key >= x'7a'") == (0,)
+    assert rows(store, "SELECT count(*) FROM stamps") == (200 + 6 * 32 + 1,)
+
+
 def test_a_stamp_that_may_have_been_forgotten(path):
     """The clock was ahead, so stamps were forgotten, and then it was set right: such a stamp isn't called new."""
     store = SQLite(path)

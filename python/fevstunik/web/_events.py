@@ -68,7 +68,7 @@ class Events:
             (self._counters.get(cause) or self._counter_of(cause)).inc()
         level = _LEVELS.get(cause, logging.INFO)
         if _log.isEnabledFor(level):
-            # (Logger.log would look for the line of the source, and for each field whether the record has it, which takes as long as the rest)
+            # (Logger.log would look for the line of the source, which takes as long as the rest)
             record = _log.makeRecord(_log.name, level, __file__, 0, _line(event), (), None)
             record.__dict__.update(_fields(event, peer))
             _log.handle(record)
