@@ -295,9 +295,13 @@ def test_ntlm_first(checks, fevstunik, realm, folder, mode, subkey, attack):
         while isinstance(decision, fevstunik.GoOn):
             said, token = peer.said("step", decision.reply).split()
             number += 1
+            if said == "fault":
+                # (the client has seen by our MIC that its list was changed, and ends; somebody goes on in its place)
+                checks.equal("who finds out", attack in ("changes the list", "takes NTLM off the list"), True)
+                token = gss_rules.going_on(None, b"\1").hex()
             decision = connection.answer(attacked(attack, number, bytes.fromhex(token)))
         if attack != "none":
-            checks.equal(attack, decision.cause.name, ATTACKS[attack])
+            checks.equal(attack, decision.cause.name, "LIST_MIC_MISSING" if said == "fault" else ATTACKS[attack])
             return
         if decision.reply:
             said, token = peer.said("step", decision.reply).split()
@@ -307,6 +311,21 @@ def test_ntlm_first(checks, fevstunik, realm, folder, mode, subkey, attack):
         with decision.messages() as ours:
             exchanged(ours, peer, checks, f"after NTLM, {mode}")
             refused(fevstunik, ours, peer, checks, f"after NTLM, {mode}")
+
+
+@pytest.mark.parametrize("mode", ["mutual", "plain"])
+def test_heimdals_negotiation(checks, fevstunik, realm, folder, mode):
+    """Heimdal's client names Kerberos first. Somebody who puts NTLM before it gets nobody in."""
+    keytab = fevstunik.Keytab((realm.folder / "www.keytab").read_bytes())
+    words = (realm, folder, "Heimdal", "initiate", "HTTP@localhost", mode, "negotiated")
+    with fevstunik.Service(keytab, f"{SERVICE}@{REALM}", first_life=True) as service:
+        with Peer(*words, cache="alice20") as peer:
+            login = service.login().answer(peer.bytes())
+            checks.equal("who it is", (login.client, login.list_shown), (ALICE, False))
+        with Peer(*words, cache="alice20") as peer:
+            peer.bytes()
+            asks = service.login().answer(gss_rules.negotiation(NAMES, None))
+            checks.equal("the client ends", peer.said("step", asks.reply).split()[0], "fault")
 
 
 @pytest.mark.parametrize("subkey", [None, 19, 20], ids=lambda it: f"subkey {it}")

@@ -65,7 +65,7 @@ def mic_in(answer, kind):
 def reply_in(answer):
     """The AP-REP in a later answer, which names no mechanism (RFC 4178, section 4.2.2)."""
     fields = gss_rules.Reader(answer, 0, len(answer)).enter(0xA1).enter(0x30)
-    fields.enter(0xA0)
+    assert fields.enter(0xA0).enter(0x0A).left() == INCOMPLETE
     token = fields.enter(0xA2).enter(0x04).left()
     return token[token.index(b"\2\0\x6f") + 2:]
 
@@ -90,7 +90,7 @@ def test_a_client_that_awaits_a_reply(cache, theirs, ours, shares):
         asks = connection.answer(FIRST, NOW)
         assert isinstance(asks, GoOn) and asks.reply == REQUEST_MIC
         asks = connection.answer(gss_rules.going_on(kerberos(request)), NOW)
-        assert isinstance(asks, GoOn) and asks.reply[:9].endswith(b"\xa0\3\n\1\1")
+        assert isinstance(asks, GoOn)
         agreed = pending.finish(reply_in(asks.reply))
         client = agreed.messages()
         assert client.verify_mic(LIST, mic_in(asks.reply, kind)).name == "NEXT"

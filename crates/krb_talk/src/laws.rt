@@ -47,9 +47,9 @@ pub fn let_in_only_over_its_list()
 /// own. Both are MICs of the list, and what follows goes on after them.
 pub fn both_have_sent_their_mics()
     ensures at_once { (check : Check) (login : AdmittedValue) → IsTrue check.options.is_in_order → IsShown check login
-        → HasSentMics login.accepted check.choice login.context }
+        → HasSentMics login.accepted check.choice login.context.value }
     ensures at_last { (check : Check) (pending : PendingValue) (sent bytes : List ℕ) (login : AdmittedValue) → IsTrue check.options.is_in_order
-        → IsAwaited check pending sent → IsFinished pending bytes login → HasSentMics login.accepted check.choice login.context }
+        → IsAwaited check pending sent → IsFinished pending bytes login → HasSentMics login.accepted check.choice login.context.value }
 {}
 
 /// After such a list no client is let in by the service's decision alone.

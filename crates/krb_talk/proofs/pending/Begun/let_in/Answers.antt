@@ -1,7 +1,7 @@
 use Rattle.std.proofs.Common.{◌≡◌, List, ℕ, sym, ap, subst}
 use Rattle.krb_context.specs.Context.{State, IsMicRefusal}
 use Rattle.krb_talk.specs.States.{Pending}
-use Rattle.krb_talk.proofs.pending.Pending.let_in.Goals as goal
+use Rattle.krb_talk.proofs.pending.Begun.let_in.Goals as goal
 
 pub returns-in-Err-clause-fault : goal.returns-in-Err-clause-fault
 returns-in-Err-clause-fault c =
