@@ -1386,11 +1386,11 @@ fevstunik_answer fevstunik_login_stamp(fevstunik_login *login, fevstunik_time *k
  *
  * Returns FEVSTUNIK_OK, FEVSTUNIK_GO_ON, FEVSTUNIK_SKEW, FEVSTUNIK_REPEAT or
  * FEVSTUNIK_STORE_FAILED; one of the codes from FEVSTUNIK_LIST_MIC_MISSING to
- * FEVSTUNIK_LIST_KEY_TYPE, or FEVSTUNIK_TOKEN_MALFORMED, if the client hasn't shown its list of
- * mechanisms; FEVSTUNIK_OUT_OF_MEMORY if the reply can't be made; or FEVSTUNIK_SHORT_BUFFER. Or
- * decides nothing, leaves the login as it was, and returns the first that applies:
- * FEVSTUNIK_BAD_SAID; FEVSTUNIK_BAD_MOMENT; FEVSTUNIK_EMPTY_HANDLE; FEVSTUNIK_NOT_WAITING if the
- * login doesn't wait for a store, for example because it is settled; FEVSTUNIK_OUT_OF_MEMORY.
+ * FEVSTUNIK_LIST_KEY_TYPE if the client hasn't shown its list of mechanisms;
+ * FEVSTUNIK_OUT_OF_MEMORY if the reply can't be made; or FEVSTUNIK_SHORT_BUFFER. Or decides
+ * nothing, leaves the login as it was, and returns the first that applies: FEVSTUNIK_BAD_SAID;
+ * FEVSTUNIK_BAD_MOMENT; FEVSTUNIK_EMPTY_HANDLE; FEVSTUNIK_NOT_WAITING if the login doesn't wait for
+ * a store, for example because it is settled; FEVSTUNIK_OUT_OF_MEMORY.
  *
  *     fevstunik_time after_the_answer = clock_now();
  *     answer = fevstunik_login_settle(&login, is_new ? FEVSTUNIK_SAID_NEW : FEVSTUNIK_SAID_KNOWN, &after_the_answer, out, sizeof out);

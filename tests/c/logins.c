@@ -341,6 +341,27 @@ static void listed(uint32_t micros, uint8_t turned, bool has_mic, unsigned code)
     fevstunik_cache_free(&credentials);
 }
 
+/* How a service answers to the second message of a client that names NTLM first. The words are its first message, and then each code with the
+ * message. */
+static void second_messages(int count, char **words)
+{
+    static struct bytes first, second;
+    int at;
+
+    from_hex(&first, words[0]);
+    for (at = 1; at + 1 < count; at += 2) {
+        fevstunik_login login = FEVSTUNIK_LOGIN_INIT;
+
+        make(terms_of("plain"));
+        from_hex(&second, words[at + 1]);
+        is("a list", decided(&login, first.at, first.size, 16).code, FEVSTUNIK_GO_ON);
+        is(words[at], decided(&login, second.at, second.size, 16).code, atoi(words[at]));
+        fevstunik_login_free(&login);
+        is_answer("freed", fevstunik_accepted_sent(&login.accepted), FEVSTUNIK_EMPTY_HANDLE, 0, 0, 0);
+    }
+    is("messages", at, 11);
+}
+
 /* The decision stands if the buffer is short: it isn't made again, and the request is remembered once. */
 static void short_buffer(void)
 {
@@ -524,7 +545,7 @@ int main(int count, char **words)
     struct bytes *const inputs[] = {&keytab, &cache, &asking, &going_on};
     int at;
 
-    if (count != 5)
+    if (count < 6)
         return 2;
     from_words(inputs, 4, words);
     for (at = 0; at < 48; at++)
@@ -538,6 +559,7 @@ int main(int count, char **words)
     listed(20, 0, true, FEVSTUNIK_OK);
     listed(21, 1, true, FEVSTUNIK_LIST_MIC_WRONG);
     listed(22, 0, false, FEVSTUNIK_LIST_MIC_MISSING);
+    second_messages(count - 5, words + 5);
     short_buffer();
     asked();
     request_asks();
