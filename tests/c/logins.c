@@ -355,7 +355,8 @@ static void second_messages(int count, char **words)
         make(terms_of("plain"));
         from_hex(&second, words[at + 1]);
         is("a list", decided(&login, first.at, first.size, 16).code, FEVSTUNIK_GO_ON);
-        is(words[at], decided(&login, second.at, second.size, 16).code, atoi(words[at]));
+        is(words[at], called(&login, second.at, second.size, 16, sizeof out).code, atoi(words[at]));
+        is("the same", fevstunik_login_answer(&login, out, sizeof out).code, atoi(words[at]));
         fevstunik_login_free(&login);
         is_answer("freed", fevstunik_accepted_sent(&login.accepted), FEVSTUNIK_EMPTY_HANDLE, 0, 0, 0);
     }
