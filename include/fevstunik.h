@@ -1281,9 +1281,9 @@ void fevstunik_acceptor_free(fevstunik_acceptor *handle);
  *    a client whose stamp the store has taken, and which shows its list of mechanisms by it.
  *  - Any other code but FEVSTUNIK_SHORT_BUFFER: the client isn't let in, and nothing of it can be
  *    read. The bytes are an error (KRB-ERROR) for a client that asks for a reply, else a
- *    negotiation's reject, if it is one. If memory runs out, the code is FEVSTUNIK_FULL, or the
- *    error would be too long, there may be none: then close the connection, so that the client
- *    doesn't wait.
+ *    negotiation's reject, if it is one; a reject, if the client hasn't shown its list of
+ *    mechanisms. If memory runs out, the code is FEVSTUNIK_FULL, or the error would be too long,
+ *    there may be none: then close the connection, so that the client doesn't wait.
  * A client whose negotiation names another mechanism first, and Kerberos after it, is asked for its
  * token of Kerberos and for the MIC of its list of mechanisms, which shows that nobody has changed
  * the list on its way (RFC 4178, section 5). It isn't let in without that. The service's own MIC
@@ -1291,8 +1291,11 @@ void fevstunik_acceptor_free(fevstunik_acceptor *handle);
  *
  * `login` is a new handle for each client. A login that is decided takes no other token: it returns
  * FEVSTUNIK_NEGOTIATION_OVER. Nor does one that waits for a store: it stops waiting, and its client
- * can't be let in by this request. `random` has fresh random bytes, new for each call: 16, then
- * those of the subkey if `subkey_type` of the options isn't 0 (16 for type 19, 32 for type 20).
+ * can't be let in by this request. `random` has random bytes, new for each login: 16, then those of
+ * the subkey if `subkey_type` of the options isn't 0 (16 for type 19, 32 for type 20). Pass the
+ * same bytes if the login takes more messages: one of them is answered by a reply, which is made of
+ * these bytes. A login that goes on has no end of its own: free it if the client's next message
+ * doesn't come in time.
  *
  * If the buffer is too short for the bytes, the code is FEVSTUNIK_SHORT_BUFFER, `size` is the
  * number of bytes that are needed, and `out` is unchanged; but all is decided, so don't make the
@@ -1764,12 +1767,12 @@ fevstunik_answer fevstunik_messages_after_list(fevstunik_messages *messages, con
 /* Begins the service's messages to a client that was let in, as fevstunik_messages_new does.
  * `choice` and `subkey` are what the reply has: those of fevstunik_accepted_reply; or, after
  * fevstunik_service_answer, a choice with the type of the service's subkeys, and the random bytes
- * after the first 16 of the fevstunik_service_answer that took the client's request: keep them
- * until then, also over fevstunik_login_settle and over a last call for the MIC of the client's
- * list of mechanisms. If that list was checked, the messages go on after the MICs of both sides.
- * The choice and the subkey don't count if the client asked for no reply: then both sides count
- * from the client's first number, as MIT krb5 does. With `any_order` repeats are refused still.
- * `accepted` is unchanged. Begin the messages of a login once.
+ * after the first 16 that were passed to fevstunik_service_answer, the same for each message of the
+ * login: keep them until then, also over fevstunik_login_settle. If the client's list of mechanisms
+ * was checked, the messages go on after the MICs of both sides. The choice and the subkey don't
+ * count if the client asked for no reply: then both sides count from the client's first number, as
+ * MIT krb5 does. With `any_order` repeats are refused still. `accepted` is unchanged. Begin the
+ * messages of a login once.
  *
  * Returns FEVSTUNIK_OK; or leaves the handle unchanged and returns the first that applies:
  * FEVSTUNIK_EMPTY_HANDLE or FEVSTUNIK_NOTHING_THERE (of `accepted`); for the client's subkey and
