@@ -69,8 +69,27 @@ impl<T: Timed + Drop> Bucket<T> {
         &self.items[self.items.len() - 1]
     }
 
-    /// Adds an item.
+    /// Adds an item. Makes room for an eighth more if there is none, and not for twice as many, so that
+    /// little room is unused.
     pub(crate) fn add(&mut self, item: T) -> Result<(), AllocError>
+        ensures ok { OnOk result (AddsIn T.timestamp self.old item self.new) }
+        ensures err { OnErr result (self.new ≡ self.old) }
+    {
+        self.make_room()?;
+        self.insert(item)
+    }
+
+    fn make_room(&mut self) -> Result<(), AllocError>
+        ensures { self.new ≡ self.old }
+    {
+        let len = self.items.len();
+        if len == self.items.capacity() {
+            self.items.reserve_exact(len / 8 + 1)?;
+        }
+        Ok(())
+    }
+
+    fn insert(&mut self, item: T) -> Result<(), AllocError>
         ensures ok { OnOk result (AddsIn T.timestamp self.old item self.new) }
         ensures err { OnErr result (self.new ≡ self.old) }
     {
@@ -117,8 +136,19 @@ impl<T: Timed + Drop> Bucket<T> {
         self.items.len() - number_before(self.items.as_slice(), oldest)
     }
 
-    /// Moves the items from the middle on into a bucket.
+    /// Moves the items from the middle on into a bucket, and frees their room here.
     pub(crate) fn split(&mut self) -> Result<Bucket<T>, AllocError>
+        requires { 512 ≤ length self.old }
+        ensures lower { OnOk result (self.new ≡ take 256 self.old) }
+        ensures upper { IfOk result (λ bucket. bucket ≡ drop 256 self.old) }
+        ensures err { OnErr result (self.new ≡ self.old) }
+    {
+        let upper = self.halve()?;
+        self.free_room();
+        Ok(upper)
+    }
+
+    fn halve(&mut self) -> Result<Bucket<T>, AllocError>
         requires { 512 ≤ length self.old }
         ensures lower { OnOk result (self.new ≡ take 256 self.old) }
         ensures upper { IfOk result (λ bucket. bucket ≡ drop 256 self.old) }
@@ -126,6 +156,12 @@ impl<T: Timed + Drop> Bucket<T> {
     {
         let items = self.items.split_off(MOST / 2)?;
         Ok(Bucket { items })
+    }
+
+    fn free_room(&mut self)
+        ensures { self.new ≡ self.old }
+    {
+        self.items.shrink_to_fit();
     }
 }
 

@@ -16,11 +16,10 @@ use std::marker::Model;
 /// The items are in buckets of at most 512. A call finds its bucket by binary search, and its place
 /// in the bucket, too. `since` then adds up the lengths of the later buckets, and `has` goes through
 /// the items of the same time. Ten million items are in about 20,000 buckets if each was later than
-/// the one before, and in at most about 60,000 otherwise.
+/// the one before, and in at most about 60,000 otherwise, if none is removed from the middle.
 ///
-/// Each of many items takes once to twice its size, and about once if each was later than the one
-/// before. A bucket's memory is freed with its last item. (How long a call takes, and how much
-/// memory, isn't proved.)
+/// Each of many items takes its size and at most an eighth more. A bucket's memory is freed with its
+/// last item. (How long a call takes, and how much memory, isn't proved.)
 #[derive(Debug, Drop)]
 pub struct Tally<T: Timed> {
     // They follow each other in time.

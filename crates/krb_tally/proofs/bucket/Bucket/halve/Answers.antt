@@ -2,7 +2,7 @@ use Rattle.std.proofs.Common.{ap, sym, subst, arith, length, length-append, drop
 use Rattle.std.proofs.lemmas.List.{length-drop, take-append-drop}
 use Rattle.krb_tally.specs.Inner.Buckets.{IsRising}
 use Rattle.krb_tally.proofs.BucketLaws.{rising_drop, rising_take}
-use Rattle.krb_tally.proofs.bucket.Bucket.split.Goals as goal
+use Rattle.krb_tally.proofs.bucket.Bucket.halve.Goals as goal
 
 pub invariant_of-result : goal.invariant_of-result
 invariant_of-result g c =

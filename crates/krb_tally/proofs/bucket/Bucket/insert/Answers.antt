@@ -4,7 +4,7 @@ use Rattle.std.specs.List.{insert}
 use Rattle.std.proofs.lemmas.Int.{ints}
 use Rattle.krb_tally.specs.Inner.Buckets.{AddsIn}
 use Rattle.krb_tally.proofs.BucketLaws.{added_length, added_rising, adds}
-use Rattle.krb_tally.proofs.bucket.Bucket.add.Goals as goal
+use Rattle.krb_tally.proofs.bucket.Bucket.insert.Goals as goal
 
 added : {X : Type 0} (when : X → ℤ) (items slice new : List X) (at : ℕ) (said : ℤ) (item : X) → slice ≡ items → said ≡ when item
     → All (λ x. when x <ℤ said) (take at slice) → All (λ x. said ≤ℤ when x) (drop at slice) → new ≡ insert items at item → AddsIn when items item new
