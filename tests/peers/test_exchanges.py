@@ -93,10 +93,11 @@ def test_repeats(checks, peers, ticket):
 
 @OF_EACH_TYPE
 def test_skewed(checks, peers, ticket):
-    """A service whose clock is off by more than the skew, while the ticket is alive."""
+    """A service whose clock is off by more than the skew, while the ticket is alive. (The others' clocks go on: on a busy
+    machine some seconds pass.)"""
     second = now() + 1000
     for who, request in requests_of_all(peers, ticket, second):
-        for distance in (-SKEW - 2, SKEW + 2):
+        for distance in (-SKEW - 30, SKEW + 30):
             found = answers(peers, ticket, request, second + distance)
             checks.equal(f"refusal: a clock {distance} s off, of {who}, {ticket.label}", found,
                          ["refused 37 Skew", "refused 37", "refused 37"])
@@ -108,7 +109,7 @@ def test_ended(checks, peers, ticket):
     after its end."""
     end = ticket.credential()["endtime"]
     for who, request in requests_of_all(peers, ticket, end - 1):
-        found = answers(peers, ticket, request, end + SKEW - 5)
+        found = answers(peers, ticket, request, end + SKEW - 30)
         checks.equal(f"request: an ended ticket within the skew, of {who}, {ticket.label}", found, taken(ticket))
     for library in LIBRARIES:
         request = peers.asked(ticket.realm, library, ticket.cache, ticket.service, end + 20)
