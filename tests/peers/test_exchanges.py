@@ -93,8 +93,8 @@ def test_repeats(checks, peers, ticket):
 
 @OF_EACH_TYPE
 def test_skewed(checks, peers, ticket):
-    """A service whose clock is off by more than the skew, while the ticket is alive. (The others' clocks go on: on a busy
-    machine some seconds pass.)"""
+    """A service whose clock is off by more than the skew, while the ticket is alive. (The others' clocks go on: some
+    seconds pass on a busy machine.)"""
     second = now() + 1000
     for who, request in requests_of_all(peers, ticket, second):
         for distance in (-SKEW - 30, SKEW + 30):
