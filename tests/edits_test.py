@@ -145,7 +145,7 @@ def run_of(room, edits, *more):
     return ran.returncode, ran.stdout
 
 
-# A crate below, of which the other uses nothing: it is there to be changed. One of its functions has a name that the other says.
+# A crate below, which is there to be changed: the other uses nothing of it. The name of one of its functions stands in the other, too.
 LOW = """//! A crate below.
 #![tactic(auto)]
 

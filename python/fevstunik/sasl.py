@@ -234,7 +234,7 @@ class Server(_Side):
 
         now  the moment, by default of the machine's clock
 
-        Raises SaslError if the login fails; then tell the client so, as your protocol does.
+        Raises SaslError if the login fails. Then send the client a refusal, as your protocol has it.
         """
         return self._stepped(octets(response), now)
 
