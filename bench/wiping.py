@@ -5,20 +5,21 @@ ratios of processor time.
     bench/wiping.py
 
 Needs a C compiler. It proves and builds the library, which takes a while on a new clone. Nothing here is a test: it asserts nothing but that the
-programs end well. run.py prints this table too.
+programs end well.
 """
 import sys
 import tempfile
 from pathlib import Path
 
 import builds
-from pairs import PAIRS, of_pairs, time_of
+from pairs import time_of
 
 sys.path += [str(builds.TOP), str(builds.TOP / "tests")]
 from support import key_material  # noqa: E402
 from support.c_programs import toolchain  # noqa: E402
 
-COUNT = 1_000
+# The machine's pace changes from second to second: so many short runs of both in turn, of which the shortest counts.
+COUNT, RUNS = 300, 70
 CALLS = ("fevstunik_request", "fevstunik_acceptor_accept and _accepted_known", "fevstunik_seal, 100 bytes", "fevstunik_open, 100 bytes",
          "fevstunik_checksum, 100 bytes")
 
@@ -39,10 +40,9 @@ def table(folder):
     for cpu in builds.supported():
         programs = built(folder, cpu)
         for etype in key_material.ETYPES:
-            runs = [[list(map(float, builds.said(it, folder, etype, COUNT).split())) for it in programs] for _ in range(PAIRS)]
-            for at, call in enumerate(CALLS):
-                it = of_pairs([(ours[at], theirs[at]) for ours, theirs in runs])
-                print(f"| {call}, type {etype} | {cpu} | {time_of(it.ours)} | {time_of(it.theirs)} | {it.shown} |", flush=True)
+            runs = [[list(map(float, builds.said(it, folder, etype, COUNT).split())) for it in programs] for _ in range(RUNS)]
+            for call, ours, theirs in zip(CALLS, *([min(it) for it in zip(*of_one)] for of_one in zip(*runs))):
+                print(f"| {call}, type {etype} | {cpu} | {time_of(ours)} | {time_of(theirs)} | {theirs / ours:.3f} |", flush=True)
 
 
 def main():

@@ -120,6 +120,14 @@ typedef enum fevstunik_code {
     /* Why fevstunik_login_settle doesn't let a client in, besides SKEW and REPEAT. */
     FEVSTUNIK_STORE_FAILED = 310, /* 60: the store of stamps doesn't answer */
 
+    /* Why a client isn't let in whose negotiation names another mechanism before Kerberos, though
+     * its request is accepted: it hasn't shown that it sent its list of mechanisms (RFC 4178,
+     * section 5). */
+    FEVSTUNIK_LIST_MIC_MISSING = 320,   /* the MIC of the client's list of mechanisms is missing */
+    FEVSTUNIK_LIST_MIC_WRONG = 321,     /* the client's list of mechanisms or its MIC was changed */
+    FEVSTUNIK_LIST_MIC_OTHER_KEY = 322, /* the MIC of the client's list of mechanisms is under another key */
+    FEVSTUNIK_LIST_KEY_TYPE = 323,      /* the client's subkey isn't of type 19 or 20, so it can't protect its list of mechanisms */
+
     /* Codes that many calls may return. */
     FEVSTUNIK_OUT_OF_MEMORY = 400,  /* out of memory; malloc returned NULL */
     FEVSTUNIK_SHORT_BUFFER = 401,   /* the buffer is too short; `size` bytes are needed */
@@ -234,6 +242,10 @@ static inline const char *fevstunik_code_name(uint32_t code)
     case FEVSTUNIK_FOREIGN_REALM: return "FEVSTUNIK_FOREIGN_REALM";
     case FEVSTUNIK_CHANNEL_BINDINGS: return "FEVSTUNIK_CHANNEL_BINDINGS";
     case FEVSTUNIK_STORE_FAILED: return "FEVSTUNIK_STORE_FAILED";
+    case FEVSTUNIK_LIST_MIC_MISSING: return "FEVSTUNIK_LIST_MIC_MISSING";
+    case FEVSTUNIK_LIST_MIC_WRONG: return "FEVSTUNIK_LIST_MIC_WRONG";
+    case FEVSTUNIK_LIST_MIC_OTHER_KEY: return "FEVSTUNIK_LIST_MIC_OTHER_KEY";
+    case FEVSTUNIK_LIST_KEY_TYPE: return "FEVSTUNIK_LIST_KEY_TYPE";
     case FEVSTUNIK_OUT_OF_MEMORY: return "FEVSTUNIK_OUT_OF_MEMORY";
     case FEVSTUNIK_SHORT_BUFFER: return "FEVSTUNIK_SHORT_BUFFER";
     case FEVSTUNIK_EMPTY_HANDLE: return "FEVSTUNIK_EMPTY_HANDLE";
@@ -337,6 +349,10 @@ static inline const char *fevstunik_code_text(uint32_t code)
     case FEVSTUNIK_FOREIGN_REALM: return "the client is of a realm that isn't let in";
     case FEVSTUNIK_CHANNEL_BINDINGS: return "the channel bindings aren't those of the connection";
     case FEVSTUNIK_STORE_FAILED: return "the store of stamps doesn't answer";
+    case FEVSTUNIK_LIST_MIC_MISSING: return "the MIC of the client's list of mechanisms is missing";
+    case FEVSTUNIK_LIST_MIC_WRONG: return "the client's list of mechanisms or its MIC was changed";
+    case FEVSTUNIK_LIST_MIC_OTHER_KEY: return "the MIC of the client's list of mechanisms is under another key";
+    case FEVSTUNIK_LIST_KEY_TYPE: return "the client's subkey isn't of type 19 or 20, so it can't protect its list of mechanisms";
     case FEVSTUNIK_OUT_OF_MEMORY: return "out of memory";
     case FEVSTUNIK_SHORT_BUFFER: return "the buffer is too short";
     case FEVSTUNIK_EMPTY_HANDLE: return "the handle is empty";
@@ -1093,6 +1109,16 @@ fevstunik_answer fevstunik_accepted_stamp(fevstunik_accepted *accepted, uint32_t
  */
 fevstunik_answer fevstunik_accepted_start(fevstunik_accepted *accepted, fevstunik_time *start);
 
+/* Returns in `size` how many messages each side has sent in the login itself: 1 if the client's
+ * list of mechanisms was checked, since each side has sent its MIC then, and otherwise 0. The call
+ * allocates no memory.
+ *
+ * Returns FEVSTUNIK_OK, FEVSTUNIK_EMPTY_HANDLE or FEVSTUNIK_NOTHING_THERE.
+ *
+ *     bool after_list = fevstunik_accepted_sent(&login.accepted).size == 1;
+ */
+fevstunik_answer fevstunik_accepted_sent(fevstunik_accepted *accepted);
+
 /* Counts the items of a list of the accepted request. `list` is a fevstunik_list, and `size` is the
  * number of its items. A list can be present and empty. The call allocates no memory.
  *
@@ -1247,20 +1273,29 @@ void fevstunik_acceptor_free(fevstunik_acceptor *handle);
  *    fevstunik_accepted_known reads it. The bytes are the reply, if the client asks for one; else
  *    what a negotiation says without one.
  *  - FEVSTUNIK_GO_ON: a negotiation goes on. Send the bytes, and make the call with the same login
- *    for the client's next token.
+ *    for the client's next message, which may be the third one.
  *  - FEVSTUNIK_ASK_STORE, if the service shares a store of stamps (FEVSTUNIK_RESTART_SHARED): the
  *    client isn't let in yet, nothing of it can be read, and there are no bytes to send.
  *    fevstunik_login_stamp returns what to ask the store, and fevstunik_login_settle decides by its
- *    answer. Such a service returns FEVSTUNIK_OK from no call but that one.
+ *    answer. Such a service returns FEVSTUNIK_OK from no other call, except for the last message of
+ *    a client whose stamp the store has taken, and which shows its list of mechanisms by it.
  *  - Any other code but FEVSTUNIK_SHORT_BUFFER: the client isn't let in, and nothing of it can be
  *    read. The bytes are an error (KRB-ERROR) for a client that asks for a reply, else a
- *    negotiation's reject, if it is one. If memory runs out, the code is FEVSTUNIK_FULL, or the
- *    error would be too long, there may be none: then close the connection, so that the client
- *    doesn't wait.
+ *    negotiation's reject, if it is one; a reject, if the client hasn't shown its list of
+ *    mechanisms. If memory runs out, the code is FEVSTUNIK_FULL, or the error would be too long,
+ *    there may be none: then close the connection, so that the client doesn't wait.
+ * A client whose negotiation names another mechanism first, and Kerberos after it, is asked for its
+ * token of Kerberos and for the MIC of its list of mechanisms, which shows that nobody has changed
+ * the list on its way (RFC 4178, section 5). It isn't let in without that. The service's own MIC
+ * goes back, too. fevstunik_messages_of_accepted goes on after both.
+ *
  * `login` is a new handle for each client. A login that is decided takes no other token: it returns
  * FEVSTUNIK_NEGOTIATION_OVER. Nor does one that waits for a store: it stops waiting, and its client
- * can't be let in by this request. `random` has fresh random bytes, new for each call: 16, then
- * those of the subkey if `subkey_type` of the options isn't 0 (16 for type 19, 32 for type 20).
+ * can't be let in by this request. `random` has random bytes, new for each login: 16, then those of
+ * the subkey if `subkey_type` of the options isn't 0 (16 for type 19, 32 for type 20). Pass the
+ * same bytes if the login takes more messages: one of them is answered by a reply, which is made of
+ * these bytes. A login that goes on has no end of its own: free it if the client's next message
+ * doesn't come in time.
  *
  * If the buffer is too short for the bytes, the code is FEVSTUNIK_SHORT_BUFFER, `size` is the
  * number of bytes that are needed, and `out` is unchanged; but all is decided, so don't make the
@@ -1271,11 +1306,12 @@ void fevstunik_acceptor_free(fevstunik_acceptor *handle);
  *
  * Returns FEVSTUNIK_OK, FEVSTUNIK_GO_ON or FEVSTUNIK_ASK_STORE; a cause from FEVSTUNIK_MESSAGE_TYPE
  * to FEVSTUNIK_CHANNEL_BINDINGS; FEVSTUNIK_FULL or FEVSTUNIK_OUT_OF_MEMORY if the request can't be
- * remembered or answered; FEVSTUNIK_NEGOTIATION_OVER or one of the codes from FEVSTUNIK_NOT_A_TOKEN
- * to FEVSTUNIK_NESTED_NEGOTIATION if the bytes hold no request; or FEVSTUNIK_SHORT_BUFFER. Or
- * decides nothing, leaves the service and the negotiation unchanged, and returns the first that
- * applies: FEVSTUNIK_BAD_MOMENT; FEVSTUNIK_EMPTY_HANDLE for the service; FEVSTUNIK_BAD_RANDOM;
- * FEVSTUNIK_OUT_OF_MEMORY.
+ * remembered or answered; FEVSTUNIK_LIST_KEY_TYPE, _LIST_MIC_MISSING, _LIST_MIC_WRONG or
+ * _LIST_MIC_OTHER_KEY if the client hasn't shown its list of mechanisms; FEVSTUNIK_NEGOTIATION_OVER
+ * or one of the codes from FEVSTUNIK_NOT_A_TOKEN to FEVSTUNIK_NESTED_NEGOTIATION if the bytes hold
+ * no request; or FEVSTUNIK_SHORT_BUFFER. Or decides nothing, leaves the service and the negotiation
+ * unchanged, and returns the first that applies: FEVSTUNIK_BAD_MOMENT; FEVSTUNIK_EMPTY_HANDLE for
+ * the service; FEVSTUNIK_BAD_RANDOM; FEVSTUNIK_OUT_OF_MEMORY.
  *
  *     fevstunik_login login = FEVSTUNIK_LOGIN_INIT;
  *     answer = fevstunik_service_answer(&service, &login, input, input_size, &now, random, 16, out, sizeof out);
@@ -1291,7 +1327,8 @@ fevstunik_answer fevstunik_service_answer(fevstunik_acceptor *service, fevstunik
  * Returns FEVSTUNIK_SHORT_BUFFER; FEVSTUNIK_EMPTY_HANDLE; FEVSTUNIK_NOTHING_THERE if nothing was
  * decided by that call, or the login waits for a store; or the code that was decided: FEVSTUNIK_OK,
  * FEVSTUNIK_GO_ON, a cause from FEVSTUNIK_MESSAGE_TYPE to FEVSTUNIK_CHANNEL_BINDINGS,
- * FEVSTUNIK_STORE_FAILED, FEVSTUNIK_FULL, FEVSTUNIK_OUT_OF_MEMORY, FEVSTUNIK_NEGOTIATION_OVER or
+ * FEVSTUNIK_STORE_FAILED, one of the codes from FEVSTUNIK_LIST_MIC_MISSING to
+ * FEVSTUNIK_LIST_KEY_TYPE, FEVSTUNIK_FULL, FEVSTUNIK_OUT_OF_MEMORY, FEVSTUNIK_NEGOTIATION_OVER or
  * one of the codes from FEVSTUNIK_NOT_A_TOKEN to FEVSTUNIK_NESTED_NEGOTIATION.
  *
  *     if (answer.code == FEVSTUNIK_SHORT_BUFFER)
@@ -1333,6 +1370,11 @@ fevstunik_answer fevstunik_login_stamp(fevstunik_login *login, fevstunik_time *k
  *  - FEVSTUNIK_REPEAT: the store has had the stamp before.
  *  - FEVSTUNIK_STORE_FAILED: the store has failed. Say so if it doesn't answer in time, and never
  *    use an answer that comes later. The client may try again with a new request.
+ *  - FEVSTUNIK_GO_ON: the stamp is new, and the client is asked for the MIC of its list of
+ *    mechanisms. Send the bytes, and give its next message to fevstunik_service_answer with the
+ *    same login. The store isn't asked again.
+ *  - A code from FEVSTUNIK_LIST_MIC_MISSING to FEVSTUNIK_LIST_KEY_TYPE: the stamp is new, but the
+ *    client hasn't shown its list of mechanisms.
  * Unless the code is FEVSTUNIK_SHORT_BUFFER, send the `size` bytes, whatever the code is; if there
  * are none, nothing goes back. If the buffer is too short, all is decided, as for
  * fevstunik_service_answer: fevstunik_login_answer returns the code and the bytes with a longer
@@ -1345,7 +1387,9 @@ fevstunik_answer fevstunik_login_stamp(fevstunik_login *login, fevstunik_time *k
  * Nothing of the service is used: if threads share it, this call needs no lock, and the service may
  * be freed meanwhile.
  *
- * Returns FEVSTUNIK_OK, FEVSTUNIK_SKEW, FEVSTUNIK_REPEAT or FEVSTUNIK_STORE_FAILED;
+ * Returns FEVSTUNIK_OK, FEVSTUNIK_GO_ON, FEVSTUNIK_SKEW, FEVSTUNIK_REPEAT or
+ * FEVSTUNIK_STORE_FAILED; one of the codes from FEVSTUNIK_LIST_MIC_MISSING to
+ * FEVSTUNIK_LIST_KEY_TYPE if the client hasn't shown its list of mechanisms;
  * FEVSTUNIK_OUT_OF_MEMORY if the reply can't be made; or FEVSTUNIK_SHORT_BUFFER. Or decides
  * nothing, leaves the login as it was, and returns the first that applies: FEVSTUNIK_BAD_SAID;
  * FEVSTUNIK_BAD_MOMENT; FEVSTUNIK_EMPTY_HANDLE; FEVSTUNIK_NOT_WAITING if the login doesn't wait for
@@ -1704,13 +1748,31 @@ fevstunik_answer fevstunik_messages_new(fevstunik_messages *messages, const fevs
                                         size_t session_key_size, const uint8_t *client_subkey, size_t client_subkey_size,
                                         const uint8_t *service_subkey, size_t service_subkey_size);
 
+/* Begins the messages of one side as fevstunik_messages_new does, after a login in which each side
+ * has sent its first message: the MIC of the client's list of mechanisms (RFC 4178, section 5). The
+ * numbers of `options` are the first ones, those of the MICs, and the messages go on with the next
+ * ones.
+ *
+ * Returns FEVSTUNIK_OK; or leaves the handle unchanged and returns the first that applies:
+ * FEVSTUNIK_BAD_ROLE; for the session key, the client's subkey and the service's, in this order,
+ * FEVSTUNIK_KEY_TYPE or FEVSTUNIK_KEY_LENGTH; FEVSTUNIK_OUT_OF_MEMORY.
+ *
+ *     answer = fevstunik_messages_after_list(&messages, &agreed, bytes + both.session_key.at, both.session_key.size, subkey, subkey_size,
+ *         bytes + both.service_subkey.at, both.service_subkey.size);
+ */
+fevstunik_answer fevstunik_messages_after_list(fevstunik_messages *messages, const fevstunik_message_options *options,
+                                               const uint8_t *session_key, size_t session_key_size, const uint8_t *client_subkey,
+                                               size_t client_subkey_size, const uint8_t *service_subkey, size_t service_subkey_size);
+
 /* Begins the service's messages to a client that was let in, as fevstunik_messages_new does.
  * `choice` and `subkey` are what the reply has: those of fevstunik_accepted_reply; or, after
  * fevstunik_service_answer, a choice with the type of the service's subkeys, and the random bytes
- * after the first 16 of the last fevstunik_service_answer with this login: keep them until then,
- * also over fevstunik_login_settle. They don't count if the client asked for no reply: then both
- * sides count from the client's first number, as MIT krb5 does. With `any_order` repeats are
- * refused still. `accepted` is unchanged. Begin the messages of a login once.
+ * after the first 16 that were passed to fevstunik_service_answer, the same for each message of the
+ * login: keep them until then, also over fevstunik_login_settle. If the client's list of mechanisms
+ * was checked, the messages go on after the MICs of both sides. The choice and the subkey don't
+ * count if the client asked for no reply: then both sides count from the client's first number, as
+ * MIT krb5 does. With `any_order` repeats are refused still. `accepted` is unchanged. Begin the
+ * messages of a login once.
  *
  * Returns FEVSTUNIK_OK; or leaves the handle unchanged and returns the first that applies:
  * FEVSTUNIK_EMPTY_HANDLE or FEVSTUNIK_NOTHING_THERE (of `accepted`); for the client's subkey and

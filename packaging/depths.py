@@ -1,7 +1,10 @@
 #!/usr/bin/env python3
 """Finds how much of the stack each function of the library for C can use, from the machine code.
 
-    packaging/depths.py OBJECT     OBJECT is the relocatable object of the proved code; prints a line of C for each function fevstunik_*
+    packaging/depths.py OBJECT                  OBJECT is the relocatable object of the proved code; prints a line of C for each
+                                                function fevstunik_*
+    packaging/depths.py --chain NAME OBJECT     prints the deepest chain of calls from this function on: for each function its own
+                                                bytes, those down to the end of the chain, and its name
 
 Follows the stack pointer through each function, and the calls between functions. Ends with an error if it meets what it can't bound: a stack
 pointer that is computed, a call by a pointer, or a recursion that it doesn't know.
@@ -93,6 +96,8 @@ class Depths:
     def __init__(self, functions):
         self.functions = {it.name: it for it in functions}
         self.known, self.under_way = {}, []
+        # The function that the deepest chain of calls goes on with; "" if none.
+        self.next = {}
 
     def of(self, name):
         """So many bytes below the return address, and with it."""
@@ -113,7 +118,7 @@ class Depths:
 
     def frame(self, function):
         places = {step.at: at for at, step in enumerate(function.steps)}
-        depths, deepest, left, body = {}, 0, [(0, 0)], 0
+        depths, deepest, left, body = {}, (0, ""), [(0, 0)], 0
         while left or len(depths) < len(function.steps):
             if not left:
                 # What only a table of jumps leads to: the frame is set up there.
@@ -124,18 +129,18 @@ class Depths:
                 depths[at] = depth
                 after = moved_by(step, depth)
                 depth = body if after is None else after
-                deepest = max(deepest, depth)
+                deepest = max(deepest, (depth, ""))
                 if step.name.startswith("ret") or step.name in ("ud2", "hlt"):
                     break
                 if step.name.startswith("call"):
-                    deepest = max(deepest, depth + self.of(self.called(function, step)))
+                    deepest = max(deepest, self.through(depth, self.called(function, step)))
                 elif step.name.startswith("jmp"):
                     body = max(body, depth)
                     inner = self.jump(function, step, places)
                     if inner is None:
                         break
                     if isinstance(inner, str):
-                        deepest = max(deepest, depth + self.of(inner))
+                        deepest = max(deepest, self.through(depth, inner))
                         break
                     at = inner
                     continue
@@ -143,11 +148,23 @@ class Depths:
                     body = max(body, depth)
                     inner = self.jump(function, step, places)
                     if isinstance(inner, str):
-                        deepest = max(deepest, depth + self.of(inner))
+                        deepest = max(deepest, self.through(depth, inner))
                     elif inner is not None:
                         left.append((inner, depth))
                 at += 1
-        return deepest
+        self.next[function.name] = deepest[1]
+        return deepest[0]
+
+    def through(self, depth, name):
+        """How deep the stack gets in a function that is called at this depth, and its name."""
+        return depth + self.of(name), name
+
+    def chain(self, name):
+        """The deepest chain of calls: each function with its own bytes, and those from it on."""
+        while name in self.functions:
+            whole, below = self.of(name), self.next[name]
+            yield name, whole - (self.of(below) if below else 0), whole
+            name = below
 
     def called(self, function, step):
         if step.words.startswith("*") and not step.moved:
@@ -173,15 +190,23 @@ class Depths:
         return 0 if name == function.name else name
 
 
+def depths_of(path):
+    text = subprocess.run(["objdump", "-dr", "--no-show-raw-insn", path], capture_output=True, text=True, check=True).stdout
+    return Depths(read(text))
+
+
 def depths(path):
     """The depth of each function that the object exports."""
-    text = subprocess.run(["objdump", "-dr", "--no-show-raw-insn", path], capture_output=True, text=True, check=True).stdout
-    found = Depths(read(text))
+    found = depths_of(path)
     return {name: found.of(name) + ARGUMENTS for name in sorted(found.functions) if name.startswith("fevstunik_")}
 
 
 def main():
     try:
+        if sys.argv[1] == "--chain":
+            for name, own, whole in depths_of(sys.argv[3]).chain(sys.argv[2]):
+                print(f"{own:7} {whole:7} {name}")
+            return
         for name, depth in depths(sys.argv[1]).items():
             print(f"#define DEPTH_OF_{name.removeprefix('fevstunik_').upper()} {(depth + 15) // 16 * 16}")
     except Unbounded as fault:

@@ -87,10 +87,10 @@ static void serve(int peer)
     fevstunik_login login = FEVSTUNIK_LOGIN_INIT;
     fevstunik_answer answer = {FEVSTUNIK_GO_ON, 0, 0, 0};
 
-    while (answer.code == FEVSTUNIK_GO_ON && receive(peer, &input)) {
-        draw(random, sizeof random);
+    /* (the reply is made of these, whichever of the client's messages it answers) */
+    draw(random, sizeof random);
+    while (answer.code == FEVSTUNIK_GO_ON && receive(peer, &input))
         answer = decide(peer, &login, &input, random, sizeof random);
-    }
     if (answer.code == FEVSTUNIK_OK)
         hear(peer, &login.accepted, random + 16);
     else

@@ -210,6 +210,15 @@ fevstunik_answer fevstunik_accepted_start(fevstunik_accepted *accepted, fevstuni
     return answer;
 }
 
+fevstunik_answer proved_accepted_sent(fevstunik_accepted *accepted);
+fevstunik_answer fevstunik_accepted_sent(fevstunik_accepted *accepted)
+{
+    fevstunik_answer answer = proved_accepted_sent(accepted);
+
+    wipe_below(DEPTH_OF_ACCEPTED_SENT);
+    return answer;
+}
+
 fevstunik_answer proved_accepted_count(fevstunik_accepted *accepted, uint32_t list);
 fevstunik_answer fevstunik_accepted_count(fevstunik_accepted *accepted, uint32_t list)
 {
@@ -609,6 +618,20 @@ fevstunik_answer fevstunik_messages_new(fevstunik_messages *messages, const fevs
                                                   service_subkey, service_subkey_size);
 
     wipe_below(DEPTH_OF_MESSAGES_NEW);
+    return answer;
+}
+
+fevstunik_answer proved_messages_after_list(fevstunik_messages *messages, const fevstunik_message_options *options,
+                                            const uint8_t *session_key, size_t session_key_size, const uint8_t *client_subkey,
+                                            size_t client_subkey_size, const uint8_t *service_subkey, size_t service_subkey_size);
+fevstunik_answer fevstunik_messages_after_list(fevstunik_messages *messages, const fevstunik_message_options *options,
+                                               const uint8_t *session_key, size_t session_key_size, const uint8_t *client_subkey,
+                                               size_t client_subkey_size, const uint8_t *service_subkey, size_t service_subkey_size)
+{
+    fevstunik_answer answer = proved_messages_after_list(messages, options, session_key, session_key_size, client_subkey,
+                                                         client_subkey_size, service_subkey, service_subkey_size);
+
+    wipe_below(DEPTH_OF_MESSAGES_AFTER_LIST);
     return answer;
 }
 

@@ -65,14 +65,18 @@ void rattle_dealloc(uint8_t *block)
     free(block - HEAD);
 }
 
-/* Makes a block one of another size, with its first `kept` bytes. Without memory it is as it was. */
+/* Makes a block one of another size, with its first `kept` bytes. Without memory it is as it was. A block that gets little smaller stays
+ * where it is. */
 struct tried rattle_realloc(uint8_t *block, size_t kept, size_t size, size_t alignment)
 {
-    struct tried tried = {true, block};
+    struct tried stays = {true, block}, tried;
+    size_t room = *size_of(block);
 
-    if (size > 0 && size <= *size_of(block))
-        return tried;
+    if (size > 0 && size <= room && size > room / 4 * 3)
+        return stays;
     tried = rattle_alloc(size, alignment);
+    if (!tried.ok && size > 0 && size <= room)
+        return stays;
     if (tried.ok) {
         memcpy(tried.block, block, kept);
         rattle_dealloc(block);

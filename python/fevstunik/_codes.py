@@ -41,6 +41,10 @@ class Code(enum.IntEnum):
     FOREIGN_REALM = 290
     CHANNEL_BINDINGS = 300
     STORE_FAILED = 310
+    LIST_MIC_MISSING = 320
+    LIST_MIC_WRONG = 321
+    LIST_MIC_OTHER_KEY = 322
+    LIST_KEY_TYPE = 323
     OUT_OF_MEMORY = 400
     SHORT_BUFFER = 401
     EMPTY_HANDLE = 402
@@ -152,6 +156,10 @@ _TEXTS = {
     Code.FOREIGN_REALM: "the client is of a realm that isn't let in",
     Code.CHANNEL_BINDINGS: "the channel bindings aren't those of the connection",
     Code.STORE_FAILED: "the store of stamps doesn't answer",
+    Code.LIST_MIC_MISSING: "the MIC of the client's list of mechanisms is missing",
+    Code.LIST_MIC_WRONG: "the client's list of mechanisms or its MIC was changed",
+    Code.LIST_MIC_OTHER_KEY: "the MIC of the client's list of mechanisms is under another key",
+    Code.LIST_KEY_TYPE: "the client's subkey isn't of type 19 or 20, so it can't protect its list of mechanisms",
     Code.OUT_OF_MEMORY: "out of memory",
     Code.SHORT_BUFFER: "the buffer is too short",
     Code.EMPTY_HANDLE: "the handle is empty",

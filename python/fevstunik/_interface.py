@@ -412,6 +412,7 @@ FUNCTIONS: dict[str, tuple[Any, tuple[Any, ...]]] = {
     "accepted_known": (Answer, (HANDLE, POINTER(Known), *INTO)),  # Acceptor.accept
     "accepted_stamp": (Answer, (HANDLE, c_uint32, POINTER(Time), *INTO)),  # Accepted.stamp
     "accepted_start": (Answer, (HANDLE, POINTER(Time))),  # Accepted.starttime
+    "accepted_sent": (Answer, (HANDLE,)),  # Login.messages
     "accepted_count": (Answer, (HANDLE, c_uint32)),  # Accepted.addresses
     "accepted_item": (Answer, (HANDLE, c_uint32, c_size_t, POINTER(c_int32), *INTO)),  # Accepted.addresses
     "accepted_reply": (Answer, (HANDLE, *DATA, POINTER(Choice), *DATA, *INTO)),  # Accepted.reply
@@ -449,6 +450,7 @@ FUNCTIONS: dict[str, tuple[Any, tuple[Any, ...]]] = {
     "verdict_read": (Answer, (*DATA, POINTER(Verdict))),  # read_verdict
     "context_read": (Answer, (*DATA, POINTER(Context), *INTO)),  # Context.read
     "messages_new": (Answer, (HANDLE, POINTER(MessageOptions), *DATA, *DATA, *DATA)),  # Messages
+    "messages_after_list": (Answer, (HANDLE, POINTER(MessageOptions), *DATA, *DATA, *DATA)),  # Messages
     "messages_mic": (Answer, (HANDLE, *DATA, *INTO)),  # Messages.mic
     "messages_verify": (Answer, (HANDLE, *DATA, *DATA, POINTER(Received))),  # Messages.verify_mic
     "messages_wrap": (Answer, (HANDLE, c_bool, *DATA, *DATA, *INTO)),  # Messages.wrap

@@ -91,6 +91,7 @@ class Login(Known):
     client          the client, as ``alice@EX``
     reply           the bytes to send to the client; none if they are empty
     service_subkey  the key that the reply sends, if the service was made with `subkey`, and the client asks for a reply; else None
+    list_shown      whether the client's list of mechanisms was checked by its MIC: then each side has sent one
     service         the service that was asked for, as ``host/web@EX``
     time            the client's time
     authtime        when the client was authenticated, in seconds
@@ -117,6 +118,7 @@ class Login(Known):
 
     reply: bytes = field(repr=False)
     service_subkey: Key | None
+    list_shown: bool = False
 
     def messages(self, *, any_order: bool = False, repeats: bool = False) -> Messages:
         """Begin the service's messages to this client: MIC and Wrap tokens of the GSS-API. Send `reply` first.
@@ -125,7 +127,8 @@ class Login(Known):
 
         Call it once for each login: other messages of the same login begin again at the first numbers, and take what was taken before.
 
-        If the client asked for no reply, both sides count from its own number, as MIT krb5 does.
+        If the client asked for no reply, both sides count from its own number, as MIT krb5 does. If its list of mechanisms was checked, the
+        messages go on after the MICs of both sides.
 
         >>> from fevstunik import Client, CredentialCache, Keytab, Service
         >>> service = Service(Keytab.read("examples/service.keytab"), "host/web@EX", first_life=True, subkey=20)
@@ -139,7 +142,7 @@ class Login(Known):
         # (the client's subkey doesn't count then, and may be of any type)
         subkey = self.subkey if self.service_subkey is None else None
         return Messages(Side.SERVICE, self.session_key, client_subkey=subkey, service_subkey=self.service_subkey, client_seq=first,
-                        service_seq=0 if self.wants_reply else first, any_order=any_order, repeats=repeats)
+                        service_seq=0 if self.wants_reply else first, any_order=any_order, repeats=repeats, after_list=self.list_shown)
 
 
 class Connection(Secret):
@@ -153,9 +156,13 @@ class Connection(Secret):
 
     def __init__(self, service: Service) -> None:
         self._service, self._handle, self._over = service, _LoginHandle(), False
+        self._random = b""
 
     def answer(self, data: Bytes, now: When | None = None) -> Login | GoOn | Refused:
-        """Answer the client's next bytes, as Service.answer does. After GoOn, call it again with the client's next token.
+        """Answer the client's next bytes, as Service.answer does. After GoOn, call it again with the client's next message.
+
+        A client whose negotiation names another mechanism before Kerberos is asked for its token and for the MIC of its list of mechanisms
+        (RFC 4178, section 5). It isn't let in without that, and sends two or three messages.
 
         After a Login or a Refused the login is over, and other bytes are refused with NEGOTIATION_OVER.
 
@@ -201,15 +208,19 @@ class Connection(Secret):
     def _decision(self, data: bytes, now: When | None) -> Login | GoOn | Refused | _Waiting:
         began, random = 0.0 if now is None else _ticks(), os.urandom(self._service._random)
         answer, reply = self._answer(data, now, random)
+        if answer.code == _ASK_STORE:
+            self._over = True
+            return _Waiting(self, random, now, began)
+        return self._outcome(answer, reply, random)
+
+    def _outcome(self, answer: Answer, reply: bytes, random: bytes) -> Login | GoOn | Refused:
+        """What comes of a message that is decided on."""
         code = answer.code
         self._over = code != _GO_ON
-        if code == _ASK_STORE:
-            return _Waiting(self, random, now, began)
-        return self._outcome(answer, reply, random) if self._over else GoOn(reply)
-
-    def _outcome(self, answer: Answer, reply: bytes, random: bytes) -> Login | Refused:
-        """What comes of a login that is decided."""
-        if answer.code == _OK:
+        if code == _GO_ON:
+            self._random = random
+            return GoOn(reply)
+        if code == _OK:
             return self._let_in(reply, random)
         asked, held = self._for_a_log(answer.code)
         self._handle.close()
@@ -242,7 +253,7 @@ class Connection(Secret):
             until, stamp = read(_interface.Time, handle.library.call, "login_stamp", handle.pointer)
         return stamp, until.seconds, until.micros
 
-    def _settled(self, said: int, at: _interface.Time, random: bytes) -> Login | Refused:
+    def _settled(self, said: int, at: _interface.Time, random: bytes) -> Login | GoOn | Refused:
         """What is decided after the store has spoken."""
         buffer, handle = Buffer(), self._handle
         with handle.locked():
@@ -251,10 +262,12 @@ class Connection(Secret):
             return self._outcome(answer, reply, random)
 
     def _let_in(self, reply: bytes, random: bytes) -> Login:
-        kind = self._service._subkey
-        login = known_by(Login, self._handle, self._service._skew, reply=reply, service_subkey=None)
+        kind, shown = self._service._subkey, self._handle.inside("accepted_sent").size == 1
+        login = known_by(Login, self._handle, self._service._skew, reply=reply, service_subkey=None, list_shown=shown)
         if kind is not None and login.wants_reply:
-            object.__setattr__(login, "service_subkey", Key(kind, random[CONFOUNDER:]))
+            # (nothing goes back to a last message that has a MIC alone: the reply went back before, with other random bytes)
+            drawn = random if reply else self._random
+            object.__setattr__(login, "service_subkey", Key(kind, drawn[CONFOUNDER:]))
         return login
 
     def _out_of_memory(self) -> Refused:
@@ -302,7 +315,7 @@ class _Waiting:
             raise Fault(Code.BAD_MOMENT)
         return store.add(stamp, Moment(last, micros))
 
-    def settled(self) -> Login | Refused:
+    def settled(self) -> Login | GoOn | Refused:
         """What comes of it."""
         connection = self._connection
         try:

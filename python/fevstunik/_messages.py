@@ -78,6 +78,8 @@ class Messages(Secret):
     any_order       False: only the other side's next message is taken, and another one raises the Fault MESSAGE_GAP, MESSAGE_REPEAT or
                     MESSAGE_OLD. True: those after a gap and late ones are taken, too, as over datagrams
     repeats         whether, with any_order, repeats are taken too, and those that are too old to tell: then look at each one's order
+    after_list      whether each side has sent its first message, the MIC of the client's list of mechanisms (RFC 4178, section 5): the messages
+                    go on with the next numbers
 
     Keys of types 19 and 20 protect messages; the service's subkey counts before the client's, and that before the session key.
 
@@ -93,13 +95,14 @@ class Messages(Secret):
     """
 
     def __init__(self, side: Side, session_key: Key, *, client_subkey: Key | None = None, service_subkey: Key | None = None,
-                 client_seq: int = 0, service_seq: int = 0, any_order: bool = False, repeats: bool = False) -> None:
+                 client_seq: int = 0, service_seq: int = 0, any_order: bool = False, repeats: bool = False, after_list: bool = False) -> None:
         keys = [session_key, client_subkey, service_subkey]
         kinds = [0 if it is None else fitting(it.kind, 32, signed=True) for it in keys]
         datas = [b"" if it is None else octets(it.data) for it in keys]
         options = _interface.MessageOptions(Side(side), *kinds, fitting(client_seq, 32), fitting(service_seq, 32), 0, any_order, repeats)
         self._handle = Handle("messages")
-        done(self._handle.call("messages_new", byref(options), *(word for data in datas for word in (data, len(data)))))
+        begin = "messages_after_list" if after_list else "messages_new"
+        done(self._handle.call(begin, byref(options), *(word for data in datas for word in (data, len(data)))))
 
     def mic(self, text: Bytes) -> bytes:
         """Return the MIC token of a text: 32 bytes (type 19) or 40 (type 20). Send it with the text.

@@ -193,7 +193,10 @@ class Token(Shown):
 
 @dataclass(frozen=True, repr=False)
 class GoOn(Shown):
-    """What a negotiation answers a client that named Kerberos first and sent no token: send it, and take the client's next token.
+    """What a negotiation answers a client that has to send one more message: send it, and take the client's next one.
+
+    So it goes on with a client that named Kerberos first and sent no token; and, in a Service's login, with one that named another
+    mechanism first, which has to show its list of mechanisms.
 
     reply  the bytes to send
 

@@ -217,6 +217,152 @@ static void two_rounds(void)
     fevstunik_login_free(&login);
 }
 
+/* An element of DER. */
+static size_t element(uint8_t *to, uint8_t tag, const uint8_t *content, size_t size)
+{
+    size_t at = 0;
+
+    to[at++] = tag;
+    if (size >= 0x80)
+        to[at++] = size >= 0x100 ? 0x82 : 0x81;
+    if (size >= 0x100)
+        to[at++] = (uint8_t)(size >> 8);
+    to[at++] = (uint8_t)size;
+    memmove(to + at, content, size);
+    return at + size;
+}
+
+/* A client's later message in a negotiation (RFC 4178, section 4.2.2), with a token that has this request, if there is one, and this MIC. */
+static size_t later(const uint8_t *request, size_t size, const uint8_t *mic, size_t mic_size)
+{
+    static uint8_t one[8192], two[8192], fields[8192];
+    size_t at = 0, made;
+
+    if (size > 0) {
+        made = fevstunik_token_request(&wrappings[1], request, size, one, sizeof one).size;
+        made = element(two, 0x04, one, made);
+        at += element(fields + at, 0xa2, two, made);
+    }
+    if (mic_size > 0) {
+        made = element(two, 0x04, mic, mic_size);
+        at += element(fields + at, 0xa3, two, made);
+    }
+    made = element(one, 0x30, fields, at);
+    return element(token, 0xa1, one, made);
+}
+
+/* NTLM and then Kerberos: a negotiation without a token, and the list in it. */
+static const uint8_t listing[] = {0x60, 0x27, 0x06, 0x06, 0x2b, 0x06, 0x01, 0x05, 0x05, 0x02, 0xa0, 0x1d, 0x30, 0x1b,
+                                  0xa0, 0x19, 0x30, 0x17, 0x06, 0x0a, 0x2b, 0x06, 0x01, 0x04, 0x01, 0x82, 0x37, 0x02,
+                                  0x02, 0x0a, 0x06, 0x09, 0x2a, 0x86, 0x48, 0x86, 0xf7, 0x12, 0x01, 0x02, 0x02};
+enum { LIST_AT = 16, LIST_SIZE = 25, MIC_SIZE = 32 };
+
+/* The client's messages, by the reply in the service's answer, which ends with the service's MIC of the list. */
+static void client_side(fevstunik_messages *client, fevstunik_pending *pending, size_t size)
+{
+    fevstunik_message_options options = {.role = FEVSTUNIK_ROLE_CLIENT, .session_type = 19, .client_seq = 7};
+    fevstunik_agreement agreement;
+    fevstunik_received received;
+    uint8_t buffer[256];
+    size_t at = 0;
+
+    while (at + 3 < size && memcmp(out + at, "\x02\x00\x6f", 3) != 0)
+        at++;
+    is("the reply ends", fevstunik_finish(pending, out + at + 2, out[at + 3] + 2, &agreement, buffer, sizeof buffer).code, FEVSTUNIK_OK);
+    is("its messages", fevstunik_messages_new(client, &options, buffer + agreement.session_key.at, agreement.session_key.size, none, 0, none, 0).code,
+       FEVSTUNIK_OK);
+    is("the service's MIC",
+       fevstunik_messages_verify(client, listing + LIST_AT, LIST_SIZE, out + size - MIC_SIZE, MIC_SIZE, &received).code, FEVSTUNIK_OK);
+    is("its number", (long long)received.number, 0);
+}
+
+/* The messages after the login go on after the MICs, and the next ones are taken. */
+static void messages_go_on(fevstunik_login *login, fevstunik_messages *client)
+{
+    static const fevstunik_choice choice = {0, 0, false, false};
+    static const fevstunik_message_options options = {.role = FEVSTUNIK_ROLE_SERVICE, .session_type = 19, .client_seq = 7};
+    fevstunik_messages held = FEVSTUNIK_MESSAGES_INIT, made = FEVSTUNIK_MESSAGES_INIT;
+    fevstunik_received received;
+    fevstunik_known known;
+    uint8_t buffer[256], text[MIC_SIZE];
+
+    is_answer("a MIC was sent", fevstunik_accepted_sent(&login->accepted), FEVSTUNIK_OK, 0, 0, 1);
+    is("known", fevstunik_accepted_known(&login->accepted, &known, buffer, sizeof buffer).code, FEVSTUNIK_OK);
+    is("by the login", fevstunik_messages_of_accepted(&held, &login->accepted, &choice, none, 0, false).code, FEVSTUNIK_OK);
+    is("by the keys",
+       fevstunik_messages_after_list(&made, &options, buffer + known.session_key.at, known.session_key.size, none, 0, none, 0).code, FEVSTUNIK_OK);
+    is("the client's next", (long long)fevstunik_messages_mic(client, (const uint8_t *)"hello", 5, text, sizeof text).size, MIC_SIZE);
+    is("is taken", fevstunik_messages_verify(&held, (const uint8_t *)"hello", 5, text, sizeof text, &received).code, FEVSTUNIK_OK);
+    is("with its number", (long long)received.number, 8);
+    is("is taken there", fevstunik_messages_verify(&made, (const uint8_t *)"hello", 5, text, sizeof text, &received).code, FEVSTUNIK_OK);
+    is("the service's next", (long long)fevstunik_messages_mic(&held, (const uint8_t *)"hi", 2, text, sizeof text).size, MIC_SIZE);
+    is("is taken by the client", fevstunik_messages_verify(client, (const uint8_t *)"hi", 2, text, sizeof text, &received).code, FEVSTUNIK_OK);
+    is("with the number after the MIC", (long long)received.number, 1);
+    fevstunik_messages_free(&held);
+    fevstunik_messages_free(&made);
+}
+
+/* A client that names NTLM first is asked for its token and for its MIC of the list, and let in by its third message. Its MIC is turned by these
+ * bits, or left out. */
+static void listed(uint32_t micros, uint8_t turned, bool has_mic, unsigned code)
+{
+    static uint8_t request[4096];
+    fevstunik_cache credentials = FEVSTUNIK_CACHE_INIT;
+    fevstunik_login login = FEVSTUNIK_LOGIN_INIT;
+    fevstunik_pending pending = FEVSTUNIK_PENDING_INIT;
+    fevstunik_messages client = FEVSTUNIK_MESSAGES_INIT;
+    const fevstunik_choice choice = {0, 7, true, true};
+    const fevstunik_context_choice context = {0, {0}};
+    const fevstunik_time at = {START, micros};
+    uint8_t mic[MIC_SIZE];
+    fevstunik_answer answer;
+
+    make(terms_of("plain"));
+    is("cache", fevstunik_cache_new(&credentials, cache.at, cache.size).code, FEVSTUNIK_OK);
+    answer = fevstunik_context_request(&credentials, &pending, WEB, &at, random_bytes, 16, &choice, none, 0, &context, request, sizeof request);
+    is("request", answer.code, FEVSTUNIK_OK);
+    is("it is asked for its token", decided(&login, listing, sizeof listing, 16).code, FEVSTUNIK_GO_ON);
+    answer = decided(&login, token, later(request, answer.size, NULL, 0), 16);
+    is("and for its MIC", answer.code, FEVSTUNIK_GO_ON);
+    is_answer("nothing is known yet", fevstunik_accepted_sent(&login.accepted), FEVSTUNIK_NOTHING_THERE, 0, 0, 0);
+    client_side(&client, &pending, answer.size);
+    is("the client's MIC", fevstunik_messages_mic(&client, listing + LIST_AT, LIST_SIZE, mic, sizeof mic).code, FEVSTUNIK_OK);
+    mic[MIC_SIZE - 1] ^= turned;
+    answer = decided(&login, token, later(NULL, 0, mic, has_mic ? MIC_SIZE : 0), 16);
+    is("how it ends", answer.code, code);
+    if (code == FEVSTUNIK_OK) {
+        is("nothing goes back", (long long)answer.size, 0);
+        messages_go_on(&login, &client);
+    } else
+        goes_back("a reject", 2, answer);
+    fevstunik_login_free(&login);
+    fevstunik_messages_free(&client);
+    fevstunik_pending_free(&pending);
+    fevstunik_cache_free(&credentials);
+}
+
+/* How a service answers to the second message of a client that names NTLM first. The words are its first message, and then each code with the
+ * message. */
+static void second_messages(int count, char **words)
+{
+    static struct bytes first, second;
+    int at;
+
+    from_hex(&first, words[0]);
+    for (at = 1; at + 1 < count; at += 2) {
+        fevstunik_login login = FEVSTUNIK_LOGIN_INIT;
+
+        make(terms_of("plain"));
+        from_hex(&second, words[at + 1]);
+        is("a list", decided(&login, first.at, first.size, 16).code, FEVSTUNIK_GO_ON);
+        is(words[at], called(&login, second.at, second.size, 16, sizeof out).code, atoi(words[at]));
+        is("the same", fevstunik_login_answer(&login, out, sizeof out).code, atoi(words[at]));
+        fevstunik_login_free(&login);
+        is_answer("freed", fevstunik_accepted_sent(&login.accepted), FEVSTUNIK_EMPTY_HANDLE, 0, 0, 0);
+    }
+    is("messages", at, 11);
+}
+
 /* The decision stands if the buffer is short: it isn't made again, and the request is remembered once. */
 static void short_buffer(void)
 {
@@ -400,7 +546,7 @@ int main(int count, char **words)
     struct bytes *const inputs[] = {&keytab, &cache, &asking, &going_on};
     int at;
 
-    if (count != 5)
+    if (count < 6)
         return 2;
     from_words(inputs, 4, words);
     for (at = 0; at < 48; at++)
@@ -411,6 +557,10 @@ int main(int count, char **words)
     replies(19, 16);
     replies(20, 32);
     two_rounds();
+    listed(20, 0, true, FEVSTUNIK_OK);
+    listed(21, 1, true, FEVSTUNIK_LIST_MIC_WRONG);
+    listed(22, 0, false, FEVSTUNIK_LIST_MIC_MISSING);
+    second_messages(count - 5, words + 5);
     short_buffer();
     asked();
     request_asks();

@@ -135,6 +135,13 @@ static fevstunik_answer beginning(void)
     return fevstunik_messages_new(&messages, &options, cache.at, 16, NULL, 0, NULL, 0);
 }
 
+static fevstunik_answer beginning_after(void)
+{
+    static const fevstunik_message_options options = {.role = FEVSTUNIK_ROLE_CLIENT, .session_type = 19};
+
+    return fevstunik_messages_after_list(&messages, &options, cache.at, 16, NULL, 0, NULL, 0);
+}
+
 static fevstunik_answer beginning_for(void)
 {
     return fevstunik_messages_of_accepted(&messages, &accepted, &keyed, cache.at, 16, false);
@@ -731,6 +738,7 @@ int main(int count, char **words)
     is_told("context", reading_context);
     is_told("messages", beginning);
     is_told("messages again", beginning);
+    is_told("messages after a list", beginning_after);
     fevstunik_messages_free(&messages);
     is_told("negotiation", taking);
     is_told("verdict", saying);

@@ -135,6 +135,11 @@ static void beginnings(void)
     is_answer("a short session key", fevstunik_messages_new(&service, &it, keys[0], 15, NULL, 0, NULL, 0), FEVSTUNIK_KEY_LENGTH, 0, 0, 0);
     it.service_subkey_type = 20;
     is_answer("a short subkey", fevstunik_messages_new(&service, &it, keys[0], 16, NULL, 0, keys[1], 31), FEVSTUNIK_KEY_LENGTH, 0, 0, 0);
+    is_answer("the same after a list", fevstunik_messages_after_list(&service, &it, keys[0], 16, NULL, 0, keys[1], 31), FEVSTUNIK_KEY_LENGTH, 0, 0, 0);
+    it.client_subkey_type = 18;
+    is_answer("another type", fevstunik_messages_after_list(&service, &it, keys[0], 16, keys[1], 16, NULL, 0), FEVSTUNIK_KEY_TYPE, 0, 0, 0);
+    it.role = 3;
+    is_answer("no role", fevstunik_messages_after_list(&service, &it, keys[0], 16, NULL, 0, NULL, 0), FEVSTUNIK_BAD_ROLE, 0, 0, 0);
 }
 
 /* A token that isn't taken: nothing is told, and the side goes on. */

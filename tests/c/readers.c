@@ -89,6 +89,8 @@ static void log_in(struct counts *counts)
     count(counts, fevstunik_login_settle(&login, FEVSTUNIK_SAID_NEW, &now, buffer, sizeof buffer).code == FEVSTUNIK_OK);
     count(counts, fevstunik_messages_of_accepted(&messages, &login.accepted, &choice, zeros, 0, false).code == FEVSTUNIK_OK);
     count(counts, fevstunik_messages_new(&messages, &sides, zeros, 16, zeros, 0, zeros, 0).code == FEVSTUNIK_OK);
+    count(counts, fevstunik_messages_after_list(&messages, &sides, zeros, 16, zeros, 0, zeros, 0).code == FEVSTUNIK_OK);
+    count(counts, fevstunik_accepted_sent(&login.accepted).code == FEVSTUNIK_OK);
     fevstunik_messages_free(&messages);
     fevstunik_login_free(&login);
     fevstunik_acceptor_free(&service);
@@ -155,7 +157,7 @@ int main(int arguments, char **words)
             return 2;
     for (i = 0; i < THREADS; i++) {
         pthread_join(threads[i].thread, NULL);
-        is("good answers", threads[i].well, 24 * ROUNDS);
+        is("good answers", threads[i].well, 26 * ROUNDS);
         is("faults", threads[i].ill, 0);
     }
     printf("%d passed, %d failed\n", passed, failed);

@@ -394,12 +394,35 @@ static void starts(void)
     fevstunik_pending_free(&pending);
 }
 
+/* The second message of a client that names NTLM first waits for the store, and is decided on after that. The words are its first message, and
+ * then each code with the message. */
+static void second_messages(int count, char **words)
+{
+    static struct bytes first, second;
+    int at;
+
+    from_hex(&first, words[0]);
+    for (at = 1; at + 1 < count; at += 2) {
+        fevstunik_login login = FEVSTUNIK_LOGIN_INIT;
+
+        make(shared());
+        from_hex(&second, words[at + 1]);
+        is("a list", called(&login, first.at, first.size, 16).code, FEVSTUNIK_GO_ON);
+        is("the store is asked", called(&login, second.at, second.size, 16).code, FEVSTUNIK_ASK_STORE);
+        is_closed("until then", &login);
+        is(words[at], fevstunik_login_settle(&login, FEVSTUNIK_SAID_NEW, &now, out, sizeof out).code, atoi(words[at]));
+        is("the same", fevstunik_login_answer(&login, out, sizeof out).code, atoi(words[at]));
+        fevstunik_login_free(&login);
+    }
+    is("messages", at, 11);
+}
+
 int main(int count, char **words)
 {
     struct bytes *const inputs[] = {&keytab, &cache, &asking, &going_on, &at_the_end};
     int at;
 
-    if (count != 6)
+    if (count < 7)
         return 2;
     from_words(inputs, 5, words);
     for (at = 0; at < 48; at++)
@@ -413,6 +436,7 @@ int main(int count, char **words)
     short_buffers();
     two_services();
     stays_shared();
+    second_messages(count - 6, words + 6);
     starts();
     fevstunik_acceptor_free(&service);
     printf("%d passed, %d failed\n", passed, failed);

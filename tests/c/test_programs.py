@@ -56,14 +56,15 @@ class Programs:
         text = c_cases.login_lines(c_header.header_codes(), c_header.kerberos_codes())
         name, request = gss_rules.KERBEROS, fixture.request()
         tokens = gss_rules.negotiation([name], None), gss_rules.going_on(gss_rules.kerberos(name, request))
-        return run(*VALGRIND, self.built("logins"), KEYTAB, CACHE, *(it.hex() for it in tokens), input=text)
+        lists = c_cases.lists(c_header.header_codes())
+        return run(*VALGRIND, self.built("logins"), KEYTAB, CACHE, *(it.hex() for it in tokens), *lists, input=text)
 
     def settled(self):
         """A login that waits for a store of stamps."""
         name, request = gss_rules.KERBEROS, fixture.request()
         tokens = gss_rules.negotiation([name], None), gss_rules.going_on(gss_rules.kerberos(name, request))
         inputs = [it.hex() for it in (*tokens, c_cases.at_the_end())]
-        return run(*VALGRIND, self.built("settled"), KEYTAB, CACHE, *inputs)
+        return run(*VALGRIND, self.built("settled"), KEYTAB, CACHE, *inputs, *c_cases.lists(c_header.header_codes()))
 
     def cache_of(self, client):
         """The file of another client's cache."""

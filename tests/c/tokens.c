@@ -169,24 +169,48 @@ static void read_said(void)
 static fevstunik_acceptor service = FEVSTUNIK_ACCEPTOR_INIT;
 static fevstunik_login login = FEVSTUNIK_LOGIN_INIT;
 
-/* A service without a key answers to the same tokens as a negotiation takes them, but for a request by itself, which it takes. */
+static const fevstunik_acceptor_options options = {.size = sizeof options, .restarts = FEVSTUNIK_RESTART_FIRST_LIFE, .any_name = true};
+static const fevstunik_time now = {0, 0};
+/* Whether the next token names Kerberos after another mechanism. */
+static int is_listed;
+
+static void makes_service(void)
+{
+    if (service.opaque == NULL)
+        is("service", fevstunik_acceptor_new(&service, (const uint8_t *)"\5\2", 2, EACH_NAME, &options).code, FEVSTUNIK_OK);
+}
+
+/* A service asks a client that names Kerberos after another mechanism for its token, and for the MIC of its list. */
+static void lists(void)
+{
+    size_t size = bytes_of(given, word[2]), count = bytes_of(wanted, word[3]);
+    fevstunik_login asked = FEVSTUNIK_LOGIN_INIT;
+
+    clear();
+    makes_service();
+    is_answer(text, fevstunik_service_answer(&service, &asked, given, size, &now, wanted, 16, buffer, ROOM), FEVSTUNIK_GO_ON, 0, 0, count);
+    is_written(wanted, count);
+    fevstunik_login_free(&asked);
+    is_listed = 1;
+}
+
+/* A service without a key answers to the same tokens as a negotiation takes them, but for a request by itself, which it takes, and for those that
+ * name Kerberos after another mechanism. */
 static void logs_in(unsigned code, size_t at, size_t size, unsigned stage, size_t count)
 {
     static int is_alone;
-    static const fevstunik_acceptor_options options = {.size = sizeof options, .restarts = FEVSTUNIK_RESTART_FIRST_LIFE, .any_name = true};
-    const fevstunik_time now = {0, 0};
     fevstunik_answer answer, again;
 
     if (code == FEVSTUNIK_BAD_NEGOTIATION)
         return;
     if (stage == 0) {
         fevstunik_login_free(&login);
-        is_alone = size > 0 && given[0] == 0x6e;
+        is_alone = is_listed || (size > 0 && given[0] == 0x6e);
+        is_listed = 0;
     }
     if (is_alone)
         return;
-    if (service.opaque == NULL)
-        is("service", fevstunik_acceptor_new(&service, (const uint8_t *)"\5\2", 2, EACH_NAME, &options).code, FEVSTUNIK_OK);
+    makes_service();
     answer = fevstunik_service_answer(&service, &login, given, size, &now, wanted, 16, buffer, ROOM);
     again = fevstunik_login_answer(&login, buffer, ROOM);
     is_answer("the answer again", again, answer.code, answer.kerberos, answer.at, answer.size);
@@ -261,6 +285,8 @@ int main(void)
             said();
         else if (strcmp(word[0], "verdict") == 0)
             read_said();
+        else if (strcmp(word[0], "list") == 0)
+            lists();
         else if (strcmp(word[0], "take") == 0)
             takes();
         else

@@ -1,5 +1,6 @@
 """Messages after a login beside the GSS-API of MIT (python3-gssapi), Heimdal and Java, as client and as service: with
-session keys of both types, with and without a subkey of the service, with and without a reply; and examples/sign."""
+session keys of both types, with and without a subkey of the service, with and without a reply; after a negotiation
+whose list of mechanisms names NTLM first; and examples/sign."""
 import os
 import subprocess
 import sys
@@ -7,7 +8,8 @@ from pathlib import Path
 
 import pytest
 
-from support import TESTS, TOP, kdc, tickets
+from support import TESTS, TOP, gss_rules, kdc, tickets
+from support.der import element
 from support.web_realm import ALICE, PYTHON, REALM, SERVICE, realm_in
 
 sys.path.insert(0, str(TOP / "python"))
@@ -15,6 +17,8 @@ sys.path.insert(0, str(TOP / "python"))
 pytestmark = [pytest.mark.packages, pytest.mark.slow, pytest.mark.xdist_group("messages")]
 SIDE = TESTS / "peers/messages/side.py"
 TEXTS = (b"", b"hello", bytes(range(256)) * 5, os.urandom(70_000))
+NAMES = [gss_rules.NTLM, gss_rules.KERBEROS]
+LIST = element(0x30, *(element(0x06, it) for it in NAMES))
 
 
 @pytest.fixture(scope="module")
@@ -33,6 +37,7 @@ def realm(tmp_path_factory):
             path = made.folder / f"alice{number}.ccache"
             made.run("default", "kinit", "-c", path, "alice", input=f"{kdc.PASSWORD}\n")
             made.run("default", "kvno", "-q", "-e", name, "-c", path, SERVICE)
+        (made.folder / "ntlm").write_text("REALM:alice:password\n")
         yield made
     finally:
         made.stop()
@@ -96,6 +101,7 @@ class Peer:
             KRB5CCNAME=str(realm.folder / f"{cache}.ccache"),
             KRB5_KTNAME=str(realm.folder / "www.keytab"),
             KRB5RCACHENAME="none:",
+            NTLM_USER_FILE=str(realm.folder / "ntlm"),
         )
         command, self.fault = LIBRARIES[library][0](folder, realm), LIBRARIES[library][1]
         self.process = subprocess.Popen(
@@ -208,6 +214,118 @@ def test_their_client(checks, fevstunik, realm, folder, theirs, number, mode, su
             if theirs != "Java":
                 limits(ours, peer, checks, what)
             refused(fevstunik, ours, peer, checks, what)
+
+
+def field_of(answer, tag):
+    """The content of the OCTET STRING in a field of a NegTokenResp."""
+    fields = gss_rules.Reader(answer, 0, len(answer)).enter(0xA1).enter(0x30)
+    while fields.at < fields.end:
+        found = answer[fields.at]
+        part = fields.enter(found)
+        if found == tag:
+            return part.enter(0x04).left()
+    return None
+
+
+@pytest.mark.parametrize("subkey", [None, 19, 20], ids=lambda it: f"subkey {it}")
+@pytest.mark.parametrize("number", [19, 20])
+@pytest.mark.parametrize("theirs, mode", CLIENTS, ids=lambda it: it)
+def test_their_mic_of_a_list(checks, fevstunik, realm, folder, theirs, number, mode, subkey):
+    """Another library's client in a negotiation that this test writes, which names NTLM first: its MIC, and ours."""
+    keytab = fevstunik.Keytab((realm.folder / "www.keytab").read_bytes())
+    with fevstunik.Service(keytab, f"{SERVICE}@{REALM}", first_life=True, subkey=subkey) as service, Peer(
+        realm, folder, theirs, "initiate", "HTTP@localhost", mode, cache=f"alice{number}"
+    ) as peer:
+        token, connection = peer.bytes(), service.login()
+        asks = connection.answer(gss_rules.negotiation(NAMES, None))
+        checks.equal("it is asked", asks.reply, gss_rules.response(gss_rules.KERBEROS, None, 3))
+        if mode == "mutual":
+            sent = connection.answer(gss_rules.going_on(token)).reply
+            checks.equal("the client takes the reply", peer.said("token", field_of(sent, 0xA2)), "complete")
+            checks.equal("the client takes our MIC", peer.said("verify", LIST, field_of(sent, 0xA3)), "verified")
+            peer.ask("mic", LIST)
+            login = connection.answer(gss_rules.going_on(None, mic=peer.bytes()))
+        else:
+            peer.ask("mic", LIST)
+            login = connection.answer(gss_rules.going_on(token, mic=peer.bytes()))
+            mic = field_of(login.reply, 0xA3)
+            checks.equal("the client takes our MIC", peer.said("verify", LIST, mic), "verified")
+        checks.equal("who it is", (login.client, login.list_shown), (ALICE, True))
+        what = f"{theirs}'s client after a list, type {number}, {mode}, subkey {subkey}"
+        with login.messages() as ours:
+            exchanged(ours, peer, checks, what)
+            refused(fevstunik, ours, peer, checks, what)
+
+
+# What an attacker does to the messages of a client that names NTLM first, and how its login ends.
+ATTACKS = {
+    "none": None,
+    "changes the list": "LIST_MIC_WRONG",
+    "takes NTLM off the list": "LIST_MIC_WRONG",
+    "leaves the MIC out": "LIST_MIC_MISSING",
+    "bends the MIC": "LIST_MIC_WRONG",
+}
+
+
+def attacked(attack, number, token):
+    """What arrives of the client's message of this number."""
+    if number == 0 and attack == "changes the list":
+        return token.replace(gss_rules.NTLM, gss_rules.NTLM[:-1] + b"\x0b", 1)
+    if number == 0 and attack == "takes NTLM off the list":
+        return gss_rules.negotiation([gss_rules.IAKERB, gss_rules.KERBEROS], None)
+    mic = field_of(token, 0xA3) if number else None
+    if mic is None:
+        return token
+    bent = {"leaves the MIC out": None, "bends the MIC": mic[:-1] + bytes([mic[-1] ^ 1])}.get(attack, mic)
+    return gss_rules.going_on(field_of(token, 0xA2), b"\1", mic=bent) if bent != mic else token
+
+
+@pytest.mark.parametrize("attack", ATTACKS)
+@pytest.mark.parametrize("subkey", [None, 20], ids=lambda it: f"subkey {it}")
+@pytest.mark.parametrize("mode", ["mutual", "plain"])
+def test_ntlm_first(checks, fevstunik, realm, folder, mode, subkey, attack):
+    """MIT's client with Debian's gss-ntlmssp, which offers NTLM first with a token of its, and Kerberos after it."""
+    keytab = fevstunik.Keytab((realm.folder / "www.keytab").read_bytes())
+    with fevstunik.Service(keytab, f"{SERVICE}@{REALM}", first_life=True, subkey=subkey) as service, Peer(
+        realm, folder, "MIT", "initiate", "HTTP@localhost", mode, "listed", cache="alice20"
+    ) as peer:
+        connection, token, said, number = service.login(), peer.bytes(), "incomplete", 0
+        checks.equal("its list", LIST in token, True)
+        decision = connection.answer(attacked(attack, number, token))
+        while isinstance(decision, fevstunik.GoOn):
+            said, token = peer.said("step", decision.reply).split()
+            number += 1
+            if said == "fault":
+                # (the client has seen by our MIC that its list was changed, and ends; somebody goes on in its place)
+                checks.equal("who finds out", attack in ("changes the list", "takes NTLM off the list"), True)
+                token = gss_rules.going_on(None, b"\1").hex()
+            decision = connection.answer(attacked(attack, number, bytes.fromhex(token)))
+        if attack != "none":
+            checks.equal(attack, decision.cause.name, "LIST_MIC_MISSING" if said == "fault" else ATTACKS[attack])
+            return
+        if decision.reply:
+            said, token = peer.said("step", decision.reply).split()
+        checks.equal("the client", said, "complete")
+        checks.equal("how many messages", number, 2 if mode == "mutual" else 1)
+        checks.equal("who it is", (decision.client, decision.list_shown), (ALICE, True))
+        with decision.messages() as ours:
+            exchanged(ours, peer, checks, f"after NTLM, {mode}")
+            refused(fevstunik, ours, peer, checks, f"after NTLM, {mode}")
+
+
+@pytest.mark.parametrize("mode", ["mutual", "plain"])
+def test_heimdals_negotiation(checks, fevstunik, realm, folder, mode):
+    """Heimdal's client names Kerberos first. Somebody who puts NTLM before it gets nobody in."""
+    keytab = fevstunik.Keytab((realm.folder / "www.keytab").read_bytes())
+    words = (realm, folder, "Heimdal", "initiate", "HTTP@localhost", mode, "negotiated")
+    with fevstunik.Service(keytab, f"{SERVICE}@{REALM}", first_life=True) as service:
+        with Peer(*words, cache="alice20") as peer:
+            login = service.login().answer(peer.bytes())
+            checks.equal("who it is", (login.client, login.list_shown), (ALICE, False))
+        with Peer(*words, cache="alice20") as peer:
+            peer.bytes()
+            asks = service.login().answer(gss_rules.negotiation(NAMES, None))
+            checks.equal("the client ends", peer.said("step", asks.reply).split()[0], "fault")
 
 
 @pytest.mark.parametrize("subkey", [None, 19, 20], ids=lambda it: f"subkey {it}")

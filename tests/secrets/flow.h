@@ -296,6 +296,11 @@ static fevstunik_answer counting_items(void)
     return fevstunik_accepted_count(&accepted, FEVSTUNIK_LIST_CHECKSUM);
 }
 
+static fevstunik_answer counting_sent(void)
+{
+    return fevstunik_accepted_sent(&accepted);
+}
+
 static fevstunik_answer reading_item(void)
 {
     int32_t kind;
@@ -504,6 +509,14 @@ static fevstunik_answer beginning_theirs(void)
     return begin(&theirs, FEVSTUNIK_ROLE_SERVICE);
 }
 
+static fevstunik_answer beginning_after_list(void)
+{
+    fevstunik_message_options options = {.role = FEVSTUNIK_ROLE_SERVICE};
+
+    options.session_type = type();
+    return fevstunik_messages_after_list(&theirs, &options, file(CHOSEN)->at, file(CHOSEN)->size, NULL, 0, NULL, 0);
+}
+
 static fevstunik_answer beginning_for_who_is_let_in(void)
 {
     fevstunik_choice choice = {0, 0, false, false};
@@ -608,6 +621,7 @@ static const struct step steps[] = {
     {"accepted_count", counting_items, FEVSTUNIK_NO_SUCH_ENTRY},
     {"accepted_item", reading_item, FEVSTUNIK_NO_SUCH_ENTRY},
     {"accepted_start", reading_start, FEVSTUNIK_NOTHING_THERE},
+    {"accepted_sent", counting_sent, FEVSTUNIK_OK},
     {"accepted_stamp", stamping, FEVSTUNIK_OK},
     {"accepted_reply", replying, FEVSTUNIK_OK},
     {"acceptor_accept of a repeat", accepting, FEVSTUNIK_REPEAT},
@@ -634,6 +648,8 @@ static const struct step steps[] = {
     {"accepted_known of a login", knowing_who_is_let_in, FEVSTUNIK_OK},
     {"messages_of_accepted", beginning_for_who_is_let_in, FEVSTUNIK_OK},
     {"messages_free of a login", freeing_theirs, FEVSTUNIK_OK},
+    {"messages_after_list", beginning_after_list, FEVSTUNIK_OK},
+    {"messages_free after a list", freeing_theirs, FEVSTUNIK_OK},
     {"login_free of a login", freeing_login, FEVSTUNIK_OK},
     {"service_answer to a repeat", letting_in, FEVSTUNIK_REPEAT},
     {"login_free of a repeat", freeing_login, FEVSTUNIK_OK},

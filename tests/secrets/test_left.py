@@ -16,7 +16,7 @@ def lines(build, room, *more, over=None):
     """What the program writes."""
     program = build.linked("left", room / "left", *WRAPPED, *more, over=over)
     written = well(run(program, room)).stdout.splitlines()
-    assert re.fullmatch(r"178 steps, \d+ secrets, 0 blocks held", written[-1]), written[-1]
+    assert re.fullmatch(r"184 steps, \d+ secrets, 0 blocks held", written[-1]), written[-1]
     return written
 
 

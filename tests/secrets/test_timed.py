@@ -24,8 +24,7 @@ TABLES = {
     "krb_aes::lanes::decrypt_two_blocks",
     "krb_aes::schedule::KeySchedule::decrypt_block",
     "krb_aes::schedule::KeySchedule::encrypt_block",
-    "krb_enc::usage_key::UsageKey::new_19",
-    "krb_enc::usage_key::UsageKey::new_20",
+    "krb_enc::derived::Derived::schedule",
 }
 STEPS = 62
 

@@ -2,7 +2,7 @@
 standards' rules alone (tests/support/fixture.py)."""
 import struct
 
-from support import der, fixture, reference
+from support import der, fixture, gss_rules, reference
 
 USE_SESSION_KEY = 1 << 30
 LIMIT = 1_048_576
@@ -207,6 +207,21 @@ def login_cases():
     yield from (("sent", "OK", it) for it in (fixture.request(), bound(none), bound(BINDINGS)))
     yield from (("required", "CHANNEL_BINDINGS", it) for it in (fixture.request(), bound(none), bound(other)))
     yield from (("sent", "CHANNEL_BINDINGS", bound(other)), ("required", "OK", bound(BINDINGS)))
+
+
+def lists(codes):
+    """The words of logins.c and settled.c for clients that name NTLM before Kerberos: their first message, then codes,
+    each with the second message to which a service answers so. (A MIC of 32 bytes that isn't the client's: one is no
+    message, and one is under a subkey of the service, RFC 4121, section 4.2.2.)"""
+    def second(mic, **request):
+        return gss_rules.going_on(gss_rules.kerberos(gss_rules.KERBEROS, fixture.request(**request)), mic=mic)
+
+    yield gss_rules.negotiation([gss_rules.NTLM, gss_rules.KERBEROS], None).hex()
+    other_key, other_type = bytes.fromhex("040404ffffffffff") + bytes(24), der.key(18, bytes(32))
+    for name, message in (("GO_ON", second(None, options=1 << 29)), ("LIST_MIC_MISSING", second(None)),
+                          ("LIST_MIC_WRONG", second(bytes(32))), ("LIST_MIC_OTHER_KEY", second(other_key)),
+                          ("LIST_KEY_TYPE", second(bytes(32), subkey=other_type))):
+        yield from (str(codes[name]), message.hex())
 
 
 def login_lines(code_of, kerberos_of):

@@ -116,6 +116,9 @@ def negotiations(codes, tokens):
     """The lines of a negotiation: each has the numbers before and after, and what its token gives."""
     side, before = gss_rules.Negotiation(), "0 0"
     for token in tokens:
+        listed = gss_rules.listing(token).split()[0] if side.stage == "begun" else "none"
+        if listed != "none":
+            yield f"list 0 {digits(token)} {digits(gss_rules.response(NAMES[NUMBERS[listed]], None, 3))}"
         said = side.take(token)
         word, *rest = said.split()
         after = {"ended": "2 0", "asked": f"1 {NUMBERS.get(rest[-1], 0) if rest else 0}"}[side.stage]

@@ -296,6 +296,7 @@ impl<M: ReplayMemory> Acceptor<M> {
         }
     }
 
+    #[inline(never)]
     fn remember(&mut self, tuple: Tuple, now: Moment) -> Result<(), AllocError>
         ensures setup { self.new.setup ≡ self.old.setup }
         ensures newest { M.newest self.new.memory ≡ M.newest self.old.memory }
@@ -312,6 +313,7 @@ impl<M: ReplayMemory> Acceptor<M> {
         self.memory.remember(tuple)
     }
 
+    #[inline(never)]
     fn advance(&mut self, now: Moment)
         ensures setup { self.new.setup ≡ self.old.setup }
         ensures newest { M.newest self.new.memory ≡ Some (later_of (M.newest self.old.memory) now) }

@@ -1,13 +1,13 @@
 //! What a service decides about a request, before it remembers or answers anything.
 
-ghost use Rattle.std.specs.Prelude.{◌≡◌, ◌↔◌, IfErr, IfOk, IsErrOf, IsTrue, OnOk};
+ghost use Rattle.std.specs.Prelude.{◌≡◌, ◌↔◌, ℕ, List, IfErr, IfOk, IsErrOf, IsTrue, OnOk};
 ghost use Rattle.std.specs.Option.{option_map};
 ghost use Rattle.krb_enc.specs.Key.{IsUsable};
 ghost use Rattle.krb_keytab.specs.Pick.{chosen, IsChoice};
 ghost use Rattle.krb_msg.specs.Borrowed.{ap_req_of, authenticator_of, enc_ticket_part_of, encrypted_of, typed_of};
 ghost use Rattle.krb_msg.specs.Fields.{encrypted_fields, part_client};
 ghost use Rattle.krb_msg.specs.Owned.{owned_list_of, owned_typed_of};
-ghost use Rattle.krb_ap.specs.Opened.{AsksFor, IsOrdinary, entry_key, sent_at, service_of, stamp_at};
+ghost use Rattle.krb_ap.specs.Opened.{Asks, AsksFor, IsOrdinary, OpenedAs, entry_key, sent_at, service_of, stamp_at};
 ghost use Rattle.krb_ap.specs.Quiet.{Settled};
 ghost use Rattle.krb_ap.specs.Taken.{taken_from};
 ghost use Rattle.krb_ap.specs.Times.{Near};
@@ -113,10 +113,41 @@ impl Judge {
             .open(alloc, &part.key, request.authenticator.cipher)?;
         let auth = read_authenticator(plain.as_slice())?;
         check_client(&part, &auth)?;
+        self.rules
+            .judge_opened(alloc, &request, server, &part, &auth, now, memory)
+    }
+}
+
+impl Rules {
+    // What to remember of a request that is opened, and the answer to it; or why it is refused
+    // without being remembered. `server` is the service that it is for.
+    #[inline(never)]
+    fn judge_opened<M: ReplayMemory>(
+        &self,
+        alloc: Global,
+        request: &ApReqRef,
+        server: Principal,
+        part: &EncTicketRef,
+        auth: &AuthenticatorRef,
+        now: Moment,
+        memory: &M,
+    ) -> Result<Judged, Refusal>
+        requires usable { IsUsable (key_in part.now.key) }
+        requires server { server ≡ service_of (ap_req_of request.now) }
+        ensures judged { (bytes : List ℕ)
+            → OpenedAs self.now bytes (ap_req_of request.now) (enc_ticket_part_of part.now) (authenticator_of auth.now)
+            → Judges self.now (M.has memory.now) (M.newest memory.now) bytes now result }
+        ensures named { IsNamed result }
+        ensures placed { (bytes : List ℕ) → IsPlacedWithin bytes result }
+        ensures service { (bytes : List ℕ) → Asks bytes (ap_req_of request.now)
+            → IfOk result (λ j. IfOk j.answer (λ x. AsksFor bytes x.service)) }
+    {
+        facts();
+        krb_der::laws::within();
         let sent = Moment::at(auth.ctime, auth.cusec);
-        self.rules.check_near(sent, now)?;
-        let tuple = tuple_of(alloc, server, &part, &auth)?;
-        if !self.rules.is_settled(now, sent) {
+        self.check_near(sent, now)?;
+        let tuple = tuple_of(alloc, server, part, auth)?;
+        if !self.is_settled(now, sent) {
             return Ok(Judged {
                 tuple,
                 answer: Err(Refusal::JustStarted),
@@ -125,13 +156,13 @@ impl Judge {
         if memory.contains(&tuple) {
             return Err(Refusal::Repeat);
         }
-        match refusal_of_times(&request, &part, &auth, now, self.rules.skew()) {
+        match refusal_of_times(request, part, auth, now, self.skew()) {
             Some(refusal) => Ok(Judged {
                 tuple,
                 answer: Err(refusal),
             }),
             None => {
-                let accepted = accepted(alloc, &request, &part, &auth)?;
+                let accepted = accepted(alloc, request, part, auth)?;
                 Ok(Judged {
                     tuple,
                     answer: Ok(accepted),
@@ -139,9 +170,7 @@ impl Judge {
             }
         }
     }
-}
 
-impl Rules {
     /// The entry of the keytab whose key is used for a service's ticket. It allocates no memory.
     fn chosen_entry(&self, service: &Principal, sealed: &EncryptedRef) -> Result<&Entry, Refusal>
         ensures chosen { IfOk result (λ entry. IsChoice self.now.entries service.now

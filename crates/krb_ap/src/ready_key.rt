@@ -61,36 +61,11 @@ impl ReadyKey {
         self.is_for(etype, credential.key.as_slice())
     }
 
-    /// Derives the keys from a message's key.
-    pub(crate) fn in_message(key: &KeyRef) -> ReadyKey
-        requires { IsUsable (key_in key.now) }
-        ensures { result ≡ key_in key.now }
-    {
-        ReadyKey::new(usable_key(key.etype, key.bytes))
-    }
-
-    /// Returns whether this is the message's key.
-    pub(crate) fn is_in_message(&self, key: &KeyRef) -> bool
-        ensures { IsTrue result ↔ (self.now ≡ key_in key.now) }
-    {
-        self.is_for(key.etype, key.bytes)
-    }
-
     /// Returns whether this is the key of type `etype` with the bytes `key`.
     pub(crate) fn is_for(&self, etype: i32, key: &[u8]) -> bool
         ensures { IsTrue result ↔ (self.now ≡ record { etype = etype; bytes = key.now }) }
     {
         self.keys.is_for(etype, key, usage::AUTHENTICATOR)
-    }
-
-    /// Opens an authenticator.
-    pub(crate) fn open(&self, alloc: Global, cipher: &[u8]) -> Result<Vec<u8>, Refusal>
-        ensures opened { IfOk result (λ plain. Opens (profile_of self.now) self.now.bytes authenticator_usage
-            cipher.now plain.items) }
-        ensures refused { IfErr result (λ refusal. refusal ≢ OutOfMemory → refusal ≡ AuthenticatorIntegrity) }
-        ensures nothing { IfErr result (λ refusal. refusal ≢ OutOfMemory → IsShut self.now authenticator_usage cipher.now) }
-    {
-        open_under(alloc, self.keys(), cipher, Refusal::AuthenticatorIntegrity)
     }
 
     /// The session key.

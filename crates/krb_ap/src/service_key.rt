@@ -1,6 +1,7 @@
 //! A service key with the keys that are derived from it, and the ticket that was opened last.
 
 ghost use Rattle.std.specs.Prelude.{◌≡◌, ◌≢◌, ◌↔◌, IfErr, IsTrue, OnOk};
+ghost use Rattle.std.specs.Option.{MatchOption};
 ghost use Rattle.krb_enc.specs.Key.{profile_of};
 ghost use Rattle.krb_enc.specs.Opens.{Opens};
 ghost use Rattle.krb_ap.specs.Inner.Stages.{IsShut, ready_key};
@@ -8,7 +9,7 @@ ghost use Rattle.krb_ap.specs.declared.refusal.Refusal.TheVariants.{OutOfMemory,
 
 use crate::opening::open_under;
 use crate::refusal::Refusal;
-use krb_enc::UsageKey;
+use krb_enc::{Key, UsageKey};
 use krb_msg::usage;
 use std::alloc::Global;
 use std::marker::Model;
@@ -41,15 +42,17 @@ impl Model for ServiceKey {
 }
 
 impl ServiceKey {
-    /// Takes keys for tickets, which opened none yet. It allocates no memory.
-    pub(crate) fn new(alloc: Global, keys: UsageKey) -> ServiceKey
-        ensures { result.keys ≡ keys }
+    /// Caches the keys of a service key in place of others. They opened no ticket yet. It allocates no
+    /// memory.
+    #[inline(never)]
+    pub(crate) fn cache(cached: &mut Option<ServiceKey>, alloc: Global, key: &Key)
+        ensures { MatchOption cached.new ⊥ (λ keys. keys.keys ≡ ready_key key.now) }
     {
-        ServiceKey {
-            keys,
+        *cached = Some(ServiceKey {
+            keys: key.for_usage(usage::TICKET),
             ticket: None,
             plain: Vec::new(alloc),
-        }
+        });
     }
 
     /// Returns whether these are the keys of the service key of type `etype` with the bytes `key`.

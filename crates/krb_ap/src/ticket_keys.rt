@@ -1,7 +1,8 @@
 //! The keys that open tickets: derived from the key that a keytab has for a ticket, and cached for
 //! later tickets, with the plain text of the last one.
 
-ghost use Rattle.std.specs.Prelude.{◌≡◌, ◌≢◌, ◌↔◌, None, IfErr, IsTrue, OnOk};
+ghost use Rattle.std.specs.Prelude.{◌≡◌, ◌≢◌, None, IfErr, OnOk};
+ghost use Rattle.std.specs.Option.{MatchOption};
 ghost use Rattle.krb_enc.specs.Key.{IsUsable, profile_of};
 ghost use Rattle.krb_enc.specs.Opens.{Opens};
 ghost use Rattle.krb_ap.specs.Opened.{entry_key, ticket_usage};
@@ -13,7 +14,6 @@ use crate::keys::usable_key;
 use crate::refusal::Refusal;
 use crate::service_key::ServiceKey;
 use krb_keytab::Entry;
-use krb_msg::usage;
 use std::alloc::Global;
 
 /// The service key that was used last, with its keys for tickets and the ticket that it opened last.
@@ -31,7 +31,6 @@ impl TicketKeys {
     }
 
     /// Opens a ticket under the key of an entry. It derives that key's keys, unless they are cached.
-    #[inline(never)]
     pub(crate) fn open(
         &mut self,
         alloc: Global,
@@ -44,15 +43,23 @@ impl TicketKeys {
         ensures refused { IfErr result (λ refusal. refusal ≢ OutOfMemory → refusal ≡ TicketIntegrity) }
         ensures nothing { IfErr result (λ refusal. refusal ≢ OutOfMemory → IsShut (entry_key entry.now) ticket_usage cipher.now) }
     {
-        if let Some(key) = &mut self.cached {
-            if is_key_of(key, entry) {
-                return key.open(alloc, cipher);
-            }
+        self.cache(alloc, entry);
+        match &mut self.cached {
+            Some(keys) => keys.open(alloc, cipher),
+            None => unreachable!(),
         }
-        let mut key = ticket_key(alloc, entry);
-        let opened = key.open(alloc, cipher);
-        self.cached = Some(key);
-        opened
+    }
+
+    // Caches the keys of an entry's key, unless they are cached.
+    fn cache(&mut self, alloc: Global, entry: &Entry)
+        requires { IsUsable (entry_key entry.now) }
+        ensures { MatchOption self.new.cached ⊥ (λ keys. keys.keys ≡ ready_key (entry_key entry.now)) }
+    {
+        let etype = i32::from(entry.etype());
+        match &self.cached {
+            Some(keys) if keys.is_for(etype, entry.key()) => {}
+            _ => ServiceKey::cache(&mut self.cached, alloc, &usable_key(etype, entry.key())),
+        }
     }
 
     /// The plain text of the ticket that was opened last.
@@ -64,20 +71,4 @@ impl TicketKeys {
             None => &[],
         }
     }
-}
-
-// Whether these are the keys for tickets of an entry's key.
-fn is_key_of(keys: &ServiceKey, entry: &Entry) -> bool
-    ensures { IsTrue result ↔ (keys.now.keys ≡ ready_key (entry_key entry.now)) }
-{
-    keys.is_for(i32::from(entry.etype()), entry.key())
-}
-
-// Derives the keys for tickets of an entry's key. It allocates no memory.
-fn ticket_key(alloc: Global, entry: &Entry) -> ServiceKey
-    requires { IsUsable (entry_key entry.now) }
-    ensures { result.keys ≡ ready_key (entry_key entry.now) }
-{
-    let key = usable_key(i32::from(entry.etype()), entry.key());
-    ServiceKey::new(alloc, key.for_usage(usage::TICKET))
 }

@@ -14,12 +14,12 @@ use Rattle.krb_c.specs.declared.structs.Answer.{Answer}
 use Rattle.krb_c.specs.declared.structs.Choice.{Choice}
 use Rattle.krb_c.specs.declared.structs.MessageOptions.{MessageOptions}
 
-pub begins_in : (options : MessageOptions) (session client service : List ℕ) (old new : Option State) (state : State) (answer : Answer)
-    → Begins options session client service state
+pub begins_in : (has_sent : Bool) (options : MessageOptions) (session client service : List ℕ) (old new : Option State) (state : State) (answer : Answer)
+    → Begins has_sent options session client service state
     → ((answer ≡ plain ok) × (new ≡ Some state)) ⊎ ((answer ≡ plain out_of_memory) × (new ≡ old))
-    → BeginsIn options session client service old new answer
-begins_in options session client service old new state answer begins (inl kept) = begun state begins kept.1 kept.0
-begins_in options session client service old new state answer begins (inr lost) = no_memory state begins lost.1 lost.0
+    → BeginsIn has_sent options session client service old new answer
+begins_in has_sent options session client service old new state answer begins (inl kept) = begun state begins kept.1 kept.0
+begins_in has_sent options session client service old new state answer begins (inr lost) = no_memory state begins lost.1 lost.0
 
 pub sends_mic : (text : List ℕ) (old after : Option State) (state held new : State) (was is : List ℕ) (said : Result ℕ SendFault) (answer : Answer)
     → old ≡ Some state → held ≡ state → after ≡ Some new → answer ≡ send_answer said
@@ -48,12 +48,12 @@ pub of_both : (P : Option State → Option State → Type 0) (old after : Option
 of_both P old after state held new old_is held_is after_is holds =
     of_held (λ it. P it after) old state held old_is held_is (subst (P (Some held)) (sym after_is) holds)
 
-pub begins_for : (kept : Option Accepted) (accepted : Accepted) (choice : Choice) (subkey : List ℕ) (any_order : Bool) (options : MessageOptions)
+pub begins_for : (kept : Option Accepted) (has_sent : Bool) (accepted : Accepted) (choice : Choice) (subkey : List ℕ) (any_order : Bool) (options : MessageOptions)
     (session client : List ℕ) (old new : Option State) (answer : Answer) → kept ≡ Some accepted → options ≡ options_for accepted choice any_order
-    → session ≡ accepted.session_key.bytes → client ≡ key_bytes accepted.subkey → BeginsIn options session client subkey old new answer
-    → BeginsFor kept choice subkey any_order old new answer
-begins_for kept accepted choice subkey any_order options session client old new answer kept_is options_are session_is client_is begins =
-    let one = subst (λ (it : MessageOptions). BeginsIn it session client subkey old new answer) options_are begins in
-    let two = subst (λ (it : List ℕ). BeginsIn (options_for accepted choice any_order) it client subkey old new answer) session_is one in
-    let three = subst (λ (it : List ℕ). BeginsIn (options_for accepted choice any_order) accepted.session_key.bytes it subkey old new answer) client_is two in
-    subst (λ (it : Option Accepted). BeginsFor it choice subkey any_order old new answer) (sym kept_is) three
+    → session ≡ accepted.session_key.bytes → client ≡ key_bytes accepted.subkey → BeginsIn has_sent options session client subkey old new answer
+    → BeginsFor kept has_sent choice subkey any_order old new answer
+begins_for kept has_sent accepted choice subkey any_order options session client old new answer kept_is options_are session_is client_is begins =
+    let one = subst (λ (it : MessageOptions). BeginsIn has_sent it session client subkey old new answer) options_are begins in
+    let two = subst (λ (it : List ℕ). BeginsIn has_sent (options_for accepted choice any_order) it client subkey old new answer) session_is one in
+    let three = subst (λ (it : List ℕ). BeginsIn has_sent (options_for accepted choice any_order) accepted.session_key.bytes it subkey old new answer) client_is two in
+    subst (λ (it : Option Accepted). BeginsFor it has_sent choice subkey any_order old new answer) (sym kept_is) three

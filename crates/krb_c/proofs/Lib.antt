@@ -6,5 +6,6 @@ mod Requests
 mod Truth
 mod Memory
 mod HeldMessages
+mod Logins
 mod Turns
 pub mod Buffers

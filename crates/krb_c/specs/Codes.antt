@@ -20,6 +20,18 @@ ask_store = 2
 abbrev pub store_failed : ℕ
 store_failed = 310
 
+abbrev pub list_mic_missing : ℕ
+list_mic_missing = 320
+
+abbrev pub list_mic_wrong : ℕ
+list_mic_wrong = 321
+
+abbrev pub list_mic_other_key : ℕ
+list_mic_other_key = 322
+
+abbrev pub list_key_type : ℕ
+list_key_type = 323
+
 abbrev pub out_of_memory : ℕ
 out_of_memory = 400
 

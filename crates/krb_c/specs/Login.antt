@@ -5,12 +5,11 @@ use Rattle.krb_enc.specs.Key.{IsUsable, KeyValue}
 use Rattle.krb_name.specs.Text.{text_of}
 use Rattle.krb_time.specs.Moments.{micros_of}
 use Rattle.krb_gss.specs.declared.negotiating.Negotiation.{Negotiation}
-use Rattle.krb_gss.specs.declared.negotiating.Negotiation.TheVariants.{Begun}
+use Rattle.krb_gss.specs.declared.negotiating.Negotiation.TheVariants.{Begun, Ended}
 use Rattle.krb_replay.specs.Limit.{limits_of}
 use Rattle.krb_replay.specs.Memory.{SameStamps, later_of}
 use Rattle.krb_ap.specs.History.{IsShownLately}
 use Rattle.krb_ap.specs.Setup.{Arrival}
-use Rattle.krb_ap.specs.declared.accepted.Accepted.{Accepted}
 use Rattle.krb_ap.specs.declared.reply.ReplyOptions.{ReplyOptions}
 use Rattle.krb_login.specs.Asked.{Asks, AsksNothing, AsksSomething}
 use Rattle.krb_login.specs.Limits.{HeedsLimits}
@@ -20,25 +19,38 @@ use Rattle.krb_login.specs.declared.asked.Asked.{Asked as AskedFor}
 use Rattle.krb_login.specs.declared.breach.Breach.{Breach}
 use Rattle.krb_login.specs.declared.cause.Cause.{Cause}
 use Rattle.krb_login.specs.declared.cause.Cause.TheVariants.{Token, Request, Breached, OutOfMemory, StoreFailed}
-use Rattle.krb_login.specs.declared.decision.Decision.{Decision}
-use Rattle.krb_login.specs.declared.decision.Decision.TheVariants.{LetIn, GoOn, Refused}
+use Rattle.krb_login.specs.declared.decision.Decision.{Decision as LoginDecision}
 use Rattle.krb_login.specs.Store.{IsJudgedBy, LeadsTo, RanOutBefore, Steps, StepsOn}
+use Rattle.krb_login.specs.Waiting.{Waiting as Awaiting}
 use Rattle.krb_login.specs.declared.question.Step.{Step}
 use Rattle.krb_login.specs.declared.question.Step.TheVariants as steps
 use Rattle.krb_login.specs.declared.terms.Realms.{Realms}
 use Rattle.krb_login.specs.declared.terms.Realms.TheVariants.{Any, Only}
-use Rattle.krb_c.specs.Service.{IsMomentOf, Remembers, Stands, full_of, latest_of}
+use Rattle.krb_context.specs.declared.agreed.Options.{Options}
+use Rattle.krb_context.specs.declared.fault.MessageFault.TheVariants as messages
+use Rattle.krb_context.specs.declared.fault.ReceiveFault.TheVariants.{NotAccepted}
+use Rattle.krb_talk.specs.Talks.{Talk}
+use Rattle.krb_talk.specs.Turns.{ConcludesAt, Takes}
+use Rattle.krb_talk.specs.declared.checking.ListFault.{ListFault}
+use Rattle.krb_talk.specs.declared.checking.ListFault.TheVariants as lists
+use Rattle.krb_talk.specs.declared.decision.Decision.{Decision}
+use Rattle.krb_talk.specs.declared.decision.Decision.TheVariants.{LetIn, Shown, GoOn, Refused, Unshown}
+use Rattle.krb_talk.specs.declared.stage.Stage.TheVariants.{Login}
+use Rattle.krb_talk.specs.declared.talk.Turn.{Turn}
+use Rattle.krb_talk.specs.declared.talk.Turn.TheVariants as turns
+use Rattle.krb_c.specs.Service.{IsMomentOf, Remembers, Stands, full_of, latest_of, nothing_kept}
 use Rattle.krb_c.specs.Answer.{Tells, plain, refused, sized}
 use Rattle.krb_c.specs.Choice.{key_value}
-use Rattle.krb_c.specs.Codes.{ask_store, bad_moment, bad_random, breach_code, empty_handle, full, go_on, nothing_there, ok, out_of_memory, short_buffer, store_failed}
+use Rattle.krb_c.specs.Codes.{ask_store, bad_moment, bad_random, breach_code, empty_handle, full, go_on, list_key_type, list_mic_missing, list_mic_other_key, list_mic_wrong, nothing_there, ok, out_of_memory, short_buffer, store_failed}
 use Rattle.krb_c.specs.Known.{is_there, number_or_zero, span}
 use Rattle.krb_c.specs.Tokens.{token_answer}
 use Rattle.krb_c.specs.declared.accepted_state.AcceptedState.{AcceptedState}
-use Rattle.krb_c.specs.declared.login.Login.{Login}
+use Rattle.krb_c.specs.declared.login.Login.{Login as LoginOfC}
 use Rattle.krb_c.specs.declared.login_state.LoginState.{LoginState}
 use Rattle.krb_c.specs.declared.login_state.Outcome.{Outcome}
 use Rattle.krb_c.specs.declared.login_state.Progress.{Progress}
 use Rattle.krb_c.specs.declared.login_state.Progress.TheVariants.{Nothing, Waiting, Decided}
+use Rattle.krb_c.specs.declared.question.Question.{Question}
 use Rattle.krb_c.specs.declared.service_state.ServiceState.{ServiceState}
 use Rattle.krb_c.specs.declared.structs.Answer.{Answer}
 use Rattle.krb_c.specs.declared.structs.Asked.{Asked}
@@ -56,16 +68,28 @@ cause_answer is_full (Breached breach) = breach_answer breach
 cause_answer is_full OutOfMemory = if is_full then plain full else plain out_of_memory
 cause_answer is_full StoreFailed = record { code = store_failed; kerberos = pos 60; at = 0; size = 0 }
 
+-- Why the client hasn't shown that it sent its list of mechanisms.
+abbrev pub list_answer : ListFault → Answer
+list_answer (lists.Token fault) = token_answer fault
+list_answer lists.OtherKey = plain list_key_type
+list_answer lists.Missing = plain list_mic_missing
+list_answer (lists.Wrong (NotAccepted messages.OtherKey)) = plain list_mic_other_key
+list_answer (lists.Wrong fault) = plain list_mic_wrong
+list_answer lists.OutOfMemory = plain out_of_memory
+
 -- the answer but for how many bytes go back, what the request asked for, and the bytes
 abbrev pub outcome_of : Bool → Decision → Outcome
 outcome_of is_full (LetIn login) = record { answer = plain ok; asked = None; bytes = login.answer }
+outcome_of is_full (Shown login) = record { answer = plain ok; asked = None; bytes = login.answer }
 outcome_of is_full (GoOn bytes) = record { answer = plain go_on; asked = None; bytes = Some bytes }
 outcome_of is_full (Refused it) = record { answer = cause_answer is_full it.cause; asked = it.asked; bytes = it.answer }
+outcome_of is_full (Unshown it) = record { answer = list_answer it.fault; asked = None; bytes = it.answer }
 
--- what is known of a client that is let in
-abbrev pub let_in : Decision → Option Accepted
-let_in (LetIn login) = Some login.accepted
-let_in _ = None
+-- What is known of a client that is let in. If its list was checked, each side has sent its MIC.
+abbrev pub kept_of : Decision → AcceptedState
+kept_of (LetIn login) = record { accepted = Some login.accepted; has_sent = false }
+kept_of (Shown login) = record { accepted = Some login.accepted; has_sent = true }
+kept_of _ = nothing_kept
 
 abbrev pub sent_if : Option (Vec ℕ Global) → List ℕ
 sent_if None = []
@@ -101,7 +125,7 @@ TellsProgress (Waiting question) old new answer = (answer ≡ plain ask_store) �
 TellsProgress (Decided outcome) old new answer = HandsOutcome outcome old new answer
 
 -- what is held and what is accepted are unchanged
-abbrev pub SameLogin : Login → Login → Type 0
+abbrev pub SameLogin : LoginOfC → LoginOfC → Type 0
 SameLogin old new = (new.held.value ≡ old.held.value) × (new.accepted.value ≡ old.accepted.value)
 
 -- ---- random bytes
@@ -119,6 +143,17 @@ pub record IsDrawn (etype : ℕ) (random confounder : List ℕ) (choice : ReplyO
 abbrev pub IsNotDrawn : ℕ → List ℕ → Answer → Type 0
 IsNotDrawn etype random answer =
     ((length random < 16) ⊎ ((subkey : Option KeyValue) → ¬ IsSubkey etype (drop 16 random) subkey)) × (answer ≡ plain bad_random)
+
+-- ---- a login as krb_talk has it
+-- It takes messages in their order, and each one once.
+abbrev pub in_order : Options
+in_order = record { rotation = 0; is_in_order = true; refuses_repeats = true }
+
+abbrev pub begun_talk : Talk
+begun_talk = record { stage = Login Begun; options = in_order }
+
+abbrev pub over_talk : Talk
+over_talk = record { stage = Login Ended; options = in_order }
 
 -- ---- the decision
 abbrev pub call_by : ServiceState → List Arrival → Negotiation → List ℕ → ℤ → List ℕ → ReplyOptions → Call
@@ -154,44 +189,93 @@ pub record LeavesService (old new : ServiceState) (now : ℤ) (call : List Arriv
   pub shared : new.is_shared ≡ old.is_shared
   pub refusal : new.refusal ≡ old.refusal
 
--- A client is let in, asked for its next token or refused, as the service of krb_login does it, and that
--- is kept. Of a client that isn't let in nothing is kept.
-pub record IsDecided (old new : ServiceState) (before : Negotiation) (after : LoginState) (kept : AcceptedState) (bytes : List ℕ) (now : ℤ)
-    (confounder : List ℕ) (choice : ReplyOptions) : Type 0 where
-  pub decision : Decision
-  pub decides : (history : List Arrival) → Stands old history → Decides (call_by old history before bytes now confounder choice) decision
-  pub service : LeavesService old new now (λ history. call_by old history before bytes now confounder choice)
-      (λ Holds call. GoesOn Holds call decision) (IsDecidedOn decision) (RanOut decision)
-  pub negotiation : GoesTo bytes decision after.negotiation
-  pub outcome : after.progress ≡ Decided (outcome_of (not (full_of new == full_of old)) decision)
-  pub kept_is : kept.accepted ≡ let_in decision
+-- a message is taken by krb_talk's login
+pub record IsTaken (bytes : List ℕ) (before : Talk) (turn : Turn) (after : Talk) : Type 0 where
+  pub takes : Takes bytes before.stage turn after.stage
+  pub options : after.options ≡ before.options
 
--- what becomes of a step: it is decided, or the store is asked, and what the reply is made with is kept
-abbrev pub progress_of : Bool → List ℕ → ReplyOptions → Step → Progress
-progress_of is_full confounder choice (steps.Decided decision) = Decided (outcome_of is_full decision)
-progress_of is_full confounder choice (steps.Ask waiting) = Waiting (record { asking = waiting; confounder = confounder; choice = choice })
+-- and it is concluded by what a service decided, whose negotiation is at `next` then
+pub record IsConcluded (bytes confounder : List ℕ) (choice : ReplyOptions) (before : Talk) (next : Negotiation) (decided : LoginDecision)
+    (decision : Decision) (after : Talk) : Type 0 where
+  pub concludes : ConcludesAt before.stage bytes confounder choice before.options next decided decision after.stage
+  pub options : after.options ≡ before.options
+
+-- A decision is kept. Of a client that isn't let in nothing is kept.
+pub record IsKept (is_full : Bool) (decision : Decision) (after : LoginState) (kept : AcceptedState) : Type 0 where
+  pub outcome : after.progress ≡ Decided (outcome_of is_full decision)
+  pub kept_is : kept ≡ kept_of decision
+
+-- The service of krb_login decides on a message at one point of its negotiation, the login is concluded by that, and the decision is kept.
+pub record IsServed (old new : ServiceState) (before : Talk) (after : LoginState) (kept : AcceptedState) (negotiation : Negotiation) (bytes : List ℕ)
+    (now : ℤ) (confounder : List ℕ) (choice : ReplyOptions) : Type 0 where
+  pub next : Negotiation
+  pub decided : LoginDecision
+  pub decision : Decision
+  pub decides : (history : List Arrival) → Stands old history → Decides (call_by old history negotiation bytes now confounder choice) decided
+  pub service : LeavesService old new now (λ history. call_by old history negotiation bytes now confounder choice)
+      (λ Holds call. GoesOn Holds call decided) (IsDecidedOn decided) (RanOut decided)
+  pub goes_to : GoesTo bytes decided next
+  pub concluded : IsConcluded bytes confounder choice before next decided decision after.talk
+  pub is_kept : IsKept (not (full_of new == full_of old)) decision after kept
+
+-- A login waits for a store with all that its decision needs. It takes no message meanwhile.
+pub record IsHeld (before : Talk) (next : Negotiation) (bytes confounder : List ℕ) (choice : ReplyOptions) (waiting : Awaiting) (after : LoginState) : Type 0 where
+  pub question : Question
+  pub progress : after.progress ≡ Waiting question
+  pub asking_is : question.asking ≡ waiting
+  pub confounder_is : question.confounder ≡ confounder
+  pub choice_is : question.choice ≡ choice
+  pub message_is : question.message.items ≡ bytes
+  pub negotiation_is : question.negotiation ≡ next
+  pub talk_is : question.talk ≡ before
+  pub over : after.talk ≡ over_talk
+
+-- what becomes of a step: it is decided, or the store is asked
+abbrev pub StepsTo : Bool → Talk → Negotiation → List ℕ → List ℕ → ReplyOptions → Step → LoginState → Type 0
+StepsTo is_full before next bytes confounder choice (steps.Decided decided) after =
+    (decision : Decision) × (IsConcluded bytes confounder choice before next decided decision after.talk
+    × (after.progress ≡ Decided (outcome_of is_full decision)))
+StepsTo is_full before next bytes confounder choice (steps.Ask waiting) after = IsHeld before next bytes confounder choice waiting after
 
 -- A service that shares a store of stamps lets nobody in by itself: it asks the client for its next token
 -- or refuses it, or the login waits for the store. What is known of the client can't be read before.
-pub record IsStepped (old new : ServiceState) (before : Negotiation) (after : LoginState) (kept : AcceptedState) (bytes : List ℕ) (now : ℤ)
-    (confounder : List ℕ) (choice : ReplyOptions) : Type 0 where
+pub record IsAsked (old new : ServiceState) (before : Talk) (after : LoginState) (kept : AcceptedState) (negotiation : Negotiation) (bytes : List ℕ)
+    (now : ℤ) (confounder : List ℕ) (choice : ReplyOptions) : Type 0 where
+  pub next : Negotiation
   pub step : Step
-  pub steps : (history : List Arrival) → Stands old history → Steps (call_by old history before bytes now confounder choice) step
-  pub service : LeavesService old new now (λ history. call_by old history before bytes now confounder choice)
+  pub steps : (history : List Arrival) → Stands old history → Steps (call_by old history negotiation bytes now confounder choice) step
+  pub service : LeavesService old new now (λ history. call_by old history negotiation bytes now confounder choice)
       (λ Holds call. StepsOn Holds call step) (IsJudgedBy step) (RanOutBefore step)
-  pub negotiation : LeadsTo bytes step after.negotiation
-  pub progress : after.progress ≡ progress_of (not (full_of new == full_of old)) confounder choice step
-  pub kept_is : kept.accepted ≡ None
+  pub leads_to : LeadsTo bytes step next
+  pub steps_to : StepsTo (not (full_of new == full_of old)) before next bytes confounder choice step after
+  pub kept_is : kept ≡ nothing_kept
 
-abbrev pub Judges : Bool → ServiceState → ServiceState → Negotiation → LoginState → AcceptedState → List ℕ → ℤ → List ℕ → ReplyOptions → Type 0
+-- A message is decided without the service, which is unchanged then, or the service is to decide on it (krb_talk's `Takes`). Without it a
+-- client is let in only by the last message of one whose request was accepted before, and which shows its list of mechanisms by it.
+pub data AnswersMessage (Serves : Talk → Negotiation → Type 0) (old new : ServiceState) (before : Talk) (after : LoginState) (kept : AcceptedState)
+    (bytes : List ℕ) : Type 0 where
+  by_itself : (decision : Decision) → IsTaken bytes before (turns.Decided decision) after.talk → IsKept false decision after kept → new ≡ old
+      → AnswersMessage Serves old new before after kept bytes
+  by_service : (negotiation : Negotiation) (taken : Talk) → IsTaken bytes before (turns.Serve negotiation) taken → Serves taken negotiation
+      → AnswersMessage Serves old new before after kept bytes
+
+abbrev pub IsDecided : ServiceState → ServiceState → Talk → LoginState → AcceptedState → List ℕ → ℤ → List ℕ → ReplyOptions → Type 0
+IsDecided old new before after kept bytes now confounder choice =
+    AnswersMessage (λ taken negotiation. IsServed old new taken after kept negotiation bytes now confounder choice) old new before after kept bytes
+
+abbrev pub IsStepped : ServiceState → ServiceState → Talk → LoginState → AcceptedState → List ℕ → ℤ → List ℕ → ReplyOptions → Type 0
+IsStepped old new before after kept bytes now confounder choice =
+    AnswersMessage (λ taken negotiation. IsAsked old new taken after kept negotiation bytes now confounder choice) old new before after kept bytes
+
+abbrev pub Judges : Bool → ServiceState → ServiceState → Talk → LoginState → AcceptedState → List ℕ → ℤ → List ℕ → ReplyOptions → Type 0
 Judges true old new before after kept bytes now confounder choice = IsStepped old new before after kept bytes now confounder choice
 Judges false old new before after kept bytes now confounder choice = IsDecided old new before after kept bytes now confounder choice
 
 -- ---- the call
 -- how far a login is
-abbrev pub stage_of : Option LoginState → Negotiation
-stage_of None = Begun
-stage_of (Some state) = state.negotiation
+abbrev pub talk_of : Option LoginState → Talk
+talk_of None = begun_talk
+talk_of (Some state) = state.talk
 
 abbrev pub progress_in : Option LoginState → Progress
 progress_in None = Nothing
@@ -199,7 +283,7 @@ progress_in (Some state) = state.progress
 
 -- what was decided, or waited for, is no longer kept
 abbrev pub undecided : LoginState → LoginState
-undecided state = record { negotiation = state.negotiation; progress = Nothing }
+undecided state = record { talk = state.talk; progress = Nothing }
 
 -- nothing is decided: the first that applies
 abbrev pub IsUndecided : Option ServiceState → Time → List ℕ → Answer → Type 0
@@ -210,15 +294,15 @@ IsUndecided (Some state) time random answer =
     ⊎ (((confounder : List ℕ) × ((choice : ReplyOptions) × IsDrawn state.subkey_type random confounder choice)) × (answer ≡ plain out_of_memory))))
 
 -- A service that takes the bytes of a client decides, or has a store asked, and the answer says so; or it
--- decides nothing, and then it is unchanged, and so is the negotiation. Of an earlier call nothing is kept.
+-- decides nothing, and then it is unchanged, and so is how far the login is. Of an earlier call nothing is kept.
 pub data AnswersLogin (old new : Option ServiceState) (before after : Option LoginState) (kept : Option AcceptedState) (bytes : List ℕ) (time : Time)
     (random was is : List ℕ) (answer : Answer) : Type 0 where
-  nothing : IsUndecided old time random answer → new ≡ old → stage_of after ≡ stage_of before → progress_in after ≡ Nothing → kept ≡ None → is ≡ was
+  nothing : IsUndecided old time random answer → new ≡ old → talk_of after ≡ talk_of before → progress_in after ≡ Nothing → kept ≡ None → is ≡ was
       → AnswersLogin old new before after kept bytes time random was is answer
   decided : (state next : ServiceState) (login : LoginState) (held : AcceptedState) (confounder : List ℕ) (choice : ReplyOptions)
       → old ≡ Some state → new ≡ Some next → after ≡ Some login → kept ≡ Some held → IsMomentOf time
       → IsDrawn state.subkey_type random confounder choice
-      → Judges state.is_shared state next (stage_of before) login held bytes (micros_of time.seconds time.micros) confounder choice
+      → Judges state.is_shared state next (talk_of before) login held bytes (micros_of time.seconds time.micros) confounder choice
       → TellsProgress login.progress was is answer
       → AnswersLogin old new before after kept bytes time random was is answer
 

@@ -1,7 +1,8 @@
 -- The messages of one side after a login (RFC 4121, sections 2 and 4.2): what it begins with, what it sends, and what it takes.
-use Rattle.std.specs.Prelude.{◌≡◌, ◌≢◌, ◌⊎◌, ◌≤◌, ◌<◌, ◌+◌, ◌↔◌, ℕ, ℤ, pos, Bool, false, not, if◌then◌else◌, List, length, take, drop, Option, Some, None, Result, Ok, Err}
+use Rattle.std.specs.Prelude.{◌≡◌, ◌≢◌, ◌⊎◌, ◌≤◌, ◌<◌, ◌+◌, ◌↔◌, ℕ, ℤ, pos, Bool, true, false, not, if◌then◌else◌, List, length, take, drop, Option, Some, None, Result, Ok, Err}
+use Rattle.std.specs.Option.{MatchOption}
 use Rattle.krb_enc.specs.Key.{IsUsable, KeyValue}
-use Rattle.krb_context.specs.Context.{IsBegun, IsMicRefusal, IsOutOfOrder, IsSent, IsWrapRefusal, LeavesToken, State, Takes}
+use Rattle.krb_context.specs.Context.{HasSentFirst, IsBegun, IsMicRefusal, IsOutOfOrder, IsSent, IsWrapRefusal, LeavesToken, State, Takes}
 use Rattle.krb_context.specs.Mic.{IsMic, mic_token}
 use Rattle.krb_context.specs.Side.{peer_sender}
 use Rattle.krb_context.specs.Wrap.{IsWrap, wrap_token}
@@ -23,6 +24,7 @@ use Rattle.krb_c.specs.Answer.{plain, sized}
 use Rattle.krb_c.specs.Choice.{IsChosen, IsConfounderFault, IsKeyFault, key_value, seq_of}
 use Rattle.krb_c.specs.Codes.{bad_role, empty_handle, message_defective, message_direction, message_gap, message_integrity, message_old, message_other_key, message_repeat, nothing_there, numbers_used_up, ok, out_of_memory, short_buffer, too_long}
 use Rattle.krb_c.specs.Known.{key_bytes, key_type, number_or_zero}
+use Rattle.krb_c.specs.declared.accepted_state.AcceptedState.{AcceptedState}
 use Rattle.krb_c.specs.declared.structs.Answer.{Answer}
 use Rattle.krb_c.specs.declared.structs.Choice.{Choice}
 use Rattle.krb_c.specs.declared.structs.MessageOptions.{MessageOptions}
@@ -46,14 +48,19 @@ pub record Agrees (options : MessageOptions) (session client service : List ℕ)
 abbrev pub options_of : MessageOptions → Options
 options_of options = record { rotation = options.rotation; is_in_order = not options.any_order; refuses_repeats = not options.repeats }
 
--- a side that has sent and taken nothing
-pub record Begins (options : MessageOptions) (session client service : List ℕ) (state : State) : Type 0 where
+-- A side has sent and taken nothing; or each side has sent its first message, the MIC of the client's list of mechanisms (RFC 4178, section 5).
+abbrev pub StandsAt : Bool → Agreed → Role → State → Type 0
+StandsAt true = HasSentFirst
+StandsAt false = IsBegun
+
+-- a side of what both agreed on, before or after its first message
+pub record Begins (has_sent : Bool) (options : MessageOptions) (session client service : List ℕ) (state : State) : Type 0 where
   pub role : Role
   pub agreed : Agreed
   pub role_is : IsRole options.role role
   pub agrees : Agrees options session client service agreed
   pub options_are : state.options ≡ options_of options
-  pub begun : IsBegun agreed role state
+  pub stands : StandsAt has_sent agreed role state
 
 -- a type and bytes are a key, or the type is 0
 abbrev pub IsKeyOrNone : ℤ → List ℕ → Type 0
@@ -69,12 +76,12 @@ pub data IsUnbegun (options : MessageOptions) (session client service : List ℕ
       → options.service_subkey_type ≢ pos 0 → IsKeyFault options.service_subkey_type service answer → IsUnbegun options session client service answer
 
 -- A handle holds a side that begins; or it holds what it held, if there is none or no memory for it.
-pub data BeginsIn (options : MessageOptions) (session client service : List ℕ) (old new : Option State) (answer : Answer) : Type 0 where
-  begun : (state : State) → Begins options session client service state → new ≡ Some state → answer ≡ plain ok
-      → BeginsIn options session client service old new answer
-  unbegun : IsUnbegun options session client service answer → new ≡ old → BeginsIn options session client service old new answer
-  no_memory : (state : State) → Begins options session client service state → new ≡ old → answer ≡ plain out_of_memory
-      → BeginsIn options session client service old new answer
+pub data BeginsIn (has_sent : Bool) (options : MessageOptions) (session client service : List ℕ) (old new : Option State) (answer : Answer) : Type 0 where
+  begun : (state : State) → Begins has_sent options session client service state → new ≡ Some state → answer ≡ plain ok
+      → BeginsIn has_sent options session client service old new answer
+  unbegun : IsUnbegun options session client service answer → new ≡ old → BeginsIn has_sent options session client service old new answer
+  no_memory : (state : State) → Begins has_sent options session client service state → new ≡ old → answer ≡ plain out_of_memory
+      → BeginsIn has_sent options session client service old new answer
 
 -- ---- a service begins, for a client that was let in
 -- the service's first number: that of its reply, if it has one, and without a reply the client's, as MIT krb5 has it
@@ -94,10 +101,14 @@ options_for accepted choice any_order = record {
   repeats = false;
 }
 
-abbrev pub BeginsFor : Option Accepted → Choice → List ℕ → Bool → Option State → Option State → Answer → Type 0
-BeginsFor None choice subkey any_order old new answer = (answer ≡ plain nothing_there) × (new ≡ old)
-BeginsFor (Some accepted) choice subkey any_order old new answer =
-    BeginsIn (options_for accepted choice any_order) accepted.session_key.bytes (key_bytes accepted.subkey) subkey old new answer
+abbrev pub BeginsFor : Option Accepted → Bool → Choice → List ℕ → Bool → Option State → Option State → Answer → Type 0
+BeginsFor None has_sent choice subkey any_order old new answer = (answer ≡ plain nothing_there) × (new ≡ old)
+BeginsFor (Some accepted) has_sent choice subkey any_order old new answer =
+    BeginsIn has_sent (options_for accepted choice any_order) accepted.session_key.bytes (key_bytes accepted.subkey) subkey old new answer
+
+-- how many messages each side has sent in the login of an accepted request
+abbrev pub CountsSent : AcceptedState → Answer → Type 0
+CountsSent kept answer = MatchOption kept.accepted (answer ≡ plain nothing_there) (λ _. answer ≡ sized ok (if kept.has_sent then 1 else 0))
 
 -- ---- a side sends
 abbrev pub send_answer : Result ℕ SendFault → Answer

@@ -95,10 +95,14 @@ cleared state = with_refusal state None
 
 -- nothing accepted is kept
 abbrev pub nothing_kept : AcceptedState
-nothing_kept = record { accepted = None }
+nothing_kept = record { accepted = None; has_sent = false }
 
 abbrev pub emptied : AcceptedState → AcceptedState
 emptied kept = nothing_kept
+
+-- What was accepted is kept. Neither side has sent a message after it.
+abbrev pub kept_by : Result Accepted Refusal → AcceptedState
+kept_by outcome = record { accepted = accepted_by outcome; has_sent = false }
 
 -- these are a second of the years 0000 to 9999, and microseconds after it
 abbrev pub IsMomentOf : Time → Type 0

@@ -4,12 +4,13 @@ use Rattle.krb_time.specs.Moments.{IsMoment, micros_of}
 use Rattle.krb_replay.specs.Bytes.{IsBytesOf}
 use Rattle.krb_replay.specs.Keeping.{kept_until}
 use Rattle.krb_login.specs.Store.{Settles}
-use Rattle.krb_login.specs.declared.decision.Decision.{Decision}
+use Rattle.krb_login.specs.declared.decision.Decision.{Decision as LoginDecision}
 use Rattle.krb_login.specs.declared.store.StoreSays.{StoreSays}
 use Rattle.krb_login.specs.declared.store.StoreSays.TheVariants.{New, Known, Failed}
+use Rattle.krb_talk.specs.declared.decision.Decision.{Decision}
 use Rattle.krb_c.specs.Answer.{Hands, plain}
 use Rattle.krb_c.specs.Codes.{bad_moment, bad_said, empty_handle, not_waiting, out_of_memory}
-use Rattle.krb_c.specs.Login.{TellsProgress, let_in, outcome_of}
+use Rattle.krb_c.specs.Login.{IsConcluded, IsKept, TellsProgress}
 use Rattle.krb_c.specs.Service.{IsMomentOf}
 use Rattle.krb_c.specs.Stamps.{IsTimeOf}
 use Rattle.krb_c.specs.declared.accepted_state.AcceptedState.{AcceptedState}
@@ -69,13 +70,13 @@ IsNotSaid number = (number ≢ said_new) × ((number ≢ said_known) × (number 
 
 -- ---- the decision
 
--- A login is settled as krb_login's question is, with what was drawn for the reply, and that is kept.
-pub record IsSettled (question : Question) (said : StoreSays) (now : ℤ) (before after : LoginState) (kept : AcceptedState) : Type 0 where
+-- A login is settled as krb_login's question is, with what was drawn for the reply, and concluded by that. The decision is kept.
+pub record IsSettled (question : Question) (said : StoreSays) (now : ℤ) (after : LoginState) (kept : AcceptedState) : Type 0 where
+  pub decided : LoginDecision
   pub decision : Decision
-  pub settles : Settles question.asking said now question.confounder question.choice decision
-  pub negotiation : after.negotiation ≡ before.negotiation
-  pub outcome : after.progress ≡ progress.Decided (outcome_of false decision)
-  pub kept_is : kept.accepted ≡ let_in decision
+  pub settles : Settles question.asking said now question.confounder question.choice decided
+  pub concluded : IsConcluded question.message.items question.confounder question.choice question.talk question.negotiation decided decision after.talk
+  pub is_kept : IsKept false decision after kept
 
 -- nothing is decided: the first that applies
 abbrev pub IsIdle : Option LoginState → Answer → Type 0
@@ -95,5 +96,5 @@ pub data SettlesLogin (before after : Option LoginState) (had kept : Option Acce
       → SettlesLogin before after had kept number time was is answer
   settled : (state next : LoginState) (question : Question) (held : AcceptedState) (said : StoreSays) → before ≡ Some state → after ≡ Some next → kept ≡ Some held
       → state.progress ≡ progress.Waiting question → IsSaid number said → IsMomentOf time
-      → IsSettled question said (micros_of time.seconds time.micros) state next held → TellsProgress next.progress was is answer
+      → IsSettled question said (micros_of time.seconds time.micros) next held → TellsProgress next.progress was is answer
       → SettlesLogin before after had kept number time was is answer

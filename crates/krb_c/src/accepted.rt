@@ -8,6 +8,7 @@ ghost use Rattle.std.specs.Option.{MatchOption};
 ghost use Rattle.krb_c.specs.Known.{TellsKnown};
 ghost use Rattle.krb_c.specs.Items.{Counts, TellsItem};
 ghost use Rattle.krb_c.specs.Choice.{TellsReply};
+ghost use Rattle.krb_c.specs.Messages.{CountsSent};
 
 use crate::accepted_state::AcceptedState;
 use crate::code;
@@ -23,7 +24,7 @@ use std::alloc::Global;
 pub extern "C" fn fevstunik_accepted_new(accepted: &mut AcceptedHandle, alloc: Global) -> Answer
     ensures { ((result ≡ plain ok) × (accepted.new.value ≡ Some nothing_kept)) ⊎ ((result ≡ plain out_of_memory) × (accepted.new.value ≡ accepted.old.value)) }
 {
-    match Box::new(alloc, AcceptedState { accepted: None }) {
+    match Box::new(alloc, AcceptedState::nothing()) {
         Ok(kept) => {
             put(accepted, kept);
             Answer::plain(code::OK)
@@ -97,6 +98,16 @@ pub extern "C" fn fevstunik_accepted_reply(
     ensures stays { accepted.new.value ≡ accepted.old.value }
 {
     with_held!(accepted, alloc, kept => kept.reply(alloc, confounder, choice, subkey, buffer))
+}
+
+/// Counts the messages that each side has sent in the login itself: 1 if the client's list of mechanisms
+/// was checked, since each side has sent its MIC, and otherwise 0.
+#[unsafe(no_mangle)]
+pub extern "C" fn fevstunik_accepted_sent(accepted: &mut AcceptedHandle, alloc: Global) -> Answer
+    ensures sent { MatchOption accepted.old.value (result ≡ plain empty_handle) (λ kept. CountsSent kept result) }
+    ensures stays { accepted.new.value ≡ accepted.old.value }
+{
+    with_held!(accepted, alloc, kept => kept.count_sent())
 }
 
 /// Frees what the handle holds. The handle is empty then.

@@ -1,8 +1,10 @@
 //! What the handle of an accepted request holds.
 
-ghost use Rattle.std.specs.Prelude.{IfErr, IfOk, None, ◌≡◌};
+ghost use Rattle.std.specs.Prelude.{IfErr, IfOk, ◌≡◌};
 ghost use Rattle.krb_c.specs.Choice.{IsReplyFault, Replied, TellsReply};
 ghost use Rattle.krb_c.specs.Known.{TellsKnown, known_of, told_bytes};
+ghost use Rattle.krb_c.specs.Messages.{CountsSent};
+ghost use Rattle.krb_c.specs.Service.{nothing_kept};
 
 use crate::answer::{append, hand_over, hand_over_with};
 use crate::code;
@@ -14,15 +16,38 @@ use std::alloc::{AllocError, Global};
 /// What was accepted, if anything was.
 #[derive(Drop)]
 pub struct AcceptedState {
+    /// What is known of it.
     pub accepted: Option<Accepted>,
+    /// Whether each side has sent its first message already: the MIC of the client's list of mechanisms.
+    pub has_sent: bool,
 }
 
 impl AcceptedState {
+    /// Keeps nothing.
+    pub(crate) fn nothing() -> AcceptedState
+        ensures { result ≡ nothing_kept }
+    {
+        AcceptedState {
+            accepted: None,
+            has_sent: false,
+        }
+    }
+
     /// Discards what was accepted.
     pub(crate) fn clear(&mut self)
-        ensures { self.new ≡ record { accepted = None } }
+        ensures { self.new ≡ nothing_kept }
     {
-        self.accepted = None;
+        *self = AcceptedState::nothing();
+    }
+
+    /// Counts the messages that each side has sent in the login.
+    pub(crate) fn count_sent(&self) -> Answer
+        ensures { CountsSent self.now result }
+    {
+        if self.accepted.is_none() {
+            return Answer::plain(code::NOTHING_THERE);
+        }
+        Answer::sized(code::OK, usize::from(self.has_sent))
     }
 
     /// Returns what was accepted.

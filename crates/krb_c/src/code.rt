@@ -53,6 +53,14 @@ pub(crate) const CHANNEL_BINDINGS: u32 = 300;
 
 pub(crate) const STORE_FAILED: u32 = 310;
 
+pub(crate) const LIST_MIC_MISSING: u32 = 320;
+
+pub(crate) const LIST_MIC_WRONG: u32 = 321;
+
+pub(crate) const LIST_MIC_OTHER_KEY: u32 = 322;
+
+pub(crate) const LIST_KEY_TYPE: u32 = 323;
+
 pub(crate) const OUT_OF_MEMORY: u32 = 400;
 
 pub(crate) const SHORT_BUFFER: u32 = 401;

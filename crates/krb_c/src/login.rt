@@ -4,8 +4,8 @@ ghost use Rattle.std.specs.Prelude.{IfErr, IfOk, None, Option, ◌≡◌};
 ghost use Rattle.std.specs.Option.{MatchOption, option_map};
 ghost use Rattle.krb_c.specs.Answer.{plain};
 ghost use Rattle.krb_c.specs.Codes.{empty_handle};
-ghost use Rattle.krb_c.specs.Login.{AnswersLogin, IsDrawn, IsNotDrawn, IsSubkey, ListsAsked, ReadsAsked, SameLogin, TellsOutcome, decided_in, stage_of, undecided};
-ghost use Rattle.krb_c.specs.Inner.{AnswersMoment};
+ghost use Rattle.krb_c.specs.Login.{AnswersLogin, IsDrawn, IsNotDrawn, IsSubkey, ListsAsked, ReadsAsked, SameLogin, TellsOutcome, decided_in, talk_of, undecided};
+ghost use Rattle.krb_c.specs.Inner.{AnswersMoment, IsCopyIf};
 ghost use Rattle.krb_enc.specs.Key.{KeyValue};
 
 use crate::accepted_state::AcceptedState;
@@ -13,15 +13,14 @@ use crate::answer::hand_over_with;
 use crate::code;
 use crate::handle::{empty, put, take, with_held};
 use crate::handles::{AcceptedHandle, LoginHandle, ServiceHandle};
-use crate::login_state::{LoginState, Progress, asked_told};
+use crate::login_state::{LoginState, asked_told};
 use crate::service_state::ServiceState;
 use crate::structs::{Answer, Asked, Time};
 use krb_ap::ReplyOptions;
 use krb_enc::Key;
-use krb_gss::Negotiation;
 use krb_login::{Given, asked_by};
 use krb_msg::Moment;
-use std::alloc::Global;
+use std::alloc::{AllocError, Global};
 
 /// A client's login, as C has it.
 #[repr(C)]
@@ -83,7 +82,10 @@ impl Login {
             Ok(drawn) => drawn,
             Err(answer) => return answer,
         };
-        let Ok(mut kept) = Box::new(alloc, AcceptedState { accepted: None }) else {
+        let Ok(mut kept) = Box::new(alloc, AcceptedState::nothing()) else {
+            return Answer::plain(code::OUT_OF_MEMORY);
+        };
+        let Ok(message) = message_if(alloc, service.is_shared, input) else {
             return Answer::plain(code::OUT_OF_MEMORY);
         };
         let Some(mut held) = held_by(&mut self.held, alloc) else {
@@ -95,7 +97,7 @@ impl Login {
             confounder: &confounder,
             choice,
         };
-        held.judge(alloc, service, &mut kept, given);
+        held.judge(alloc, service, &mut kept, given, message);
         let answer = held.answer(out);
         put(&mut self.held, held);
         put(&mut self.accepted, kept);
@@ -106,21 +108,25 @@ impl Login {
 // What a login's handle holds, or a login that begins; or none if there is no memory for it.
 fn held_by(handle: &mut LoginHandle, alloc: Global) -> Option<Box<LoginState>>
     ensures { MatchOption result ((handle.old.value ≡ None) × (handle.new.value ≡ None))
-        (λ held. stage_of handle.old.value ≡ held.value.negotiation) }
+        (λ held. talk_of handle.old.value ≡ held.value.talk) }
 {
     match take(handle, alloc) {
         Some(held) => Some(held),
-        None => {
-            let begun = LoginState {
-                negotiation: Negotiation::Begun,
-                progress: Progress::Nothing,
-            };
-            match Box::new(alloc, begun) {
-                Ok(held) => Some(held),
-                Err(_) => None,
-            }
-        }
+        None => match Box::new(alloc, LoginState::begun()) {
+            Ok(held) => Some(held),
+            Err(_) => None,
+        },
     }
+}
+
+// A copy of what a client sent, for a login that may wait for a store.
+fn message_if(alloc: Global, is_shared: bool, bytes: &[u8]) -> Result<Option<Vec<u8>>, AllocError>
+    ensures { IfOk result (IsCopyIf is_shared bytes.now) }
+{
+    if !is_shared {
+        return Ok(None);
+    }
+    Ok(Some(Vec::from_slice(alloc, bytes)?))
 }
 
 // The confounder and what a reply has, of random bytes.

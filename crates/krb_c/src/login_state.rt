@@ -1,11 +1,12 @@
 //! What a login's handle holds.
 
-ghost use Rattle.std.specs.Prelude.{IfOk, Some, ◌≡◌};
+ghost use Rattle.std.specs.Prelude.{IfOk, None, Some, ◌≡◌};
 ghost use Rattle.krb_c.specs.Inner.{SettlesAt};
-ghost use Rattle.krb_c.specs.Login.{HandsOutcome, IsDecided, IsStepped, Judges, TellsAskedIf, TellsOutcome, TellsProgress, asked_in, asked_of, breach_answer, cause_answer, decided_in, let_in, outcome_of, progress_of, sent, undecided};
+ghost use Rattle.krb_c.specs.Login.{HandsOutcome, IsAsked, IsDecided, IsKept, IsServed, IsStepped, StepsTo, TellsAskedIf, TellsOutcome, TellsProgress, asked_in, asked_of, begun_talk, breach_answer, cause_answer, decided_in, kept_of, list_answer, outcome_of, sent, undecided};
+ghost use Rattle.krb_c.specs.Service.{nothing_kept};
 ghost use Rattle.krb_c.specs.Store.{IsSettled, TellsQuestion};
 ghost use Rattle.krb_name.specs.Text.{text_of};
-ghost use Rattle.std.specs.Option.{option_copied};
+ghost use Rattle.std.specs.Option.{MatchOption, option_copied};
 
 use crate::accepted_state::AcceptedState;
 use crate::answer::{append, hand_over_with};
@@ -18,23 +19,30 @@ use crate::service_state::ServiceState;
 use crate::structs::{Answer, Asked, Time};
 use crate::token::token_told;
 use krb_ap::{Accepted, ReplyOptions};
+use krb_context::{MessageFault, Options, ReceiveFault};
 use krb_gss::Negotiation;
-use krb_login::{
-    Asked as AskedFor, Breach, Cause, Decision, Given, LetIn, Refused, Step, StoreSays,
-};
+use krb_login::{Asked as AskedFor, Breach, Cause, Given, Refused, Step, StoreSays};
 use krb_msg::{Moment, error_code};
 use krb_replay::ReplayMemory;
+use krb_talk::{Decision, ListFault, Talk, Turn};
 use std::alloc::{AllocError, Global};
 use std::mem::replace;
 
 /// How far a login is, and what was decided last.
 #[derive(Drop)]
 pub struct LoginState {
-    /// How far its negotiation is.
-    pub negotiation: Negotiation,
+    /// How far it is.
+    pub talk: Talk,
     /// What became of what the client sent last.
     pub progress: Progress,
 }
+
+// A login takes messages in their order, and each one once.
+const IN_ORDER: Options = Options {
+    rotation: 0,
+    is_in_order: true,
+    refuses_repeats: true,
+};
 
 /// What became of what a client sent.
 #[derive(Drop)]
@@ -59,21 +67,33 @@ pub struct Outcome {
 }
 
 impl LoginState {
-    /// Decides about what a client sent, or keeps it until a store is asked. `kept` gets what is known
-    /// of a client that is let in, and otherwise nothing.
+    /// A login that begins.
+    pub(crate) fn begun() -> LoginState
+        ensures { result ≡ record { talk = begun_talk; progress = Progress.Nothing } }
+    {
+        LoginState {
+            talk: Talk::new(IN_ORDER),
+            progress: Progress::Nothing,
+        }
+    }
+
+    /// Decides about what a client sent, or keeps it until a store is asked: then `message` has a copy of
+    /// it. `kept` gets what is known of a client that is let in, and otherwise nothing.
     pub(crate) fn judge(
         &mut self,
         alloc: Global,
         service: &mut ServiceState,
         kept: &mut AcceptedState,
         given: Given<'_>,
+        message: Option<Vec<u8>>,
     )
-        ensures { Judges service.old.is_shared service.old service.new self.old.negotiation self.new kept.new given.entry.bytes.now given.entry.now given.entry.confounder.now given.entry.choice }
+        ensures { MatchOption message
+            (IsDecided service.old service.new self.old.talk self.new kept.new given.entry.bytes.now given.entry.now given.entry.confounder.now given.entry.choice)
+            (λ message. IsStepped service.old service.new self.old.talk self.new kept.new message.items given.entry.now given.entry.confounder.now given.entry.choice) }
     {
-        if service.is_shared {
-            self.step(alloc, service, kept, given);
-        } else {
-            self.decide(alloc, service, kept, given);
+        match message {
+            Some(message) => self.step(alloc, service, kept, given, message),
+            None => self.decide(alloc, service, kept, given),
         }
     }
 
@@ -83,22 +103,89 @@ impl LoginState {
         service: &mut ServiceState,
         kept: &mut AcceptedState,
         given: Given<'_>,
+        message: Vec<u8>,
     )
-        ensures { IsStepped service.old service.new self.old.negotiation self.new kept.new given.entry.bytes.now given.entry.now given.entry.confounder.now given.entry.choice }
+        ensures { IsStepped service.old service.new self.old.talk self.new kept.new message.items given.entry.now given.entry.confounder.now given.entry.choice }
+    {
+        match self.talk.take(alloc, message.as_slice()) {
+            Turn::Decided(decision) => self.keep(kept, decision, false),
+            Turn::Serve(negotiation) => {
+                kept.clear();
+                self.ask(alloc, service, given, negotiation, message);
+            }
+        }
+    }
+
+    // Asks the service, which lets nobody in before the store is asked.
+    fn ask(
+        &mut self,
+        alloc: Global,
+        service: &mut ServiceState,
+        given: Given<'_>,
+        negotiation: Negotiation,
+        message: Vec<u8>,
+    )
+        ensures { IsAsked service.old service.new self.old.talk self.new nothing_kept negotiation message.items given.entry.now given.entry.confounder.now given.entry.choice }
     {
         let Given {
-            bytes,
+            bytes: _,
             now,
             confounder,
             choice,
         } = given;
         let full = service.service.acceptor.memory().refused();
+        let mut next = negotiation;
         let step = service
             .service
-            .ask(alloc, &mut self.negotiation, bytes, now);
+            .ask(alloc, &mut next, message.as_slice(), now);
         let is_full = service.service.acceptor.memory().refused() != full;
-        kept.clear();
-        self.progress = progress_of(step, is_full, confounder, choice);
+        let drawn = Drawn {
+            confounder: *confounder,
+            choice,
+        };
+        self.follow(alloc, step, is_full, next, message, drawn);
+    }
+
+    // Goes on by what the service said: it is decided, or the login waits for the store.
+    fn follow(
+        &mut self,
+        alloc: Global,
+        step: Step,
+        is_full: bool,
+        next: Negotiation,
+        message: Vec<u8>,
+        drawn: Drawn,
+    )
+        ensures { StepsTo is_full self.old.talk next message.items drawn.confounder drawn.choice step self.new }
+    {
+        let Drawn { confounder, choice } = drawn;
+        match step {
+            Step::Decided(decided) => {
+                let decision = self.talk.conclude(
+                    alloc,
+                    message.as_slice(),
+                    &confounder,
+                    &choice,
+                    next,
+                    decided,
+                );
+                let (outcome, _) = outcome_of(decision, is_full);
+                self.set(Progress::Decided(outcome));
+            }
+            Step::Ask(asking) => {
+                let mut over = Talk::new(IN_ORDER);
+                over.end();
+                let talk = replace(&mut self.talk, over);
+                self.set(Progress::Waiting(Question {
+                    asking,
+                    confounder,
+                    choice,
+                    message,
+                    negotiation: next,
+                    talk,
+                }));
+            }
+        }
     }
 
     fn decide(
@@ -108,14 +195,63 @@ impl LoginState {
         kept: &mut AcceptedState,
         given: Given<'_>,
     )
-        ensures { IsDecided service.old service.new self.old.negotiation self.new kept.new given.entry.bytes.now given.entry.now given.entry.confounder.now given.entry.choice }
+        ensures { IsDecided service.old service.new self.old.talk self.new kept.new given.entry.bytes.now given.entry.now given.entry.confounder.now given.entry.choice }
     {
+        match self.talk.take(alloc, given.bytes) {
+            Turn::Decided(decision) => self.keep(kept, decision, false),
+            Turn::Serve(negotiation) => self.serve(alloc, service, kept, given, negotiation),
+        }
+    }
+
+    // Concludes by what the service decides.
+    fn serve(
+        &mut self,
+        alloc: Global,
+        service: &mut ServiceState,
+        kept: &mut AcceptedState,
+        given: Given<'_>,
+        negotiation: Negotiation,
+    )
+        ensures { IsServed service.old service.new self.old.talk self.new kept.new negotiation given.entry.bytes.now given.entry.now given.entry.confounder.now given.entry.choice }
+    {
+        let Given {
+            bytes,
+            now,
+            confounder,
+            choice,
+        } = given;
+        let again = choice_again(&choice);
+        let given = Given {
+            bytes,
+            now,
+            confounder,
+            choice,
+        };
         let full = service.service.acceptor.memory().refused();
-        let decision = service.service.answer(alloc, &mut self.negotiation, given);
+        let mut next = negotiation;
+        let decided = service.service.answer(alloc, &mut next, given);
         let is_full = service.service.acceptor.memory().refused() != full;
+        let decision = self
+            .talk
+            .conclude(alloc, bytes, confounder, &again, next, decided);
+        self.keep(kept, decision, is_full);
+    }
+
+    // Keeps a decision, and in `kept` what is known of a client that is let in.
+    fn keep(&mut self, kept: &mut AcceptedState, decision: Decision, is_full: bool)
+        ensures talk { self.new.talk ≡ self.old.talk }
+        ensures is_kept { IsKept is_full decision self.new kept.new }
+    {
         let (outcome, accepted) = outcome_of(decision, is_full);
-        self.progress = Progress::Decided(outcome);
-        kept.accepted = accepted;
+        self.set(Progress::Decided(outcome));
+        *kept = accepted;
+    }
+
+    fn set(&mut self, progress: Progress)
+        ensures talk { self.new.talk ≡ self.old.talk }
+        ensures progress { self.new.progress ≡ progress }
+    {
+        self.progress = progress;
     }
 
     /// Decides by what a store said, if the login waits for one. `accepted` gets what is known of a
@@ -133,12 +269,12 @@ impl LoginState {
         let question = match replace(&mut self.progress, Progress::Nothing) {
             Progress::Waiting(question) => question,
             other => {
-                self.progress = other;
+                self.set(other);
                 return Answer::plain(code::NOT_WAITING);
             }
         };
-        let Ok(mut kept) = Box::new(alloc, AcceptedState { accepted: None }) else {
-            self.progress = Progress::Waiting(question);
+        let Ok(mut kept) = Box::new(alloc, AcceptedState::nothing()) else {
+            self.set(Progress::Waiting(question));
             return Answer::plain(code::OUT_OF_MEMORY);
         };
         self.settle_by(alloc, &mut kept, question, said, now);
@@ -154,24 +290,35 @@ impl LoginState {
         said: StoreSays,
         now: Moment,
     )
-        ensures { IsSettled question said now self.old self.new kept.new }
+        ensures { IsSettled question said now self.new kept.new }
     {
         let Question {
             asking,
             confounder,
             choice,
+            message,
+            negotiation,
+            talk,
         } = question;
-        let decision = asking.settle(alloc, said, now, &confounder, choice);
-        let (outcome, accepted) = outcome_of(decision, false);
-        self.progress = Progress::Decided(outcome);
-        kept.accepted = accepted;
+        let again = choice_again(&choice);
+        let decided = asking.settle(alloc, said, now, &confounder, again);
+        self.talk = talk;
+        let decision = self.talk.conclude(
+            alloc,
+            message.as_slice(),
+            &confounder,
+            &choice,
+            negotiation,
+            decided,
+        );
+        self.keep(kept, decision, false);
     }
 
     /// Discards what was decided, or waited for.
     pub(crate) fn clear(&mut self)
         ensures { self.new ≡ undecided self.old }
     {
-        self.progress = Progress::Nothing;
+        self.set(Progress::Nothing);
     }
 
     /// Returns what became of what a client sent, with the bytes that go back.
@@ -257,62 +404,94 @@ impl Outcome {
     }
 }
 
-// What becomes of a step: it is decided, or what the reply is made with is kept until the store is asked.
-fn progress_of(step: Step, is_full: bool, confounder: &[u8; 16], choice: ReplyOptions) -> Progress
-    ensures { result ≡ progress_of is_full confounder.now choice step }
+// What is drawn for a reply. There is no `Debug`, so no log shows a key.
+#[derive(Drop)]
+struct Drawn {
+    confounder: [u8; 16],
+    choice: ReplyOptions,
+}
+
+// A copy of what the service chose for a reply.
+fn choice_again(choice: &ReplyOptions) -> ReplyOptions
+    ensures { result ≡ choice.now }
 {
-    match step {
-        Step::Decided(decision) => {
-            let (outcome, _) = outcome_of(decision, is_full);
-            Progress::Decided(outcome)
-        }
-        Step::Ask(asking) => {
-            Progress::Waiting(Question {
-                asking,
-                confounder: *confounder,
-                choice,
-            })
-        }
+    let subkey = match &choice.subkey {
+        Some(key) => Some(key.copy()),
+        None => None,
+    };
+    ReplyOptions {
+        subkey,
+        seq: choice.seq,
     }
 }
 
 // What is answered to a decision, and what is known of a client that is let in.
-fn outcome_of(decision: Decision, is_full: bool) -> (Outcome, Option<Accepted>)
+fn outcome_of(decision: Decision, is_full: bool) -> (Outcome, AcceptedState)
     ensures outcome { result.0 ≡ outcome_of is_full decision }
-    ensures accepted { result.1 ≡ let_in decision }
+    ensures kept { result.1 ≡ kept_of decision }
 {
     match decision {
-        Decision::LetIn(LetIn { accepted, answer }) => {
-            let outcome = Outcome {
-                answer: Answer::plain(code::OK),
-                asked: None,
-                bytes: answer,
-            };
-            (outcome, Some(accepted))
+        Decision::LetIn(login) => (
+            answered(Answer::plain(code::OK), login.answer),
+            kept(login.accepted, false),
+        ),
+        Decision::Shown(login) => (
+            answered(Answer::plain(code::OK), login.answer),
+            kept(login.accepted, true),
+        ),
+        Decision::GoOn(bytes) => (
+            answered(Answer::plain(code::GO_ON), Some(bytes)),
+            AcceptedState::nothing(),
+        ),
+        Decision::Refused(refused) => (refusal(refused, is_full), AcceptedState::nothing()),
+        Decision::Unshown(unshown) => (
+            answered(list_told(unshown.fault), unshown.answer),
+            AcceptedState::nothing(),
+        ),
+    }
+}
+
+fn answered(answer: Answer, bytes: Option<Vec<u8>>) -> Outcome
+    ensures { result ≡ record { answer = answer; asked = None; bytes = bytes } }
+{
+    Outcome {
+        answer,
+        asked: None,
+        bytes,
+    }
+}
+
+fn refusal(refused: Refused, is_full: bool) -> Outcome
+    ensures { result ≡ record { answer = cause_answer is_full refused.cause; asked = refused.asked; bytes = refused.answer } }
+{
+    Outcome {
+        answer: cause_told(refused.cause, is_full),
+        asked: refused.asked,
+        bytes: refused.answer,
+    }
+}
+
+fn kept(accepted: Accepted, has_sent: bool) -> AcceptedState
+    ensures { result ≡ record { accepted = Some accepted; has_sent = has_sent } }
+{
+    AcceptedState {
+        accepted: Some(accepted),
+        has_sent,
+    }
+}
+
+fn list_told(fault: ListFault) -> Answer
+    ensures { result ≡ list_answer fault }
+{
+    match fault {
+        ListFault::Token(fault) => token_told(fault),
+        ListFault::OtherKey => Answer::plain(code::LIST_KEY_TYPE),
+        ListFault::Missing => Answer::plain(code::LIST_MIC_MISSING),
+        ListFault::Wrong(ReceiveFault::NotAccepted(MessageFault::OtherKey)) => {
+            Answer::plain(code::LIST_MIC_OTHER_KEY)
         }
-        Decision::GoOn(bytes) => {
-            let outcome = Outcome {
-                answer: Answer::plain(code::GO_ON),
-                asked: None,
-                bytes: Some(bytes),
-            };
-            (outcome, None)
-        }
-        Decision::Refused(
-            Refused {
-                cause,
-                asked,
-                answer,
-                unsent: _,
-            },
-        ) => {
-            let outcome = Outcome {
-                answer: cause_told(cause, is_full),
-                asked,
-                bytes: answer,
-            };
-            (outcome, None)
-        }
+        ListFault::Wrong(_) => Answer::plain(code::LIST_MIC_WRONG),
+        ListFault::OutOfMemory => Answer::plain(code::OUT_OF_MEMORY),
     }
 }
 

@@ -1,12 +1,12 @@
 //! The messages of one side after a login: tokens that the other side checks and opens.
 
-ghost use Rattle.std.specs.Prelude.{IfErr, IfOk, None, Some, pos, ◌≡◌, ◌≢◌, ◌⊎◌};
+ghost use Rattle.std.specs.Prelude.{IfErr, IfOk, None, Some, false, pos, true, ◌≡◌, ◌≢◌, ◌⊎◌};
 ghost use Rattle.std.specs.Option.{MatchOption};
 ghost use Rattle.krb_c.specs.Answer.{plain};
 ghost use Rattle.krb_c.specs.Choice.{IsChosen, IsKeyFault, key_value};
 ghost use Rattle.krb_c.specs.Codes.{empty_handle, ok, out_of_memory};
 ghost use Rattle.krb_enc.specs.Key.{IsUsable};
-ghost use Rattle.krb_c.specs.Messages.{Begins, BeginsFor, BeginsIn, FindsMic, FindsWrap, IsRole, IsUnbegun, Limits, LimitsIn, SendsMic, TakesMic, TakesWrap, Unwraps, Verifies, Wraps, opened_as, options_for, options_of, order_number, receive_code, send_answer, verified_as};
+ghost use Rattle.krb_c.specs.Messages.{Begins, BeginsFor, BeginsIn, FindsMic, FindsWrap, IsRole, IsUnbegun, Limits, LimitsIn, SendsMic, StandsAt, TakesMic, TakesWrap, Unwraps, Verifies, Wraps, opened_as, options_for, options_of, order_number, receive_code, send_answer, verified_as};
 ghost use Rattle.krb_context.specs.declared.role.Role.{Role as RoleValue};
 
 use crate::accepted_state::AcceptedState;
@@ -33,16 +33,64 @@ pub extern "C" fn fevstunik_messages_new(
     client_subkey: &[u8],
     service_subkey: &[u8],
 ) -> Answer
-    ensures { BeginsIn options.now session_key.now client_subkey.now service_subkey.now messages.old.value messages.new.value result }
+    ensures { BeginsIn false options.now session_key.now client_subkey.now service_subkey.now messages.old.value messages.new.value result }
 {
-    match options.begin(session_key, client_subkey, service_subkey) {
+    let keys = Keys {
+        session_key,
+        client_subkey,
+        service_subkey,
+    };
+    begin_in(messages, alloc, false, options, keys)
+}
+
+/// Begins the messages of one side after a login in which each side has sent its first message: the MIC
+/// of the client's list of mechanisms (RFC 4178, section 5). What the handle held is freed. If none
+/// begin, the handle is unchanged.
+#[unsafe(no_mangle)]
+pub extern "C" fn fevstunik_messages_after_list(
+    messages: &mut MessagesHandle,
+    alloc: Global,
+    options: &MessageOptions,
+    session_key: &[u8],
+    client_subkey: &[u8],
+    service_subkey: &[u8],
+) -> Answer
+    ensures { BeginsIn true options.now session_key.now client_subkey.now service_subkey.now messages.old.value messages.new.value result }
+{
+    let keys = Keys {
+        session_key,
+        client_subkey,
+        service_subkey,
+    };
+    begin_in(messages, alloc, true, options, keys)
+}
+
+// The bytes of the keys that both sides may have agreed on. There is no `Debug`, so no log shows them.
+#[derive(Clone, Copy)]
+struct Keys<'a> {
+    session_key: &'a [u8],
+    client_subkey: &'a [u8],
+    service_subkey: &'a [u8],
+}
+
+fn begin_in(
+    messages: &mut MessagesHandle,
+    alloc: Global,
+    has_sent: bool,
+    options: &MessageOptions,
+    keys: Keys<'_>,
+) -> Answer
+    ensures { BeginsIn has_sent options.now keys.entry.session_key.now keys.entry.client_subkey.now keys.entry.service_subkey.now messages.old.value messages.new.value result }
+{
+    match options.begin(has_sent, keys) {
         Ok(context) => keep(messages, alloc, context),
         Err(answer) => answer,
     }
 }
 
 /// Begins a service's messages to a client that it has let in (RFC 4121, section 2), by what is known of the
-/// request and what its reply has. What the handle held is freed. If none begin, it is unchanged.
+/// request and what its reply has. If its list of mechanisms was checked, they go on after the MIC of the
+/// list. What the handle held is freed. If none begin, it is unchanged.
 #[unsafe(no_mangle)]
 pub extern "C" fn fevstunik_messages_of_accepted(
     messages: &mut MessagesHandle,
@@ -53,7 +101,7 @@ pub extern "C" fn fevstunik_messages_of_accepted(
     any_order: bool,
 ) -> Answer
     ensures begins { MatchOption accepted.old.value ((result ≡ plain empty_handle) × (messages.new.value ≡ messages.old.value))
-        (λ kept. BeginsFor kept.accepted choice.now subkey.now any_order messages.old.value messages.new.value result) }
+        (λ kept. BeginsFor kept.accepted kept.has_sent choice.now subkey.now any_order messages.old.value messages.new.value result) }
     ensures stays { accepted.new.value ≡ accepted.old.value }
 {
     with_held!(accepted, alloc, kept => begin_for(messages, alloc, &kept, choice, subkey, any_order))
@@ -67,20 +115,18 @@ fn begin_for(
     subkey: &[u8],
     any_order: bool,
 ) -> Answer
-    ensures { BeginsFor kept.now.accepted choice.now subkey.now any_order messages.old.value messages.new.value result }
+    ensures { BeginsFor kept.now.accepted kept.now.has_sent choice.now subkey.now any_order messages.old.value messages.new.value result }
 {
     let Some(accepted) = &kept.accepted else {
         return Answer::plain(code::NOTHING_THERE);
     };
     let options = options_for(accepted, choice, any_order);
-    fevstunik_messages_new(
-        messages,
-        alloc,
-        &options,
-        accepted.session_key.bytes(),
-        bytes_of(&accepted.subkey),
-        subkey,
-    )
+    let keys = Keys {
+        session_key: accepted.session_key.bytes(),
+        client_subkey: bytes_of(&accepted.subkey),
+        service_subkey: subkey,
+    };
+    begin_in(messages, alloc, kept.has_sent, &options, keys)
 }
 
 fn options_for(accepted: &Accepted, choice: &Choice, any_order: bool) -> MessageOptions
@@ -118,26 +164,21 @@ fn keep(messages: &mut MessagesHandle, alloc: Global, context: Context) -> Answe
 }
 
 impl MessageOptions {
-    fn begin(
-        &self,
-        session_key: &[u8],
-        client_subkey: &[u8],
-        service_subkey: &[u8],
-    ) -> Result<Context, Answer>
-        ensures begins { IfOk result (Begins self.now session_key.now client_subkey.now service_subkey.now) }
-        ensures fault { IfErr result (IsUnbegun self.now session_key.now client_subkey.now service_subkey.now) }
+    fn begin(&self, has_sent: bool, keys: Keys<'_>) -> Result<Context, Answer>
+        ensures begins { IfOk result (Begins has_sent self.now keys.entry.session_key.now keys.entry.client_subkey.now keys.entry.service_subkey.now) }
+        ensures fault { IfErr result (IsUnbegun self.now keys.entry.session_key.now keys.entry.client_subkey.now keys.entry.service_subkey.now) }
     {
         let Some(role) = role_of(self.role) else {
             return Err(Answer::plain(code::BAD_ROLE));
         };
         let agreed = Agreed {
-            session_key: self.session_key(session_key)?,
-            initiator_subkey: self.client_subkey(client_subkey)?,
-            acceptor_subkey: self.service_subkey(service_subkey)?,
+            session_key: self.session_key(keys.session_key)?,
+            initiator_subkey: self.client_subkey(keys.client_subkey)?,
+            acceptor_subkey: self.service_subkey(keys.service_subkey)?,
             initiator_number: self.client_seq,
             acceptor_number: self.service_seq,
         };
-        Ok(Context::new(role, &agreed, self.options()))
+        Ok(side_of(has_sent, role, &agreed, self.options()))
     }
 
     fn session_key(&self, bytes: &[u8]) -> Result<Key, Answer>
@@ -170,6 +211,18 @@ impl MessageOptions {
             is_in_order: !self.any_order,
             refuses_repeats: !self.repeats,
         }
+    }
+}
+
+// A side before its first message, or after that of each side.
+fn side_of(has_sent: bool, role: Role, agreed: &Agreed, options: Options) -> Context
+    ensures stands { StandsAt has_sent agreed.now role result }
+    ensures options { result.options ≡ options }
+{
+    if has_sent {
+        Context::after_first(role, agreed, options)
+    } else {
+        Context::new(role, agreed, options)
     }
 }
 

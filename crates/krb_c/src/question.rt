@@ -15,7 +15,9 @@ use crate::handle::with_held;
 use crate::login::Login;
 use crate::structs::{Answer, Time};
 use krb_ap::ReplyOptions;
+use krb_gss::Negotiation;
 use krb_login::{Asking, StoreSays};
+use krb_talk::Talk;
 use std::alloc::Global;
 
 // What a store says. The header has the numbers under the same names.
@@ -35,6 +37,12 @@ pub struct Question {
     pub confounder: [u8; 16],
     /// What the service chose for the reply.
     pub choice: ReplyOptions,
+    /// What the client sent.
+    pub message: Vec<u8>,
+    /// How far the service's negotiation is.
+    pub negotiation: Negotiation,
+    /// The login that the decision concludes.
+    pub talk: Talk,
 }
 
 impl Question {

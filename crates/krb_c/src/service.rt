@@ -1,6 +1,6 @@
 //! A service that accepts requests.
 
-ghost use Rattle.std.specs.Prelude.{◌≡◌, None};
+ghost use Rattle.std.specs.Prelude.{None, false, ◌≡◌};
 ghost use Rattle.krb_c.specs.Service.{DecidesAlone, IsMomentOf, Remembers, TellsLatest, TellsUsage, Turns, cleared, emptied, latest_of, nothing_kept};
 ghost use Rattle.krb_c.specs.Answer.{plain};
 ghost use Rattle.krb_c.specs.Codes.{bad_moment, empty_handle};
@@ -78,7 +78,8 @@ pub extern "C" fn fevstunik_acceptor_accept(
         × ((handle.new.value ≡ option_map cleared handle.old.value) × (accepted.new.value ≡ option_map emptied accepted.old.value)) }
     ensures decided { IsMomentOf now.now → Turns accepted.old.value accepted.new.value ((result ≡ plain empty_handle) × (handle.new.value ≡ handle.old.value))
         (λ before kept. Turns handle.old.value handle.new.value ((result ≡ plain empty_handle) × (kept ≡ nothing_kept))
-        (λ old new. DecidesAlone old.is_shared old new (arrival request.now (micros_of now.now.seconds now.now.micros)) kept.accepted result)) }
+        (λ old new. DecidesAlone old.is_shared old new (arrival request.now (micros_of now.now.seconds now.now.micros)) kept.accepted result
+        × (kept.has_sent ≡ false))) }
 {
     let now = match now.moment() {
         Some(now) => now,
@@ -99,7 +100,7 @@ fn decided(
     now: Moment,
 ) -> Answer
     ensures { Turns handle.old.value handle.new.value ((result ≡ plain empty_handle) × (kept.new ≡ nothing_kept))
-        (λ old new. DecidesAlone old.is_shared old new (arrival request.now now) kept.new.accepted result) }
+        (λ old new. DecidesAlone old.is_shared old new (arrival request.now now) kept.new.accepted result × (kept.new.has_sent ≡ false)) }
 {
     let Some(mut state) = take(handle, alloc) else {
         kept.clear();

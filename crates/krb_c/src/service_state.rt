@@ -1,9 +1,9 @@
 //! What a service's handle holds.
 
 ghost use Rattle.krb_c.specs.Answer.{plain};
-ghost use Rattle.std.specs.Prelude.{IsTrue, List, ℕ, ◌≡◌, ◌↔◌, ◌⊎◌};
+ghost use Rattle.std.specs.Prelude.{IsTrue, List, ℕ, false, ◌≡◌, ◌↔◌, ◌⊎◌};
 ghost use Rattle.krb_ap.specs.Setup.{arrival};
-ghost use Rattle.krb_c.specs.Service.{Decides, DecidesAlone, TellsLatest, TellsUsage, accepted_by, cleared, full_of, latest_of, refused_by, told_of, with_refusal};
+ghost use Rattle.krb_c.specs.Service.{Decides, DecidesAlone, TellsLatest, TellsUsage, cleared, full_of, kept_by, latest_of, refused_by, told_of, with_refusal};
 ghost use Rattle.krb_c.specs.Codes.{ok};
 ghost use Rattle.krb_c.specs.Login.{AddsRealm, IsListed};
 ghost use Rattle.krb_login.specs.Terms.{IsOfRealms};
@@ -46,7 +46,8 @@ impl ServiceState {
         bytes: &[u8],
         now: Moment,
     ) -> Answer
-        ensures { DecidesAlone self.old.is_shared self.old self.new (arrival bytes.now now) kept.new.accepted result }
+        ensures decides { DecidesAlone self.old.is_shared self.old self.new (arrival bytes.now now) kept.new.accepted result }
+        ensures sent { kept.new.has_sent ≡ false }
     {
         if self.is_shared {
             self.clear();
@@ -64,7 +65,8 @@ impl ServiceState {
         bytes: &[u8],
         now: Moment,
     ) -> Answer
-        ensures { Decides self.old self.new (arrival bytes.now now) kept.new.accepted result }
+        ensures decides { Decides self.old self.new (arrival bytes.now now) kept.new.accepted result }
+        ensures sent { kept.new.has_sent ≡ false }
     {
         let full = self.service.acceptor.memory().refused();
         let outcome = self.service.acceptor.accept(alloc, bytes, now);
@@ -79,17 +81,18 @@ impl ServiceState {
         full: u64,
     ) -> Answer
         ensures state { self.new ≡ with_refusal self.old (refused_by outcome) }
-        ensures kept { kept.new ≡ record { accepted = accepted_by outcome } }
+        ensures kept { kept.new ≡ kept_by outcome }
         ensures answer { result ≡ told_of full (full_of self.old) outcome }
     {
         match outcome {
             Ok(accepted) => {
                 kept.accepted = Some(accepted);
+                kept.has_sent = false;
                 self.refusal = None;
                 Answer::plain(code::OK)
             }
             Err(refusal) => {
-                kept.accepted = None;
+                kept.clear();
                 self.refusal = Some(refusal);
                 match refusal {
                     Refusal::OutOfMemory if self.service.acceptor.memory().refused() != full => {

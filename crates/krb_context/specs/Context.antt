@@ -56,6 +56,13 @@ pub record IsBegun (agreed : Agreed) (role : Role) (state : State) : Type 0 wher
   pub rotation_fits : state.options.rotation < 2 ^ 16
   pub took : Stands state.window (first_of agreed (peer_of role)) []
 
+-- a side of such a context that has sent its first token, and taken the first one of the other side
+pub record HasSentFirst (agreed : Agreed) (role : Role) (state : State) : Type 0 where
+  pub sender_is : state.sender ≡ sender_in agreed role
+  pub next_is : state.next ≡ number_after (first_of agreed role)
+  pub rotation_fits : state.options.rotation < 2 ^ 16
+  pub took : Stands state.window (first_of agreed (peer_of role)) (first_of agreed (peer_of role) ∷ [])
+
 -- A side sends the token that is written with its next number. It writes nothing if all numbers are used up, or if the slice is too short.
 -- Numbers and rotations fit their places in a header.
 pub record IsSent (token_of : ℕ → List ℕ) (old new : State) (before after : List ℕ) (result : Result ℕ SendFault) : Type 0 where

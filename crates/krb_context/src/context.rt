@@ -5,7 +5,7 @@ ghost use Rattle.krb_context.specs.Side.{peer_of, peer_sender};
 ghost use Rattle.krb_context.specs.Mic.{IsMic, mic_token};
 ghost use Rattle.krb_context.specs.Wrap.{IsWrap, wrap_token};
 ghost use Rattle.krb_context.specs.Sequence.{Stands};
-ghost use Rattle.krb_context.specs.Context.{IsBegun, IsMicRefusal, IsOutOfOrder, IsSent, IsWrapRefusal, LeavesToken, Takes, first_of, number_after, sender_in};
+ghost use Rattle.krb_context.specs.Context.{HasSentFirst, IsBegun, IsMicRefusal, IsOutOfOrder, IsSent, IsWrapRefusal, LeavesToken, Takes, first_of, number_after, sender_in};
 
 use crate::agreed::{Agreed, Options};
 use crate::direction::{Direction, Unwrapped};
@@ -79,6 +79,20 @@ impl Context {
             next: Some(agreed.first_number(role)),
             window: Window::new(agreed.first_number(role.peer())),
         }
+    }
+
+    /// Makes the side `role` of the context that both sides agreed on, after each side has sent its
+    /// first token and taken that of the other: the MICs of a list of mechanisms.
+    ///
+    /// Source: RFC 4178, section 5.
+    pub fn after_first(role: Role, agreed: &Agreed, options: Options) -> Context
+        ensures options { result.options ≡ options }
+        ensures sent { HasSentFirst agreed.now role result }
+    {
+        let mut context = Context::new(role, agreed, options);
+        context.next = number_after(agreed.first_number(role));
+        context.window.mark(agreed.first_number(role.peer()));
+        context
     }
 
     /// Writes the MIC token of `text` with the next number to the start of `token`, and returns its

@@ -14,7 +14,7 @@ use std::alloc::Global;
 
 /// Counts times since a moment.
 pub fn count_times(alloc: Global) -> Result<()> {
-    let mut tally = Tally::new(alloc);
+    let mut tally: Tally<i64> = Tally::new(alloc);
     tally.add(10)?;
     tally.add(30)?;
     tally.add(30)?;

@@ -8,7 +8,6 @@ use crate::etype::{AES128_CTS_HMAC_SHA256_128, AES256_CTS_HMAC_SHA384_192};
 use crate::fault::{KeyFault, OpenFault};
 use crate::profiles::{Sha256Aes128, Sha384Aes256};
 use crate::tag::Tag;
-use crate::usage_key::UsageKey;
 use krb_kdf::{HmacSha256, HmacSha384, MacPurpose, Purpose, hmac_sha256, hmac_sha384};
 use std::alloc::{AllocError, Global};
 use std::fmt;
@@ -16,7 +15,7 @@ use std::marker::Model;
 
 // The bytes of a base key.
 #[derive(Drop)]
-enum BaseKey {
+pub(crate) enum BaseKey {
     Short([u8; 16]),
     Long([u8; 32]),
 }
@@ -35,7 +34,7 @@ pub(crate) enum KeyBytes {
 /// Its `Debug` shows the type's number and no byte, so no log shows a key.
 #[derive(Drop)]
 pub struct Key {
-    bytes: BaseKey,
+    pub(crate) bytes: BaseKey,
 }
 
 impl Model for Key {
@@ -122,18 +121,6 @@ impl Key {
         match &self.bytes {
             BaseKey::Short(bytes) => bytes,
             BaseKey::Long(bytes) => bytes,
-        }
-    }
-
-    /// Prepares the keys of `usage`, for sealing or opening many texts.
-    ///
-    /// Source: RFC 8009, section 5.
-    pub fn for_usage(&self, usage: u32) -> UsageKey
-        ensures { result ≡ record { key = self.now; usage = usage } }
-    {
-        match &self.bytes {
-            BaseKey::Short(bytes) => UsageKey::new_19(bytes, &HmacSha256::new(bytes), usage),
-            BaseKey::Long(bytes) => UsageKey::new_20(bytes, &HmacSha384::new(bytes), usage),
         }
     }
 

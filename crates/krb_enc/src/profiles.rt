@@ -6,12 +6,11 @@ ghost use Rattle.krb_enc.specs.Sealed.{aes128_sha256, aes256_sha384};
 
 use crate::enctype::{Enctype, Inside};
 use crate::etype::{AES128_CTS_HMAC_SHA256_128, AES256_CTS_HMAC_SHA384_192};
+use crate::key::{BaseKey, Key};
 use crate::tag::Tag;
 use crate::texts::INITIAL_VECTOR;
 use crate::usage_key::UsageKey;
-use krb_kdf::{
-    HmacSha256, HmacSha384, MacPurpose, Purpose, derive_19, derive_20, hmac_sha256, hmac_sha384,
-};
+use krb_kdf::{MacPurpose, Purpose, derive_19, derive_20, hmac_sha256, hmac_sha384};
 
 /// aes128-cts-hmac-sha256-128: AES with keys of 128 bits, and tags of 128 bits by HMAC with
 /// SHA-256.
@@ -34,7 +33,8 @@ impl Enctype for Sha256Aes128 {
     ghost TAG_LEN = { 16 };
 
     fn usage_key(_: Inside, key: &[u8], usage: u32) -> UsageKey {
-        UsageKey::new_19(&array_of(key), &HmacSha256::new(key), usage)
+        let bytes = BaseKey::Short(array_of(key));
+        Key { bytes }.for_usage(usage)
     }
 
     #[tactic(auto, unfolding(crate::specs::Sealed::tag_of))]
@@ -81,7 +81,8 @@ impl Enctype for Sha384Aes256 {
     ghost TAG_LEN = { 24 };
 
     fn usage_key(_: Inside, key: &[u8], usage: u32) -> UsageKey {
-        UsageKey::new_20(&array_of(key), &HmacSha384::new(key), usage)
+        let bytes = BaseKey::Long(array_of(key));
+        Key { bytes }.for_usage(usage)
     }
 
     #[tactic(auto, unfolding(crate::specs::Sealed::tag_of))]

@@ -1,7 +1,6 @@
 //! Keys of one usage.
 
-ghost use Rattle.std.specs.Prelude.{◌≡◌, ◌↔◌, ◌⊎◌, ◌≤◌, ◌<◌, ◌+◌, ℕ, List, length, take, drop, vec_len, pos, IfOk, IfErr, IsErr, IsErrOf, IsTrue, MatchResult};
-ghost use Rattle.krb_kdf.specs.Hmac.{sha256_hash, sha384_hash, block_key};
+ghost use Rattle.std.specs.Prelude.{◌≡◌, ◌↔◌, ◌⊎◌, ◌≤◌, ◌<◌, ◌+◌, ℕ, List, length, take, drop, vec_len, IfOk, IfErr, IsErr, IsErrOf, IsTrue, MatchResult};
 ghost use Rattle.krb_enc.specs.Key.{KeyValue, UsageKeyValue, profile_of};
 ghost use Rattle.krb_enc.specs.Sealed.{encryption_key, tag_of, sealed};
 ghost use Rattle.krb_enc.specs.Opens.{IsShort, HasTag, Opens, OpensOnlyTo, OpensToNothing, body_of};
@@ -9,13 +8,13 @@ ghost use Rattle.krb_cts.specs.Undo.{undo};
 ghost use Rattle.krb_enc.specs.Written.{IsWritten};
 ghost use Rattle.krb_enc.specs.Inner.KeyBytes.{value_of, IsReadyFor};
 
+use crate::derived::Derived;
 use crate::etype::{AES128_CTS_HMAC_SHA256_128, AES256_CTS_HMAC_SHA384_192};
 use crate::fault::{NotSealed, OpenFault, OpenToFault, ShortSlice};
-use crate::key::KeyBytes;
+use crate::key::{Key, KeyBytes};
 use crate::tag::{Tag, are_same};
 use crate::texts::{CONFOUNDER_LEN, INITIAL_VECTOR, decrypted, encrypt_to, encrypted};
 use krb_aes::KeySchedule;
-use krb_kdf::{HmacSha256, HmacSha384, MacPurpose, Purpose};
 use std::alloc::{AllocError, Global};
 use std::marker::Model;
 
@@ -38,39 +37,24 @@ impl Model for UsageKey {
     ghost invariant = { λ k. IsReadyFor k.bytes k.usage k.schedule };
 }
 
+impl Key {
+    /// Prepares the keys of `usage`, for sealing or opening many texts.
+    ///
+    /// Source: RFC 8009, section 5.
+    #[inline(never)]
+    pub fn for_usage(&self, usage: u32) -> UsageKey
+        ensures { result ≡ record { key = self.now; usage = usage } }
+    {
+        let keys = Derived::new(&self.bytes, usage);
+        UsageKey {
+            bytes: keys.key_bytes(),
+            usage,
+            schedule: keys.schedule(),
+        }
+    }
+}
+
 impl UsageKey {
-    // Derives the keys of a base key of type 19, whose prepared HMAC key is `base`. Its frame holds the keys
-    // of this type alone.
-    #[tactic(auto, unfolding(krb_kdf::specs::Kdf::kdf, krb_kdf::specs::Kdf::kdf_of, krb_kdf::specs::Hmac::hmac))]
-    #[inline(never)]
-    pub(crate) fn new_19(bytes: &[u8; 16], base: &HmacSha256, usage: u32) -> UsageKey
-        requires { base.now ≡ block_key sha256_hash bytes.now }
-        ensures { result ≡ record { key = record { etype = pos 19; bytes = bytes.now }; usage = usage } }
-    {
-        let integrity_key = base.derive_19(usage, Purpose::Ki);
-        UsageKey {
-            bytes: KeyBytes::Short(*bytes, HmacSha256::new(&integrity_key)),
-            usage,
-            schedule: KeySchedule::new_128(&base.derive_19(usage, Purpose::Ke)),
-        }
-    }
-
-    // Derives the keys of a base key of type 20, whose prepared HMAC key is `base`. Its frame holds the keys
-    // of this type alone.
-    #[tactic(auto, unfolding(krb_kdf::specs::Kdf::kdf, krb_kdf::specs::Kdf::kdf_of, krb_kdf::specs::Hmac::hmac))]
-    #[inline(never)]
-    pub(crate) fn new_20(bytes: &[u8; 32], base: &HmacSha384, usage: u32) -> UsageKey
-        requires { base.now ≡ block_key sha384_hash bytes.now }
-        ensures { result ≡ record { key = record { etype = pos 20; bytes = bytes.now }; usage = usage } }
-    {
-        let integrity_key = base.derive_20(usage, MacPurpose::Ki);
-        UsageKey {
-            bytes: KeyBytes::Long(*bytes, HmacSha384::new(&integrity_key)),
-            usage,
-            schedule: KeySchedule::new_256(&base.derive_20_ke(usage)),
-        }
-    }
-
     /// Returns whether these are the keys of the base key of type `etype` with the bytes `key`, for
     /// `usage`.
     ///

@@ -1,21 +1,14 @@
 -- What is held, and what of it isn't too old.
-use Rattle.std.proofs.Common.{◌≡◌, ◌⊎◌, inl, inr, ℕ, ℤ, zero, ◌+◌, ◌-◌, min, ◌<◌, ◌≤◌, ◌≤ℤ◌, ◌<ℤ◌, Bool, true, false, not, cond, Option, None, List, [], ◌∷◌, length, get_or, Contains, ◌||◌, refl, sym, subst, ap, ◌∙◌, arith}
-use Rattle.std.specs.List.{All, filter, list_any}
-use Rattle.std.specs.List.Sorted.{IsStrictlySortedBy}
-use Rattle.std.specs.BTreeMap.Range.{IsLeBy}
+use Rattle.std.proofs.Common.{◌≡◌, ◌⊎◌, inl, inr, ℕ, ℤ, zero, ◌+◌, ◌<◌, ◌≤ℤ◌, ◌<ℤ◌, ◌&&◌, Bool, true, false, not, cond, Option, Some, None, List, [], ◌∷◌, length, drop, get_or, slice_get, unwrap_or, Contains, refl, sym, subst, ap, ◌∙◌, arith}
+use Rattle.std.specs.List.{All, filter}
 use Rattle.std.proofs.lemmas.List.Elements.{All-head, All-tail, filter_passes}
-use Rattle.std.proofs.lemmas.Map.Views.{All-after_first}
-use Rattle.krb_replay.proofs.OrderLaws.{not_earlier, not_later}
-use Rattle.std.specs.Ordering.{match_ordering, is_eq, is_gt, is_lt}
 use Rattle.std.specs.declared.cmp.Ordering.{Ordering}
-use Rattle.std.specs.declared.cmp.Ordering.TheVariants.{Less, Equal, Greater}
 use Rattle.std.specs.BTreeMap.{BTreeMap, is_at}
-use Rattle.std.specs.BTreeSet.{insert_key}
 use Rattle.std.proofs.lemmas.Int.{ints}
 use Rattle.krb_replay.specs.Stamp.{RealmAndName, Stamp}
 use Rattle.std.specs.Cmp.{IsTotalOrder}
-use Rattle.krb_replay.specs.Inner.Counts.{AddsOne, HasNoZero, SameCounts, TakesOne, count_by, one_by}
-use Rattle.krb_replay.specs.Inner.Order.{TwoNames, names_of, stamp_cmp}
+use Rattle.krb_replay.specs.Inner.Counts.{HasNoZero, SameCounts, TakesOne, count_by, one_by}
+use Rattle.krb_replay.specs.Inner.Order.{TwoNames, names_of}
 use Rattle.krb_replay.specs.Inner.Held.{AreCounted, is_before, is_of, number_before, number_of, since}
 use Rattle.krb_replay.proofs.CountLaws.{own}
 use Rattle.krb_replay.proofs.DropLaws.{first_or_rest, among_rest}
@@ -30,33 +23,6 @@ longer false x xs = omega arith
 
 pub filter_longer : {X : Type 0} (p : X → Bool) (x : X) (xs : List X) → length (filter p (x ∷ xs)) ≡ weighed (p x) + length (filter p xs)
 filter_longer p x xs = longer (p x) x (filter p xs)
-
-by_order : {X : Type 0} (o : Ordering) (p : X → Bool) (x k : X) (xs placed : List X) → (o ≡ Equal → ⊥)
-    → length (filter p placed) ≡ weighed (p k) + length (filter p xs)
-    → length (filter p (match_ordering o (k ∷ x ∷ xs) (x ∷ xs) (x ∷ placed))) ≡ weighed (p k) + length (filter p (x ∷ xs))
-by_order Less p x k xs placed apart same = filter_longer p k (x ∷ xs)
-by_order Equal p x k xs placed apart same = absurd (apart refl)
-by_order Greater p x k xs placed apart same =
-    let placed_is = filter_longer p x placed in
-    let others_is = filter_longer p x xs in
-    omega arith
-
-no_head : (head tail : Bool) → head ≡ true → (head || tail) ≡ false → ⊥
-no_head true tail e f = cc
-no_head false tail e f = cc
-
-no_tail : (head tail : Bool) → (head || tail) ≡ false → tail ≡ false
-no_tail true tail f = absurd (cc)
-no_tail false tail f = f
-
--- a key at its place adds what it weighs
-pub placed_weighs : {X : Type 0} (cmp : X → X → Ordering) (p : X → Bool) (keys : List X) (k : X) → list_any (is_at (cmp k)) keys ≡ false
-    → length (filter p (insert_key cmp keys k)) ≡ weighed (p k) + length (filter p keys)
-placed_weighs cmp p [] k absent = filter_longer p k []
-placed_weighs cmp p (x ∷ xs) k absent =
-    by_order (cmp k x) p x k xs (insert_key cmp xs k)
-    (λ same. no_head (is_at (cmp k) x) (list_any (is_at (cmp k)) xs) (ap is_eq same) absent)
-    (placed_weighs cmp p xs k (no_tail (is_at (cmp k) x) (list_any (is_at (cmp k)) xs) absent))
 
 from_cond : (b : Bool) (p : Stamp → Bool) (y : Stamp) (ys : List Stamp) (x : Stamp) → p y ≡ b
     → Contains (cond b (y ∷ filter p ys) (filter p ys)) x → (Contains (filter p ys) x → Contains ys x × (p x ≡ true))
@@ -97,7 +63,7 @@ recent_is oldest stamp h = grind (arith, ints)
 early_is : (oldest : ℤ) (stamp : Stamp) → stamp.time <ℤ oldest → is_before oldest stamp ≡ true
 early_is oldest stamp h = grind (arith, ints)
 
-late_is : (oldest : ℤ) (stamp : Stamp) → oldest ≤ℤ stamp.time → is_before oldest stamp ≡ false
+pub late_is : (oldest : ℤ) (stamp : Stamp) → oldest ≤ℤ stamp.time → is_before oldest stamp ≡ false
 late_is oldest stamp h = grind (arith, ints)
 
 by_side : (before : Bool) (client : Option RealmAndName) (x : Stamp) (later earlier xs : List Stamp)
@@ -123,20 +89,6 @@ pub all_of_none : (xs : List Stamp) → number_of None xs ≡ length xs
 all_of_none [] = refl
 all_of_none (x ∷ xs) = let rest = all_of_none xs in omega arith
 
--- the counts after one more stamp
-pub counted_more : (cmp : TwoNames → TwoNames → Ordering) (old new : List Stamp) (before after : BTreeMap TwoNames ℕ) (added : Stamp) → AreCounted cmp old before
-    → list_any (is_at (stamp_cmp added)) old ≡ false → new ≡ insert_key stamp_cmp old added
-    → AddsOne cmp before after (names_of added) → AreCounted cmp new after
-counted_more cmp old new before after added counted absent is more = record {
-  each = λ names.
-      let placed = placed_weighs stamp_cmp (λ stamp. is_at (cmp (names_of stamp)) names) old added absent in
-      let same : one_by cmp (names_of added) names ≡ weighed (is_at (cmp (names_of added)) names) = refl in
-      let was = counted.each names in
-      let now = more.counts names in
-      subst (λ (stamps : List Stamp). count_by cmp after names ≡ length (filter (λ stamp. is_at (cmp (names_of stamp)) names) stamps)) (sym is) (omega arith);
-  no_zero = more.no_zero counted.no_zero;
-}
-
 pub counted_still : (cmp : TwoNames → TwoNames → Ordering) (stamps : List Stamp) (before after : BTreeMap TwoNames ℕ) → AreCounted cmp stamps before
     → SameCounts cmp before after → AreCounted cmp stamps after
 counted_still cmp stamps before after counted same = record {
@@ -150,17 +102,6 @@ counted_none cmp stamps counts is none no_zero = record {
   each = λ names. none names ∙ ap (λ (list : List Stamp). length (filter (λ stamp. is_at (cmp (names_of stamp)) names) list)) (sym is);
   no_zero = no_zero;
 }
-
--- one more that isn't before a moment
-pub none_before : (oldest : ℤ) (old new now : List Stamp) (added : Stamp) → list_any (is_at (stamp_cmp added)) old ≡ false
-    → new ≡ insert_key stamp_cmp old added → old ≡ now → oldest ≤ℤ added.time → number_before None oldest new ≡ number_before None oldest now
-none_before oldest old new now added absent is same recent =
-    let placed = placed_weighs stamp_cmp (is_before oldest) old added absent in
-    let later : weighed (is_before oldest added) ≡ 0 = ap weighed (late_is oldest added recent) in
-    let few = all_of_none (filter (is_before oldest) (insert_key stamp_cmp old added)) in
-    let were = all_of_none (filter (is_before oldest) old) in
-    subst (λ (stamps : List Stamp). number_before None oldest stamps ≡ number_before None oldest now) (sym is)
-    (subst (λ (stamps : List Stamp). number_before None oldest (insert_key stamp_cmp old added) ≡ number_before None oldest stamps) same (omega arith))
 
 -- and after one less
 pub counted_less : (cmp : TwoNames → TwoNames → Ordering) (first : Stamp) (rest : List Stamp) (before after : BTreeMap TwoNames ℕ)
@@ -190,50 +131,41 @@ keep_all p (x ∷ xs) all =
     ap (λ (passes : Bool). cond passes (x ∷ filter p xs) (filter p xs)) (All-head (λ y. p y ≡ true) x xs all)
     ∙ ap (λ (ys : List Stamp). x ∷ ys) (keep_all p xs (All-tail (λ y. p y ≡ true) x xs all))
 
--- none is before a moment if the first isn't
-pub all_recent : (oldest : ℤ) (first : Stamp) (stamps : List Stamp) → All (IsLeBy stamp_cmp first) stamps → oldest ≤ℤ first.time
+-- none is before a moment if the least isn't
+pub all_recent : (oldest : ℤ) (first : Stamp) (stamps : List Stamp) → All (λ stamp. first.time ≤ℤ stamp.time) stamps → oldest ≤ℤ first.time
     → since oldest stamps ≡ stamps
 all_recent oldest first stamps all recent =
     keep_all (λ stamp. not (is_before oldest stamp)) stamps
-    (λ k d within. recent_is oldest (get_or stamps k d) (let later = not_later first (get_or stamps k d) (all k d within) in omega (arith, ints)))
+    (λ k d within. recent_is oldest (get_or stamps k d) (let later = all k d within in omega (arith, ints)))
 
 pub none_there : (oldest : ℤ) (stamps : List Stamp) → (0 < length stamps → ⊥) → since oldest stamps ≡ stamps
 none_there oldest [] none = refl
 none_there oldest (x ∷ xs) none = absurd (none (omega arith))
 
--- the next one, which is before the moment
-pub next_before : (client : Option RealmAndName) (oldest : ℤ) (left rest : List Stamp) (next : Stamp) → left ≡ next ∷ rest → next.time <ℤ oldest
-    → number_before client oldest left ≡ weighed (is_of client next) + number_before client oldest rest
-next_before client oldest left rest next is early =
-    ap (λ (stamps : List Stamp). number_before client oldest stamps) is
-    ∙ (ap (λ (before : Bool). number_of client (cond before (next ∷ filter (is_before oldest) rest) (filter (is_before oldest) rest))) (early_is oldest next early)
-    ∙ filter_longer (is_of client) next (filter (is_before oldest) rest))
-
-drop_all : (p : Stamp → Bool) (xs : List Stamp) → All (λ x. p x ≡ false) xs → filter p xs ≡ []
+pub drop_all : (p : Stamp → Bool) (xs : List Stamp) → All (λ x. p x ≡ false) xs → filter p xs ≡ []
 drop_all p [] all = refl
 drop_all p (x ∷ xs) all =
     ap (λ (passes : Bool). cond passes (x ∷ filter p xs) (filter p xs)) (All-head (λ y. p y ≡ false) x xs all)
     ∙ drop_all p xs (All-tail (λ y. p y ≡ false) x xs all)
 
--- no more are before the moment if the next one isn't
-pub no_more_before : (client : Option RealmAndName) (oldest : ℤ) (left rest : List Stamp) (next : Stamp) → left ≡ next ∷ rest
-    → IsStrictlySortedBy stamp_cmp left → oldest ≤ℤ next.time → number_before client oldest left ≡ 0
-no_more_before client oldest left rest next is ordered recent =
-    let sorted : IsStrictlySortedBy stamp_cmp (next ∷ rest) = subst (λ (stamps : List Stamp). IsStrictlySortedBy stamp_cmp stamps) is ordered in
-    let later = All-after_first stamp_cmp next rest sorted in
-    ap (λ (stamps : List Stamp). number_before client oldest stamps) is
-    ∙ (ap (λ (before : Bool). number_of client (cond before (next ∷ filter (is_before oldest) rest) (filter (is_before oldest) rest))) (late_is oldest next recent)
-    ∙ ap (λ (stamps : List Stamp). number_of client stamps)
-    (drop_all (is_before oldest) rest
-    (λ k d within. late_is oldest (get_or rest k d)
-    (let after = not_later next (get_or rest k d) (ap is_gt (later k d within)) in omega (arith, ints)))))
-
--- none is left if the last one is before the moment
-pub none_left : (oldest : ℤ) (last : Stamp) (stamps : List Stamp) → All (λ stamp. is_lt (stamp_cmp last stamp) ≡ false) stamps → last.time <ℤ oldest
+-- none is left if the greatest is before the moment
+pub none_left : (oldest : ℤ) (last : Stamp) (stamps : List Stamp) → All (λ stamp. stamp.time ≤ℤ last.time) stamps → last.time <ℤ oldest
     → since oldest stamps ≡ []
 none_left oldest last stamps all early =
     drop_all (λ stamp. not (is_before oldest stamp)) stamps
-    (λ k d within. ap not (early_is oldest (get_or stamps k d) (let before = not_earlier last (get_or stamps k d) (all k d within) in omega (arith, ints))))
+    (λ k d within. ap not (early_is oldest (get_or stamps k d) (let before = all k d within in omega (arith, ints))))
+
+first_dropped : (oldest : ℤ) (x : Stamp) (xs : List Stamp) → x.time <ℤ oldest → since oldest (x ∷ xs) ≡ since oldest xs
+first_dropped oldest x xs early =
+    ap (λ (before : Bool). cond (not before) (x ∷ since oldest xs) (since oldest xs)) (early_is oldest x early)
+
+-- the first is dropped if it is before the moment
+pub first_gone : (oldest : ℤ) (first : Stamp) (old new : List Stamp) → slice_get old 0 ≡ Some first → first.time <ℤ oldest → new ≡ drop 1 old
+    → since oldest new ≡ since oldest old
+first_gone oldest first [] new is early rest = ap (λ (stamps : List Stamp). since oldest stamps) rest
+first_gone oldest first (x ∷ xs) new is early rest =
+    let same : x ≡ first = ap (λ (one : Option Stamp). unwrap_or one x) is in
+    ap (λ (stamps : List Stamp). since oldest stamps) rest ∙ sym (first_dropped oldest x xs (subst (λ (s : Stamp). s.time <ℤ oldest) (sym same) early))
 
 -- what isn't before a moment isn't before an earlier one
 pub recent_before : (oldest earlier : ℤ) (stamps : List Stamp) → since oldest stamps ≡ stamps → earlier ≤ℤ oldest → since earlier stamps ≡ stamps
@@ -244,7 +176,15 @@ recent_before oldest earlier stamps all less =
     (subst (λ (kept : List Stamp). All (λ stamp. not (is_before oldest stamp) ≡ true) kept) all (filter_passes (λ stamp. not (is_before oldest stamp)) stamps) k d within) in
     omega (arith, ints)))
 
--- counting a few of those before a moment says whether there are as many since
-pub room : (held count later before few : ℕ) → later + before ≡ held → count ≤ held → few ≡ min (held - count + 1) before
-    → (few ≤ held - count → count ≤ later) × (count ≤ later → few ≤ held - count)
-room held count later before few both fits is = (λ h. omega arith, λ h. omega arith)
+cond_both : (q p : Bool) (x : Stamp) (kept both : List Stamp) (P : Stamp → Bool) → P x ≡ p → filter P kept ≡ both
+    → filter P (cond q (x ∷ kept) kept) ≡ cond (q && p) (x ∷ both) both
+cond_both true true x kept both P is same = ap (λ (passes : Bool). cond passes (x ∷ filter P kept) (filter P kept)) is ∙ ap (λ (list : List Stamp). x ∷ list) same
+cond_both true false x kept both P is same = ap (λ (passes : Bool). cond passes (x ∷ filter P kept) (filter P kept)) is ∙ same
+cond_both false p x kept both P is same = same
+
+-- what passes two tests
+pub both_kept : (P Q R : Stamp → Bool) → ((x : Stamp) → (Q x && P x) ≡ R x) → (xs : List Stamp) → filter P (filter Q xs) ≡ filter R xs
+both_kept P Q R is [] = refl
+both_kept P Q R is (x ∷ xs) =
+    cond_both (Q x) (P x) x (filter Q xs) (filter R xs) P refl (both_kept P Q R is xs)
+    ∙ ap (λ (passes : Bool). cond passes (x ∷ filter R xs) (filter R xs)) (is x)

@@ -5,7 +5,9 @@ pub mod HeldLaws
 pub mod KeepingLaws
 pub mod LimitLaws
 pub mod NamesLaws
+pub mod OnceLaws
 pub mod OrderLaws
 pub mod SetLaws
 pub mod SizeLaws
 pub mod TimedLaws
+pub mod TimesLaws

@@ -1,17 +1,12 @@
 -- The order of stamps is strict, and goes by time.
-use Rattle.std.proofs.Common.{◌≡◌, ◌≢◌, ◌≤ℤ◌, List, [], ◌∷◌, get_or, AllPairs, arith, refl, sym, ap, ◌∙◌, false}
+use Rattle.std.proofs.Common.{◌≡◌, [], ◌∷◌, refl}
 use Rattle.std.specs.declared.cmp.Ordering.{Ordering}
-use Rattle.std.specs.Ordering.{ordering_then, int_cmp, nat_cmp, is_gt, is_lt}
+use Rattle.std.specs.Ordering.{ordering_then, int_cmp, nat_cmp}
 use Rattle.std.specs.declared.cmp.Ordering.TheVariants.{Less, Equal, Greater}
 use Rattle.std.specs.Cmp.Lexicographic.{slice_cmp}
-use Rattle.std.specs.List.Sorted.{IsStrictlySortedBy}
-use Rattle.std.proofs.lemmas.Cmp.{int_ranked, by_ranked, tied_itself}
-use Rattle.std.proofs.lemmas.Int.{ints}
-use Rattle.std.proofs.lemmas.Map.Keys.{Less-from_sorted}
 use Rattle.std.proofs.lemmas.Map.Lookups.{CmpEqualImpliesEq, exact_signed, exact_bytes}
 use Rattle.krb_replay.specs.Bytes.{name_bytes}
-use Rattle.krb_replay.specs.Stamp.{Stamp}
-use Rattle.krb_replay.specs.Inner.Order.{name_cmp, parts_cmp, pair_cmp, stamp_cmp, stamp_total}
+use Rattle.krb_replay.specs.Inner.Order.{name_cmp, parts_cmp, pair_cmp, stamp_cmp}
 
 -- both of two orders tie where the one after the other does
 first_tied : (one other : Ordering) → ordering_then one other ≡ Equal → one ≡ Equal
@@ -23,11 +18,6 @@ second_tied : (one other : Ordering) → ordering_then one other ≡ Equal → o
 second_tied Less other e = absurd (cc)
 second_tied Equal other e = e
 second_tied Greater other e = absurd (cc)
-
-greater_decides : (one other : Ordering) → one ≡ Greater → is_gt (ordering_then one other) ≡ false → ⊥
-greater_decides Less other e f = cc
-greater_decides Equal other e f = cc
-greater_decides Greater other e f = cc
 
 pub exact_lists : {K : Type 0} (R : K → K → Ordering) → CmpEqualImpliesEq R → CmpEqualImpliesEq (slice_cmp R)
 exact_lists R exact [] [] e = refl
@@ -61,32 +51,3 @@ exact_stamps one other e =
     let servers : one.server ≡ other.server = exact_names one.server other.server (first_tied _ _ names) in
     let clients : one.client ≡ other.client = exact_names one.client other.client (second_tied _ _ names) in
     λ i. record { server = servers i; client = clients i; time = times i }
-
--- stamps in order differ
-pub once_from_ordered : (stamps : List Stamp) → IsStrictlySortedBy stamp_cmp stamps → AllPairs (λ one other. one ≢ other) stamps
-once_from_ordered stamps ordered i j d below within same =
-    let less : stamp_cmp (get_or stamps i d) (get_or stamps j d) ≡ Less = Less-from_sorted stamp_cmp stamps i j d ordered below within in
-    let tied : stamp_cmp (get_or stamps i d) (get_or stamps j d) ≡ Equal =
-    ap (λ other. stamp_cmp (get_or stamps i d) other) (sym same) ∙ tied_itself stamp_total (get_or stamps i d) in
-    cc
-
--- what isn't after another one isn't later
-pub not_later : (one other : Stamp) → is_gt (stamp_cmp one other) ≡ false → one.time ≤ℤ other.time
-not_later one other not_after =
-    by_ranked _ _ _ (int_cmp one.time other.time) (int_ranked one.time other.time _ refl)
-    (λ is less. omega (arith, ints))
-    (λ is same. omega (arith, ints))
-    (λ is more. absurd (greater_decides _ _ is not_after))
-
-less_decides : (one other : Ordering) → one ≡ Less → is_lt (ordering_then one other) ≡ false → ⊥
-less_decides Less other e f = cc
-less_decides Equal other e f = cc
-less_decides Greater other e f = cc
-
--- and what isn't before another one isn't earlier
-pub not_earlier : (one other : Stamp) → is_lt (stamp_cmp one other) ≡ false → other.time ≤ℤ one.time
-not_earlier one other not_before =
-    by_ranked _ _ _ (int_cmp one.time other.time) (int_ranked one.time other.time _ refl)
-    (λ is less. absurd (less_decides _ _ is not_before))
-    (λ is same. omega (arith, ints))
-    (λ is more. omega (arith, ints))

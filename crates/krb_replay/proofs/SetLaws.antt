@@ -1,19 +1,17 @@
 -- Lists of stamps as sets.
-use Rattle.std.proofs.Common.{◌≡◌, ◌≢◌, ◌⊎◌, inl, inr, ℕ, zero, suc, cond, Bool, true, false, List, [], ◌∷◌, ◌++◌, length, AllPairs, Contains, Decides, refl, sym, ap, ◌∙◌, subst, arith}
+use Rattle.std.proofs.Common.{◌≡◌, ◌≢◌, ◌⊎◌, inl, inr, zero, suc, Bool, List, [], ◌∷◌, ◌++◌, AllPairs, Contains, Decides, sym, ap, ◌∙◌, subst, arith}
 use Rattle.std.specs.List.{IsAnyAnswer}
 use Rattle.std.specs.Ordering.{eq_by_cmp, is_eq}
 use Rattle.std.proofs.lemmas.Cmp.{tied_itself}
 use Rattle.std.proofs.lemmas.List.Elements.{contains_decides, Decides-contains, Contains-get_or}
 use Rattle.std.proofs.lemmas.List.Quantifiers.{all_pairs_push}
-use Rattle.std.specs.BTreeMap.{is_at}
-use Rattle.std.specs.BTreeSet.{BTreeSet, contains, IsOrdered, Updates}
-use Rattle.std.proofs.lemmas.Map.Views.{tells_apart, btree_set_contains_iff}
+use Rattle.std.proofs.lemmas.Map.Views.{tells_apart}
 use Rattle.krb_replay.specs.Stamp.{Stamp}
-use Rattle.krb_replay.specs.Memory.{AddsStamp, IsSizeOf, SameStamps}
+use Rattle.krb_replay.specs.Memory.{AddsStamp, SameStamps}
 use Rattle.krb_replay.specs.Inner.Order.{stamp_cmp, stamp_total}
 use Rattle.std.specs.Prelude.{Result, Ok, Err, OnErr}
 use Rattle.krb_replay.proofs.DropLaws.{among_rest, first_or_rest}
-use Rattle.krb_replay.proofs.OrderLaws.{exact_stamps, once_from_ordered}
+use Rattle.krb_replay.proofs.OrderLaws.{exact_stamps}
 
 pub same_decided : (one other : Stamp) → Decides (eq_by_cmp stamp_cmp one other) (one ≡ other)
 same_decided one other = (
@@ -41,49 +39,6 @@ pub once_pushed : (stamps : List Stamp) (added : Stamp) → AllPairs (λ one oth
 once_pushed stamps added once absent =
     all_pairs_push (λ one other. one ≢ other) stamps added once
     (λ k d within same. absent (subst (λ one. Contains stamps one) same (Contains-get_or stamps k d within)))
-
--- what a look-up in a set in order answers
-pub set_found : (set : BTreeSet Stamp) (stamps : List Stamp) (stamp : Stamp) (answer : Bool)
-    → answer ≡ contains stamp_cmp set stamp → set.keys ≡ stamps → Decides answer (Contains stamps stamp)
-set_found set stamps stamp answer is same =
-    subst (λ list. Decides answer (Contains list stamp)) same
-    (let iff = btree_set_contains_iff stamp_total exact_stamps set stamp in
-    (λ yes. iff.0 (sym is ∙ yes), λ there. is ∙ iff.1 there))
-
-pub sized : (set : BTreeSet Stamp) (stamps : List Stamp) (size : ℕ) → IsOrdered stamp_cmp set → set.keys ≡ stamps
-    → size ≡ length set.keys → IsSizeOf (Contains stamps) size
-sized set stamps size ordered same is =
-    subst (λ list. IsSizeOf (Contains list) size) same
-    (record {
-      stamps = set.keys;
-      once = once_from_ordered set.keys ordered;
-      members = λ stamp. (λ h. h, λ h. h);
-      size_is = sym is;
-    })
-
-or_old : (at old : Bool) → cond at true old ≡ true → (at ≡ true) ⊎ (old ≡ true)
-or_old true old e = inl refl
-or_old false old e = inr e
-
-old_or : (at old : Bool) → old ≡ true → cond at true old ≡ true
-old_or true old e = refl
-old_or false old e = e
-
-pub added_to_set : (old new : BTreeSet Stamp) (stamps : List Stamp) (added : Stamp) → Updates stamp_cmp old new added true
-    → old.keys ≡ stamps → AddsStamp (Contains stamps) (Contains new.keys) added
-added_to_set old new stamps added updates same =
-    subst (λ list. AddsStamp (Contains list) (Contains new.keys) added) same
-    (λ stamp. let before = btree_set_contains_iff stamp_total exact_stamps old stamp in
-    let after = btree_set_contains_iff stamp_total exact_stamps new stamp in (
-      λ there. elim (or_old (is_at (stamp_cmp added) stamp) (contains stamp_cmp old stamp) (sym (updates.0 stamp) ∙ after.1 there)) [
-        | inl e ↦ inl (sym (tells_apart exact_stamps added stamp e))
-        | inr e ↦ inr (before.0 e)
-      ],
-      λ either. after.0 (updates.0 stamp ∙ elim either [
-        | inl e ↦ ap (λ at. cond at true (contains stamp_cmp old stamp)) (ap (λ one. is_at (stamp_cmp added) one) e ∙ ap is_eq (tied_itself stamp_total added))
-        | inr held ↦ old_or (is_at (stamp_cmp added) stamp) (contains stamp_cmp old stamp) (before.1 held)
-      ]),
-    ))
 
 from_pushed : (stamps : List Stamp) (added stamp : Stamp) → Contains (stamps ++ added ∷ []) stamp → (stamp ≡ added) ⊎ Contains stamps stamp
 from_pushed [] added stamp (zero, within, is) = inl (sym is)

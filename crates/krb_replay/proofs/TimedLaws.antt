@@ -1,20 +1,19 @@
 -- The set of a timed memory: what is held and isn't before a moment.
-use Rattle.std.proofs.Common.{◌≡◌, ◌≢◌, ◌⊎◌, inl, inr, ℕ, ℤ, zero, suc, ◌+◌, ◌-◌, ◌≤◌, ◌≤ℤ◌, ◌<ℤ◌, min, Bool, true, false, not, cond, ◌&&◌, Option, Some, None, List, [], ◌∷◌, length, get_or, Contains, refl, sym, subst, ap, ◌∙◌, arith}
+use Rattle.std.proofs.Common.{◌≡◌, ◌⊎◌, inl, inr, ℕ, ℤ, zero, suc, ◌+◌, ◌-◌, ◌≤◌, ◌≤ℤ◌, ◌<ℤ◌, Bool, true, false, not, cond, ◌&&◌, Option, Some, None, List, [], ◌∷◌, length, Contains, refl, sym, subst, ap, ◌∙◌, arith}
 use Rattle.std.specs.List.{filter}
 use Rattle.std.specs.Prelude.{Result, Ok, Err, OnOk, OnErr}
-use Rattle.std.specs.List.Sorted.{IsStrictlySortedBy}
 use Rattle.std.specs.Ordering.{is_eq}
 use Rattle.std.proofs.lemmas.Cmp.{tied_itself}
 use Rattle.std.proofs.lemmas.Int.{ints}
-use Rattle.std.proofs.lemmas.List.Elements.{Contains-get_or}
 use Rattle.std.proofs.lemmas.Map.Views.{tells_apart}
 use Rattle.krb_replay.specs.Stamp.{RealmAndName, Stamp}
 use Rattle.krb_replay.specs.Limit.{HasAtLeast, IsOf, Since}
 use Rattle.krb_replay.specs.Memory.{AddsStamp, FreesSome, IsSizeOf, SameStamps, earlier_of, later_of}
-use Rattle.krb_replay.specs.Inner.Order.{name_cmp, name_total, stamp_cmp}
-use Rattle.krb_replay.specs.Inner.Held.{AreLive, FreesAtMost, IsLater, is_before, is_of, number_before, number_of, since}
-use Rattle.krb_replay.proofs.HeldLaws.{all_of_none, from_filter, into_filter, recent_from, recent_is, two_sides}
-use Rattle.krb_replay.proofs.OrderLaws.{exact_names, once_from_ordered}
+use Rattle.krb_replay.specs.Inner.Order.{name_cmp, name_total}
+use Rattle.krb_replay.specs.Inner.Held.{AreLive, FreesAtMost, IsLater, IsOnce, is_before, is_of, number_before, number_of, since}
+use Rattle.krb_replay.proofs.HeldLaws.{all_of_none, both_kept, from_filter, into_filter, recent_from, recent_is, two_sides}
+use Rattle.krb_replay.proofs.OrderLaws.{exact_names}
+use Rattle.krb_replay.proofs.OnceLaws.{once_cons, once_from_counts}
 use Rattle.krb_replay.proofs.SizeLaws.{AreOnce, first_apart, no_longer, once_rest, one_size}
 
 -- what is in the set
@@ -64,12 +63,6 @@ reached_same oldest reached old between new stamps same is unchanged stamp =
     )
 
 -- each once
-once_cons : (first : Stamp) (rest : List Stamp) → ((stamp : Stamp) → Contains rest stamp → first ≢ stamp) → AreOnce rest → AreOnce (first ∷ rest)
-once_cons first rest apart once zero zero d below within same = absurd (omega arith)
-once_cons first rest apart once (suc i) zero d below within same = absurd (omega arith)
-once_cons first rest apart once zero (suc j) d below within same = apart (get_or rest j d) (Contains-get_or rest j d (omega arith)) same
-once_cons first rest apart once (suc i) (suc j) d below within same = once i j d (omega arith) (omega arith) same
-
 once_cond : (keep : Bool) (first : Stamp) (rest kept : List Stamp) → AreOnce (first ∷ rest) → ((stamp : Stamp) → Contains kept stamp → Contains rest stamp)
     → AreOnce kept → AreOnce (cond keep (first ∷ kept) kept)
 once_cond true first rest kept once among still = once_cons first kept (λ stamp there. first_apart first rest stamp once (among stamp there)) still
@@ -81,16 +74,14 @@ once_kept p (first ∷ rest) once =
     once_cond (p first) first rest (filter p rest) once (λ stamp there. (from_filter p rest stamp there).0) (once_kept p rest (once_rest first rest once))
 
 -- the size of the set
-pub live_size : (oldest : ℤ) (held stamps : List Stamp) (dropped : ℕ) → IsStrictlySortedBy stamp_cmp held → since oldest held ≡ stamps
-    → dropped ≡ min (length held) (number_before None oldest held) → IsSizeOf (Contains stamps) (length held - dropped)
-live_size oldest held stamps dropped ordered same is =
-    let sides = two_sides None oldest held in
-    let all = all_of_none held in
+pub live_size : (oldest : ℤ) (held stamps : List Stamp) (number : ℕ) → IsOnce held → since oldest held ≡ stamps
+    → number ≡ number_of None (since oldest held) → IsSizeOf (Contains stamps) number
+live_size oldest held stamps number once same is =
     let live = all_of_none (since oldest held) in
-    subst (λ (list : List Stamp). IsSizeOf (Contains list) (length held - dropped)) same
+    subst (λ (list : List Stamp). IsSizeOf (Contains list) number) same
     (record {
       stamps = since oldest held;
-      once = once_kept (λ one. not (is_before oldest one)) held (once_from_ordered held ordered);
+      once = once_kept (λ one. not (is_before oldest one)) held (once_from_counts held once);
       members = λ stamp. (λ h. h, λ h. h);
       size_is = omega arith;
     })
@@ -122,18 +113,6 @@ at_least client oldest stamps count once = (
       let enough = has.enough in
       omega arith,
 )
-
-cond_both : (q p : Bool) (x : Stamp) (kept both : List Stamp) (P : Stamp → Bool) → P x ≡ p → filter P kept ≡ both
-    → filter P (cond q (x ∷ kept) kept) ≡ cond (q && p) (x ∷ both) both
-cond_both true true x kept both P is same = ap (λ (passes : Bool). cond passes (x ∷ filter P kept) (filter P kept)) is ∙ ap (λ (list : List Stamp). x ∷ list) same
-cond_both true false x kept both P is same = ap (λ (passes : Bool). cond passes (x ∷ filter P kept) (filter P kept)) is ∙ same
-cond_both false p x kept both P is same = same
-
-both_kept : (P Q R : Stamp → Bool) → ((x : Stamp) → (Q x && P x) ≡ R x) → (xs : List Stamp) → filter P (filter Q xs) ≡ filter R xs
-both_kept P Q R is [] = refl
-both_kept P Q R is (x ∷ xs) =
-    cond_both (Q x) (P x) x (filter Q xs) (filter R xs) P refl (both_kept P Q R is xs)
-    ∙ ap (λ (passes : Bool). cond passes (x ∷ filter R xs) (filter R xs)) (is x)
 
 both_recent : (one other later : ℤ) (stamp : Stamp) → one ≤ℤ later → other ≤ℤ later → (later ≡ one) ⊎ (later ≡ other)
     → (not (is_before one stamp) && not (is_before other stamp)) ≡ not (is_before later stamp)
@@ -199,13 +178,13 @@ decided client since_when stamps count answer once decides =
     (λ yes. both.0 (decides.0 yes), λ has. decides.1 (both.1 has))
 
 -- the set is as large as its list
-pub set_size : (oldest : ℤ) (held : List Stamp) (size : ℕ) → IsStrictlySortedBy stamp_cmp held → IsSizeOf (Contains (since oldest held)) size
+pub set_size : (oldest : ℤ) (held : List Stamp) (size : ℕ) → IsOnce held → IsSizeOf (Contains (since oldest held)) size
     → length (since oldest held) ≡ size
-set_size oldest held size ordered is =
+set_size oldest held size once is =
     one_size (since oldest held) (length (since oldest held)) size
     (record {
       stamps = since oldest held;
-      once = once_kept (λ one. not (is_before oldest one)) held (once_from_ordered held ordered);
+      once = once_kept (λ one. not (is_before oldest one)) held (once_from_counts held once);
       members = λ stamp. (λ h. h, λ h. h);
       size_is = refl;
     }) is

@@ -1,45 +1,46 @@
 //! What a timed memory holds.
 
 ghost use Rattle.std.specs.Prelude.{◌≡◌, ◌↔◌, ◌≤◌, ◌≤ℤ◌, ◌<◌, ◌+◌, ◌-◌, ◌*◌, ◌^◌, ℤ, None, [], drop, false, min, length, Contains, IfOk, IsTrue, OnErr, OnOk};
-ghost use Rattle.std.specs.List.Sorted.{IsStrictlySortedBy};
 ghost use Rattle.std.specs.Option.{option_map};
 ghost use Rattle.krb_replay.specs.Inner.Counts.{AddsOne, SameCounts, TakesOne, count_by};
-ghost use Rattle.krb_replay.specs.Inner.Held.{is_of, number_before, number_of, since};
-ghost use Rattle.krb_replay.specs.Inner.Order.{client_cmp, names_of, pair_cmp, stamp_cmp};
+ghost use Rattle.krb_replay.specs.Inner.Held.{IsOnce, is_of, number_before, number_of, since};
+ghost use Rattle.krb_replay.specs.Inner.Order.{client_cmp, names_of, pair_cmp};
+ghost use Rattle.krb_replay.specs.Inner.Times.{AddsTime, SameTimes, TakesTime, times_by};
 ghost use Rattle.krb_replay.specs.Memory.{AddsStamp};
 
+use crate::client_times::ClientTimes;
 use crate::counts::Counts;
 use crate::pair::{ByClient, Pair};
 use crate::tuple::Tuple;
+use krb_tally::{Tally, Timed};
 use std::alloc::{AllocError, Global};
-use std::collections::BTreeSet;
 use std::marker::Model;
 
 /// Tuples in the order of their times. Those with the same names share one copy of them. How many
-/// tuples each client and each pair of names has is counted: names are kept as long as a tuple has
-/// them. (The names of a client's first tuple are kept as long as the client has any.)
+/// tuples each pair of names has is counted, and the times of each client's tuples are kept a second
+/// time, so that those since a moment can be counted without a look at each. Names are kept as long
+/// as a tuple has them. (The names of a client's first tuple are kept as long as the client has any.)
 ///
-/// No call moves many tuples: the tuples and the counts are in trees of small blocks.
+/// No call moves many tuples: they are in buckets.
 #[derive(Debug, Drop)]
 pub(crate) struct Held {
-    tuples: BTreeSet<Tuple>,
+    tuples: Tally<Tuple>,
     pairs: Counts<Pair>,
-    clients: Counts<ByClient>,
+    clients: ClientTimes,
 }
 
 impl Model for Held {
     ghost use Rattle.std.specs.Prelude.{List};
-    ghost use Rattle.std.specs.BTreeSet.{IsOrdered};
-    ghost use Rattle.krb_replay.specs.Inner.Held.{AreCounted};
-    ghost use Rattle.krb_replay.specs.Inner.Order.{client_cmp, pair_cmp, stamp_cmp};
+    ghost use Rattle.krb_replay.specs.Inner.Held.{AreCounted, AreTimed, IsOnce};
+    ghost use Rattle.krb_replay.specs.Inner.Order.{client_cmp, pair_cmp};
     ghost use Rattle.krb_replay.specs.Stamp.{Stamp};
 
     ghost Value = { List Stamp };
 
-    ghost view = { λ held. held.tuples.keys };
+    ghost view = { λ held. held.tuples };
 
-    ghost invariant = { λ held. IsOrdered stamp_cmp held.tuples
-        × (AreCounted client_cmp held.tuples.keys held.clients.counts × AreCounted pair_cmp held.tuples.keys held.pairs.counts) };
+    ghost invariant = { λ held. IsOnce held.tuples
+        × (AreTimed client_cmp held.tuples held.clients.times × AreCounted pair_cmp held.tuples held.pairs.counts) };
 }
 
 impl Held {
@@ -47,22 +48,22 @@ impl Held {
         ensures { result ≡ [] }
     {
         Held {
-            tuples: BTreeSet::new(alloc),
+            tuples: Tally::new(alloc),
             pairs: Counts::new(alloc),
-            clients: Counts::new(alloc),
+            clients: ClientTimes::new(alloc),
         }
     }
 
     pub(crate) fn contains(&self, tuple: &Tuple) -> bool
         ensures { IsTrue result ↔ Contains self.now tuple.now }
     {
-        self.tuples.contains(tuple)
+        self.tuples.has(tuple)
     }
 
     pub(crate) fn len(&self) -> usize
         ensures len { result ≡ length self.now }
         ensures small { result < 2 ^ 63 }
-        ensures ordered { IsStrictlySortedBy stamp_cmp self.now }
+        ensures once { IsOnce self.now }
     {
         self.tuples.len()
     }
@@ -87,15 +88,17 @@ impl Held {
         ensures grows { length self.new ≤ length self.old + 1 }
         ensures before { (oldest : ℤ) → oldest ≤ℤ tuple.time → number_before None oldest self.new ≡ number_before None oldest self.old }
     {
-        if self.tuples.contains(&tuple) {
+        if self.tuples.has(&tuple) {
             return Ok(());
         }
         let tuple = share_names(&self.pairs, tuple)?;
-        count(&mut self.clients, &mut self.pairs, &tuple)?;
-        match self.tuples.insert(tuple) {
-            Ok(_) => Ok(()),
-            Err(failed) => {
-                uncount(&mut self.clients, &mut self.pairs, &failed.value);
+        let names = tuple.share_names()?;
+        let time = tuple.timestamp();
+        count(&mut self.clients, &mut self.pairs, &names, time)?;
+        match self.tuples.add(tuple) {
+            Ok(()) => Ok(()),
+            Err(_) => {
+                uncount(&mut self.clients, &mut self.pairs, &names, time);
                 Err(AllocError)
             }
         }
@@ -111,7 +114,7 @@ impl Held {
         let Some(first) = self.tuples.first() else {
             return false;
         };
-        if first.time().micros() >= oldest {
+        if first.timestamp() >= oldest {
             return false;
         }
         self.pop_first()
@@ -124,7 +127,12 @@ impl Held {
     {
         match self.tuples.pop_first() {
             Some(tuple) => {
-                uncount(&mut self.clients, &mut self.pairs, &tuple);
+                uncount(
+                    &mut self.clients,
+                    &mut self.pairs,
+                    tuple.names(),
+                    tuple.timestamp(),
+                );
                 true
             }
             None => false,
@@ -136,36 +144,15 @@ impl Held {
         ensures { IsTrue result → since oldest self.now ≡ [] }
     {
         match self.tuples.last() {
-            Some(last) => last.time().micros() < oldest,
+            Some(last) => last.timestamp() < oldest,
             None => false,
         }
-    }
-
-    /// Returns how many tuples are before `oldest`: of the client of a tuple, or of all clients. It
-    /// counts up to `most`.
-    pub(crate) fn number_before(&self, client_of: Option<&Tuple>, oldest: i64, most: usize) -> usize
-        ensures number { result ≡ min most (number_before (option_map (λ tuple. tuple.now.client) client_of.entry) oldest self.now) }
-        ensures ordered { IsStrictlySortedBy stamp_cmp self.now }
-    {
-        let mut found = 0;
-        for tuple in self.tuples.iter() {
-            if found == most {
-                return found;
-            }
-            if tuple.time().micros() >= oldest {
-                return found;
-            }
-            if tuple.is_of(client_of) {
-                found += 1;
-            }
-        }
-        found
     }
 
     // How many tuples are held: of the client of a tuple, or of all clients.
     fn number(&self, client_of: Option<&Tuple>) -> usize
         ensures number { result ≡ number_of (option_map (λ tuple. tuple.now.client) client_of.entry) self.now }
-        ensures ordered { IsStrictlySortedBy stamp_cmp self.now }
+        ensures once { IsOnce self.now }
     {
         match client_of {
             Some(tuple) => self.clients.of(tuple.names()),
@@ -173,21 +160,28 @@ impl Held {
         }
     }
 
+    /// Returns how many tuples aren't before `oldest`: of the client of a tuple, or of all clients.
+    pub(crate) fn number_since(&self, client_of: Option<&Tuple>, oldest: i64) -> usize
+        ensures number { result ≡ number_of (option_map (λ tuple. tuple.now.client) client_of.entry) (since oldest self.now) }
+        ensures once { IsOnce self.now }
+    {
+        match client_of {
+            Some(tuple) => self.clients.since(tuple.names(), oldest),
+            None => self.tuples.since(oldest),
+        }
+    }
+
     /// Returns whether at least `count` tuples aren't before `oldest`: of the client of a tuple, or
     /// of all clients.
     pub(crate) fn has_at_least(&self, client_of: Option<&Tuple>, count: usize, oldest: i64) -> bool
         ensures enough { IsTrue result ↔ (count ≤ number_of (option_map (λ tuple. tuple.now.client) client_of.entry) (since oldest self.now)) }
-        ensures ordered { IsStrictlySortedBy stamp_cmp self.now }
+        ensures once { IsOnce self.now }
     {
-        let held = self.number(client_of);
-        if count == 0 {
-            return true;
-        }
-        if held < count {
+        // Most clients have far fewer, and nothing is added up for them.
+        if self.number(client_of) < count {
             return false;
         }
-        let spare = held - count;
-        self.number_before(client_of, oldest, spare + 1) <= spare
+        count <= self.number_since(client_of, oldest)
     }
 }
 
@@ -202,36 +196,37 @@ fn share_names(pairs: &Counts<Pair>, tuple: Tuple) -> Result<Tuple, AllocError>
     Ok(tuple.with_names(shared))
 }
 
-// Counts the tuple for its client and its names, or for neither.
+// Counts a tuple of these names and this time for its client and its names, or for neither.
 fn count(
-    clients: &mut Counts<ByClient>,
+    clients: &mut ClientTimes,
     pairs: &mut Counts<Pair>,
-    tuple: &Tuple,
+    names: &ByClient,
+    time: i64,
 ) -> Result<(), AllocError>
-    ensures client { OnOk result (AddsOne client_cmp clients.old.counts clients.new.counts (names_of tuple.now)) }
-    ensures pair { OnOk result (AddsOne pair_cmp pairs.old.counts pairs.new.counts (names_of tuple.now)) }
-    ensures client_err { OnErr result (SameCounts client_cmp clients.old.counts clients.new.counts) }
+    ensures client { OnOk result (AddsTime client_cmp clients.old.times clients.new.times names.now time) }
+    ensures pair { OnOk result (AddsOne pair_cmp pairs.old.counts pairs.new.counts names.now) }
+    ensures client_err { OnErr result (SameTimes client_cmp clients.old.times clients.new.times) }
     ensures pair_err { OnErr result (SameCounts pair_cmp pairs.old.counts pairs.new.counts) }
 {
-    let names = tuple.names().pair();
-    let client = ByClient::new(names.share()?);
-    pairs.add(names.share()?)?;
-    match clients.add(client) {
+    let client = ByClient::new(names.pair().share()?);
+    pairs.add(names.pair().share()?)?;
+    match clients.add(client, time) {
         Ok(()) => Ok(()),
         Err(_) => {
-            pairs.remove(names);
+            pairs.remove(names.pair());
             Err(AllocError)
         }
     }
 }
 
-// Counts the tuple no more. What isn't counted any more is freed.
-fn uncount(clients: &mut Counts<ByClient>, pairs: &mut Counts<Pair>, tuple: &Tuple)
-    requires client { 0 < count_by client_cmp clients.old.counts (names_of tuple.now) }
-    requires pair { 0 < count_by pair_cmp pairs.old.counts (names_of tuple.now) }
-    ensures client { TakesOne client_cmp clients.old.counts clients.new.counts (names_of tuple.now) }
-    ensures pair { TakesOne pair_cmp pairs.old.counts pairs.new.counts (names_of tuple.now) }
+// Counts a tuple of these names and this time no more. What isn't counted any more is freed.
+fn uncount(clients: &mut ClientTimes, pairs: &mut Counts<Pair>, names: &ByClient, time: i64)
+    requires client { Contains (times_by client_cmp clients.old.times names.now) time }
+    requires pair { 0 < count_by pair_cmp pairs.old.counts names.now }
+    ensures client { TakesTime client_cmp clients.old.times clients.new.times names.now time }
+    ensures pair { TakesOne pair_cmp pairs.old.counts pairs.new.counts names.now }
 {
-    clients.remove(tuple.names());
-    pairs.remove(tuple.names().pair());
+    let pair = names.pair();
+    clients.remove(names, time);
+    pairs.remove(pair);
 }

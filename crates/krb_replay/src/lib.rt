@@ -15,6 +15,7 @@
 //! ```
 #![tactic(auto)]
 
+mod client_times;
 mod counts;
 mod held;
 pub mod laws;

@@ -20,13 +20,14 @@ const FREED_AT_ONCE: usize = 16;
 /// before the latest moment less the skew.
 ///
 /// Tuples may come in any order of time. The time for a look-up and a new tuple grows with the
-/// logarithm of how many tuples are held. (This is measured, and not proved.)
+/// logarithm of how many tuples are held, and with how many of them are of the same microsecond.
+/// Counting tuples since a moment adds up how many are in each bucket of at most 512 tuples. (This is
+/// measured, and not proved.)
 ///
 /// What `advance` drops is out of the set at once, and is freed later: each call of `expect`,
-/// `remember` and `advance` frees 16 tuples, if there are as many. If all tuples are too old, as after an idle
-/// time, they are put aside, and no other call sees them. If only some are, the rest takes longer to
-/// count until these are freed: `len` and `has_at_least` pass them one by one. A tuple that is older
-/// than what was dropped is remembered only after that is freed.
+/// `remember` and `advance` frees 16 tuples, if there are as many. If all tuples are too old, as after
+/// an idle time, they are put aside, and no other call sees them. A tuple that is older than what was
+/// dropped is remembered only after that is freed.
 ///
 /// Tuples of one service and one client share the two names. The names are freed with the last such
 /// tuple; those of a client's first tuple are freed with the client's last.
@@ -178,8 +179,7 @@ impl ReplayMemory for TimedMemory {
     }
 
     fn len(&self) -> usize {
-        let held = self.held.len();
-        held - self.held.number_before(None, self.oldest, held)
+        self.held.number_since(None, self.oldest)
     }
 
     fn latest(&self) -> Option<Moment> {

@@ -17,6 +17,7 @@ use crate::pair::{ByClient, Pair};
 use crate::skew::Skew;
 use crate::stamp_bytes::write_time;
 use krb_name::Principal;
+use krb_tally::Timed;
 use krb_time::{Microseconds, Moment, Seconds};
 use std::alloc::{AllocError, Global};
 use std::cmp::Ordering;
@@ -79,6 +80,13 @@ impl Tuple {
         ensures { result.now ≡ names_of self.now }
     {
         &self.names
+    }
+
+    /// Returns one more holder of the names. Allocates no memory.
+    pub(crate) fn share_names(&self) -> Result<ByClient, AllocError>
+        ensures { IfOk result (λ names. names ≡ names_of self.now) }
+    {
+        Ok(ByClient::new(self.names.pair().share()?))
     }
 
     /// Returns whether the tuple has the same client as another one, if there is another.
@@ -145,6 +153,15 @@ fn moment_of(micros: i64) -> Option<Moment>
         micros.div_euclid(1_000_000),
         micros.rem_euclid(1_000_000) as u32,
     )
+}
+
+impl Timed for Tuple {
+    ghost timestamp = { λ stamp. stamp.time };
+
+    fn timestamp(&self) -> i64 {
+        let time = self.time();
+        time.micros()
+    }
 }
 
 impl Ord for Tuple {

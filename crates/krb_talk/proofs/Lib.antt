@@ -5,3 +5,4 @@ pub mod LawsOfLists
 pub mod Ending
 pub mod FewMessages
 pub mod Turning
+pub mod AfterList

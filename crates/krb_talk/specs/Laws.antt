@@ -2,9 +2,9 @@
 use Rattle.std.specs.Prelude.{◌≡◌, ℕ, List, Option, Some}
 use Rattle.krb_ap.specs.declared.accepted.Accepted.{Accepted}
 use Rattle.krb_ap.specs.declared.reply.ReplyOptions.{ReplyOptions}
-use Rattle.krb_context.specs.Context.{sender_in}
+use Rattle.krb_context.specs.Context.{HasSentFirst, State, sender_in}
 use Rattle.krb_context.specs.Mic.{IsMic}
-use Rattle.krb_context.specs.declared.role.Role.TheVariants.{Initiator}
+use Rattle.krb_context.specs.declared.role.Role.TheVariants.{Acceptor, Initiator}
 use Rattle.krb_enc.specs.Key.{KeyValue}
 use Rattle.krb_gss.specs.ListMic.{HoldsMic}
 use Rattle.krb_gss.specs.declared.negotiating.Negotiation.{Negotiation}
@@ -38,6 +38,13 @@ pub record IsLetInOver (first last : List ℕ) (Serves : Negotiation → Negotia
   pub mic : List ℕ
   pub sent : HoldsMic (Some mic) last
   pub shown : IsClientsMic login.accepted choice listing.list mic
+
+-- The service's side of the context that an accepted request and its reply agree on: each side has sent its first message, the MIC of the
+-- client's list, and taken that of the other side.
+pub record HasSentMics (accepted : Accepted) (choice : ReplyOptions) (context : State) : Type 0 where
+  pub subkey : Option KeyValue
+  pub subkey_is : IsSubkey accepted.subkey subkey
+  pub sent : HasSentFirst (agreed_by accepted choice subkey) Acceptor context
 
 -- the client is asked for its next message
 abbrev pub IsGoOn : Decision → Type 0

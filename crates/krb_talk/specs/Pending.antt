@@ -20,7 +20,7 @@ RepliesTo pending mechanism confounder choice = RepliesIf pending.accepted.mutua
 pub record IsLetInNow (pending : Pending) (mechanism : Mechanism) (mic confounder : List ℕ) (choice : ReplyOptions) (login : Admitted) : Type 0 where
   pub taken : State
   pub shows : Shows pending.list mic pending.context taken
-  pub answer : IsSomeAnd login.answer (λ sent. MarksIn pending.list true (RepliesTo pending mechanism confounder choice) taken login.context sent.items)
+  pub answer : IsSomeAnd login.answer (λ sent. MarksIn pending.list true (RepliesTo pending mechanism confounder choice) taken login.context.value sent.items)
   pub accepted_is : login.accepted ≡ pending.accepted
 
 -- It awaits a reply, which it may need for its MIC. It is asked for it, with the service's own: accept-incomplete.
@@ -48,7 +48,7 @@ IsUnasked pending _ = ⊥
 pub record IsFinished (pending : Pending) (bytes : List ℕ) (login : Admitted) : Type 0 where
   pub mic : List ℕ
   pub holds : HoldsMic (Some mic) bytes
-  pub shows : Shows pending.list mic pending.context login.context
+  pub shows : Shows pending.list mic pending.context login.context.value
   pub accepted_is : login.accepted ≡ pending.accepted
   pub answer_is : login.answer ≡ None
 

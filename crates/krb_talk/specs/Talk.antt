@@ -10,7 +10,6 @@ use Rattle.krb_context.specs.declared.agreed.Options.{Options}
 use Rattle.krb_gss.specs.Answer.{WritesVerdict}
 use Rattle.krb_gss.specs.Listing.{IsListing}
 use Rattle.krb_gss.specs.ListMic.{WritesRequestMic}
-use Rattle.krb_gss.specs.declared.mechanism.Mechanism.{Mechanism}
 use Rattle.krb_gss.specs.declared.negotiating.Negotiation.{Negotiation}
 use Rattle.krb_gss.specs.declared.negotiating.Negotiation.TheVariants.{Begun, Asked, Ended}
 use Rattle.krb_gss.specs.declared.verdict.Verdict.TheVariants.{Rejected}

@@ -14,7 +14,7 @@ pub struct Admitted {
     /// What is known of the client.
     pub accepted: Accepted,
     /// The service's side of the context, for messages after the login. It has sent and taken the MIC of the list.
-    pub context: Context,
+    pub context: Box<Context>,
     /// The bytes to send back, if any.
     pub answer: Option<Vec<u8>>,
 }

@@ -2,7 +2,7 @@
 //! [`Talk::answer`](crate::Talk::answer) says by its clause `decided`, or [`Talk::take`](crate::Talk::take) by `takes` and
 //! [`Talk::conclude`](crate::Talk::conclude) by `concludes`.
 
-ghost use Rattle.std.specs.Prelude.{◌≡◌, ◌<◌, ℕ, List, Vec};
+ghost use Rattle.std.specs.Prelude.{◌≡◌, ◌<◌, ℕ, IsTrue, List, Vec};
 ghost use Rattle.std.specs.declared.alloc.Global.{Global as GlobalValue};
 ghost use Rattle.krb_ap.specs.declared.reply.ReplyOptions.{ReplyOptions};
 ghost use Rattle.krb_context.specs.declared.agreed.Options.{Options};
@@ -10,7 +10,9 @@ ghost use Rattle.krb_gss.specs.declared.negotiating.Negotiation.TheVariants.{Beg
 ghost use Rattle.krb_gss.specs.declared.negotiating.Negotiation.{Negotiation as NegotiationValue};
 ghost use Rattle.krb_login.specs.declared.decision.Decision.{Decision as LoginDecisionValue};
 ghost use Rattle.krb_login.specs.declared.decision.LetIn.{LetIn as LetInValue};
-ghost use Rattle.krb_talk.specs.Laws.{IsGoOn, IsIn, IsLetInOver};
+ghost use Rattle.krb_talk.specs.Checking.{Check, IsAwaited, IsShown};
+ghost use Rattle.krb_talk.specs.Laws.{HasSentMics, IsGoOn, IsIn, IsLetInOver};
+ghost use Rattle.krb_talk.specs.Pending.{IsFinished};
 ghost use Rattle.krb_talk.specs.States.{Listing, Pending as PendingValue};
 ghost use Rattle.krb_talk.specs.Talk.{DecidesAt, Point, TalksAt, messages_left};
 ghost use Rattle.krb_talk.specs.Turns.{ConcludesAt, Takes};
@@ -39,6 +41,15 @@ pub fn let_in_only_over_its_list()
         → TalksAt second options (Stage.Listed listing) again (Stage.Waiting pending)
         → TalksAt third options (Stage.Waiting pending) (Decision.Shown login) new
         → IsLetInOver first.given.bytes.now third.given.bytes.now (DecidesAt second) second.given.choice login }
+{}
+
+/// If the context takes messages in order, a client that is let in over its list has sent its first message by that, and the service its
+/// own. Both are MICs of the list, and what follows goes on after them.
+pub fn both_have_sent_their_mics()
+    ensures at_once { (check : Check) (login : AdmittedValue) → IsTrue check.options.is_in_order → IsShown check login
+        → HasSentMics login.accepted check.choice login.context.value }
+    ensures at_last { (check : Check) (pending : PendingValue) (sent bytes : List ℕ) (login : AdmittedValue) → IsTrue check.options.is_in_order
+        → IsAwaited check pending sent → IsFinished pending bytes login → HasSentMics login.accepted check.choice login.context.value }
 {}
 
 /// After such a list no client is let in by the service's decision alone.

@@ -12,7 +12,7 @@ ghost use Rattle.krb_talk.specs.ListMic.{HoldsBoth};
 use crate::agreeing::context_of;
 use crate::checking::{Admitted, Checking, ListFault};
 use crate::mic::Replying;
-use crate::pending::Pending;
+use crate::pending::{Begun, Pending};
 use krb_ap::ReplyOptions;
 use krb_context::Options;
 use krb_gss::{
@@ -132,7 +132,7 @@ impl Listed {
         let Some(context) = context_of(&accepted, choice, options) else {
             return Err(ListFault::OtherKey);
         };
-        let pending = Pending::new(accepted, self.list, context);
+        let pending = Begun::new(accepted, self.list, context);
         let replying = Replying {
             mechanism,
             confounder,

@@ -12,16 +12,15 @@ use krb_gss::later_mic;
 use std::alloc::Global;
 use std::marker::Model;
 
-/// What is known of a client whose request is accepted, and which is asked for its mechListMIC. None of it can be read before
-/// that is checked. There is no `Debug`, so no log shows a key.
+/// What is known of a client whose request is accepted, before its list is checked. There is no `Debug`, so no log shows a key.
 #[derive(Drop)]
-pub struct Pending {
+pub(crate) struct Begun {
     accepted: Accepted,
     list: Vec<u8>,
     context: Context,
 }
 
-impl Model for Pending {
+impl Model for Begun {
     ghost use Rattle.krb_talk.specs.States.{Pending as PendingValue};
 
     ghost Value = { PendingValue };
@@ -33,13 +32,13 @@ impl Model for Pending {
     } };
 }
 
-impl Pending {
-    pub(crate) fn new(accepted: Accepted, list: Vec<u8>, context: Context) -> Pending
+impl Begun {
+    pub(crate) fn new(accepted: Accepted, list: Vec<u8>, context: Context) -> Begun
         ensures accepted { result.accepted ≡ accepted }
         ensures list { result.list ≡ list.items }
         ensures context { result.context ≡ context }
     {
-        Pending {
+        Begun {
             accepted,
             list,
             context,
@@ -57,7 +56,7 @@ impl Pending {
         ensures ok { IfOk result (IsLetInNow self replying.entry.mechanism mic.now replying.entry.confounder.now replying.entry.choice.now) }
         ensures fault { IfErr result (Refuses self mic.now) }
     {
-        let Pending {
+        let Begun {
             accepted,
             list,
             mut context,
@@ -77,6 +76,9 @@ impl Pending {
             Ok(sent) => sent,
             Err(_) => return Err(ListFault::OutOfMemory),
         };
+        let Ok(context) = Box::new(alloc, context) else {
+            return Err(ListFault::OutOfMemory);
+        };
         Ok(Admitted {
             accepted,
             context,
@@ -94,7 +96,7 @@ impl Pending {
         ensures ok { IfOk result (λ it. IsAskedFor self replying.entry.mechanism replying.entry.confounder.now replying.entry.choice.now it.0 it.1.items) }
         ensures fault { IfErr result (IsUnasked self) }
     {
-        let Pending {
+        let Begun {
             accepted,
             list,
             mut context,
@@ -113,9 +115,40 @@ impl Pending {
             Ok(sent) => sent,
             Err(_) => return Err(ListFault::OutOfMemory),
         };
-        Ok((Pending::new(accepted, list, context), sent))
+        let Ok(context) = Box::new(alloc, context) else {
+            return Err(ListFault::OutOfMemory);
+        };
+        let pending = Pending {
+            accepted,
+            list,
+            context,
+        };
+        Ok((pending, sent))
     }
+}
 
+/// What is known of a client whose request is accepted, and which is asked for its mechListMIC. None of it can be read before
+/// that is checked. There is no `Debug`, so no log shows a key.
+#[derive(Drop)]
+pub struct Pending {
+    accepted: Accepted,
+    list: Vec<u8>,
+    context: Box<Context>,
+}
+
+impl Model for Pending {
+    ghost use Rattle.krb_talk.specs.States.{Pending as PendingValue};
+
+    ghost Value = { PendingValue };
+
+    ghost view = { λ p. record {
+      accepted = p.accepted;
+      list = p.list.items;
+      context = p.context.value;
+    } };
+}
+
+impl Pending {
     /// Lets the client in if its last message has its MIC of the list of mechanisms (RFC 4178, section 5). Otherwise what is known
     /// of the client is freed.
     ///

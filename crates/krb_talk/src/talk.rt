@@ -61,6 +61,14 @@ impl Talk {
         }
     }
 
+    /// Ends the login: it takes no other message, and what is known of its client is freed.
+    pub fn end(&mut self)
+        ensures options { self.new.options ≡ self.old.options }
+        ensures ended { self.new.stage ≡ Stage.Login Negotiation.Ended }
+    {
+        self.stage = Stage::Login(Negotiation::Ended);
+    }
+
     /// Takes the client's next message: opens it, decides, and makes what goes back.
     ///
     /// A message that is no list, and doesn't follow one, is for [`Service::answer`](krb_login::Service::answer). `given` is the same

@@ -1,139 +1,210 @@
-//! Some of the times.
+//! Some of the items.
 
-ghost use Rattle.std.specs.Prelude.{◌≡◌, ◌≢◌, ◌↔◌, ◌≤◌, ◌<◌, ◌≤ℤ◌, ◌<ℤ◌, ◌∷◌, [], All, Contains, IfOk, IsTrue, MatchOption, OnErr, OnOk, drop, false, length, take};
+ghost use Rattle.std.specs.Prelude.{◌≡◌, ◌≢◌, ◌↔◌, ◌≤◌, ◌<◌, ◌≤ℤ◌, ◌<ℤ◌, ◌∷◌, ℤ, [], All, Contains, IfOk, IsTrue, MatchOption, OnErr, OnOk, drop, false, length, slice_index_or, take};
 ghost use Rattle.std.specs.List.{remove};
-ghost use Rattle.krb_tally.specs.Times.{number_since};
+ghost use Rattle.krb_tally.specs.Times.{HasEqual, LacksEqual, number_since};
 ghost use Rattle.krb_tally.specs.Inner.Buckets.{AddsIn, IsAt, IsRising};
 
+use crate::timed::Timed;
 use std::alloc::{AllocError, Global};
 use std::marker::Model;
 
-// How many times a bucket holds at most.
+// How many items a bucket holds at most.
 const MOST: usize = 512;
 
-/// From 1 to 512 times, in order.
+/// From 1 to 512 items, in the order of their times.
 #[derive(Debug, Drop)]
-pub(crate) struct Bucket {
-    times: Vec<i64>,
+pub(crate) struct Bucket<T: Timed> {
+    items: Vec<T>,
 }
 
-impl Model for Bucket {
-    ghost use Rattle.std.specs.Prelude.{◌<◌, ℤ, List, length};
+impl<T: Timed> Model for Bucket<T> {
+    ghost use Rattle.std.specs.Prelude.{◌<◌, List, length};
     ghost use Rattle.krb_tally.specs.Inner.Buckets.{IsRising};
 
-    ghost Value = { List ℤ };
+    ghost Value = { List T };
 
-    ghost view = { λ bucket. bucket.times.items };
+    ghost view = { λ bucket. bucket.items.items };
 
-    ghost invariant = { λ bucket. (0 < length bucket.times.items) × IsRising bucket.times.items };
+    ghost invariant = { λ bucket. (0 < length bucket.items.items) × IsRising T.timestamp bucket.items.items };
 }
 
-impl Bucket {
-    /// Makes a bucket of one time. Allocates 8 bytes.
-    pub(crate) fn new(alloc: Global, time: i64) -> Result<Bucket, AllocError>
-        ensures { IfOk result (λ bucket. bucket ≡ time ∷ []) }
+impl<T: Timed + Drop> Bucket<T> {
+    /// Makes a bucket of one item. Allocates room for one.
+    pub(crate) fn new(alloc: Global, item: T) -> Result<Bucket<T>, AllocError>
+        ensures { IfOk result (λ bucket. bucket ≡ item ∷ []) }
     {
-        let mut times = Vec::with_capacity(alloc, 1)?;
-        times.push(time)?;
-        Ok(Bucket { times })
+        let mut items = Vec::with_capacity(alloc, 1)?;
+        items.push(item)?;
+        Ok(Bucket { items })
     }
 
     pub(crate) fn len(&self) -> usize
-        ensures { result ≡ length self.now }
+        ensures len { result ≡ length self.now }
+        ensures some { 0 < result }
     {
-        self.times.len()
+        self.items.len()
     }
 
     pub(crate) fn is_full(&self) -> bool
         ensures { IsTrue result → 512 ≤ length self.now }
     {
-        self.times.len() >= MOST
+        self.items.len() >= MOST
     }
 
-    /// Returns the least time.
-    pub(crate) fn first(&self) -> i64
-        ensures there { Contains self.now result }
-        ensures least { All (λ time. result ≤ℤ time) self.now }
+    /// Returns the first item.
+    pub(crate) fn first(&self) -> &T
+        ensures there { Contains self.now result.now }
+        ensures least { All (λ item. T.timestamp result.now ≤ℤ T.timestamp item) self.now }
+        ensures place { result.now ≡ slice_index_or self.now 0 result.now }
     {
-        self.times[0]
+        &self.items[0]
     }
 
-    /// Returns the greatest time.
-    pub(crate) fn last(&self) -> i64
-        ensures there { Contains self.now result }
-        ensures greatest { All (λ time. time ≤ℤ result) self.now }
+    /// Returns the last item.
+    pub(crate) fn last(&self) -> &T
+        ensures there { Contains self.now result.now }
+        ensures greatest { All (λ item. T.timestamp item ≤ℤ T.timestamp result.now) self.now }
     {
-        self.times[self.times.len() - 1]
+        &self.items[self.items.len() - 1]
     }
 
-    /// Adds a time.
-    pub(crate) fn add(&mut self, time: i64) -> Result<(), AllocError>
-        ensures ok { OnOk result (AddsIn self.old time self.new) }
+    /// Adds an item. Makes room for an eighth more if there is none, and not for twice as many, so that
+    /// little room is unused.
+    pub(crate) fn add(&mut self, item: T) -> Result<(), AllocError>
+        ensures ok { OnOk result (AddsIn T.timestamp self.old item self.new) }
         ensures err { OnErr result (self.new ≡ self.old) }
     {
-        let at = number_before(self.times.as_slice(), time);
-        self.times.insert(at, time)?;
+        self.make_room()?;
+        self.insert(item)
+    }
+
+    fn make_room(&mut self) -> Result<(), AllocError>
+        ensures { self.new ≡ self.old }
+    {
+        let len = self.items.len();
+        if len == self.items.capacity() {
+            self.items.reserve_exact(len / 8 + 1)?;
+        }
         Ok(())
     }
 
-    /// Returns a place at which the time stands, if there is one.
-    pub(crate) fn find(&self, time: i64) -> Option<usize>
-        ensures { MatchOption result (Contains self.now time → ⊥) (λ at. IsAt self.now at time) }
+    fn insert(&mut self, item: T) -> Result<(), AllocError>
+        ensures ok { OnOk result (AddsIn T.timestamp self.old item self.new) }
+        ensures err { OnErr result (self.new ≡ self.old) }
     {
-        let at = number_before(self.times.as_slice(), time);
-        if at < self.times.len() && self.times[at] == time {
+        let at = number_before(self.items.as_slice(), item.timestamp());
+        self.items.insert(at, item)?;
+        Ok(())
+    }
+
+    /// Returns a place at which an item of this time stands, if there is one.
+    pub(crate) fn find(&self, time: i64) -> Option<usize>
+        ensures { MatchOption result (All (λ item. T.timestamp item ≢ time) self.now) (λ at. IsAt T.timestamp self.now at time) }
+    {
+        let at = number_before(self.items.as_slice(), time);
+        if at < self.items.len() && self.items[at].timestamp() == time {
             Some(at)
         } else {
             None
         }
     }
 
-    /// Removes the time at the place `at`. There are others.
-    pub(crate) fn take(&mut self, at: usize)
+    /// Removes the item at the place `at`. There are others.
+    pub(crate) fn take(&mut self, at: usize) -> T
         requires within { at < length self.old }
         requires others { 1 < length self.old }
-        ensures { self.new ≡ remove self.old at }
+        ensures item { result ≡ slice_index_or self.old at result }
+        ensures others { self.new ≡ remove self.old at }
     {
-        let _ = self.times.remove(at);
+        self.items.remove(at)
     }
 
-    /// Returns how many times aren't before `oldest`.
+    /// Returns the item at the place `at`. There are no others.
+    pub(crate) fn into_item(self, at: usize) -> T
+        requires { at < length self }
+        ensures { result ≡ slice_index_or self at result }
+    {
+        let mut items = self.items;
+        items.remove(at)
+    }
+
+    /// Returns how many items aren't before `oldest`.
     pub(crate) fn since(&self, oldest: i64) -> usize
-        ensures { result ≡ number_since oldest self.now }
+        ensures { result ≡ number_since T.timestamp oldest self.now }
     {
-        self.times.len() - number_before(self.times.as_slice(), oldest)
+        self.items.len() - number_before(self.items.as_slice(), oldest)
     }
 
-    /// Copies the times from the middle on into a bucket.
-    pub(crate) fn upper_half(&self, alloc: Global) -> Result<Bucket, AllocError>
-        requires { 512 ≤ length self.now }
-        ensures { IfOk result (λ bucket. bucket ≡ drop 256 self.now) }
-    {
-        let times = Vec::from_slice(alloc, &self.times.as_slice()[MOST / 2..])?;
-        Ok(Bucket { times })
-    }
-
-    /// Keeps the first half alone.
-    pub(crate) fn keep_lower(&mut self)
+    /// Moves the items from the middle on into a bucket, and frees their room here.
+    pub(crate) fn split(&mut self) -> Result<Bucket<T>, AllocError>
         requires { 512 ≤ length self.old }
-        ensures { self.new ≡ take 256 self.old }
+        ensures lower { OnOk result (self.new ≡ take 256 self.old) }
+        ensures upper { IfOk result (λ bucket. bucket ≡ drop 256 self.old) }
+        ensures err { OnErr result (self.new ≡ self.old) }
     {
-        self.times.truncate(MOST / 2);
+        let upper = self.halve()?;
+        self.free_room();
+        Ok(upper)
+    }
+
+    fn halve(&mut self) -> Result<Bucket<T>, AllocError>
+        requires { 512 ≤ length self.old }
+        ensures lower { OnOk result (self.new ≡ take 256 self.old) }
+        ensures upper { IfOk result (λ bucket. bucket ≡ drop 256 self.old) }
+        ensures err { OnErr result (self.new ≡ self.old) }
+    {
+        let items = self.items.split_off(MOST / 2)?;
+        Ok(Bucket { items })
+    }
+
+    fn free_room(&mut self)
+        ensures { self.new ≡ self.old }
+    {
+        self.items.shrink_to_fit();
     }
 }
 
-// How many of the times, which are in order, are before `time`.
-fn number_before(times: &[i64], time: i64) -> usize
-    requires { IsRising times.now }
-    ensures within { result ≤ length times.now }
-    ensures before { All (λ other. other <ℤ time) (take result times.now) }
-    ensures from { All (λ other. time ≤ℤ other) (drop result times.now) }
+impl<T: Timed + PartialEq> Bucket<T> {
+    /// Returns whether there is an equal item of the same time.
+    pub(crate) fn has(&self, item: &T) -> bool
+        ensures found { IsTrue result → HasEqual T.eq self.now item.now }
+        ensures lacks { result ≡ false → LacksEqual T.timestamp T.eq self.now item.now }
+    {
+        let at = number_before(self.items.as_slice(), item.timestamp());
+        has_among(&self.items.as_slice()[at..], item)
+    }
+}
+
+// Whether some of the items, which are in order, has the same time and is equal.
+fn has_among<T: Timed + PartialEq>(items: &[T], item: &T) -> bool
+    requires { IsRising T.timestamp items.now }
+    ensures found { IsTrue result → HasEqual T.eq items.now item.now }
+    ensures lacks { result ≡ false → LacksEqual T.timestamp T.eq items.now item.now }
+{
+    for one in items {
+        if one.timestamp() > item.timestamp() {
+            return false;
+        }
+        if one == item {
+            return true;
+        }
+    }
+    false
+}
+
+// How many of the items, which are in order, are before `time`.
+fn number_before<T: Timed>(items: &[T], time: i64) -> usize
+    requires { IsRising T.timestamp items.now }
+    ensures within { result ≤ length items.now }
+    ensures before { All (λ item. T.timestamp item <ℤ time) (take result items.now) }
+    ensures from { All (λ item. time ≤ℤ T.timestamp item) (drop result items.now) }
 {
     let mut low = 0;
-    let mut high = times.len();
+    let mut high = items.len();
     while low < high {
         let middle = low + (high - low) / 2;
-        if times[middle] < time {
+        if items[middle].timestamp() < time {
             low = middle + 1;
         } else {
             high = middle;

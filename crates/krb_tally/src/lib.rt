@@ -1,9 +1,10 @@
-//! Counting times: how many of an owner's times aren't before a moment.
+//! Items by their times: to find one, to count those since a moment, and to take the first, without
+//! looking at each.
 //!
-//! Times are added to a [`Tally`] in any order. It holds each as often as it was added.
+//! Items are added to a [`Tally`] in any order. It holds each as often as it was added.
 //!
 //! ```rust
-//! let mut tally = Tally::new(alloc);
+//! let mut tally: Tally<i64> = Tally::new(alloc);
 //! tally.add(10)?;
 //! tally.add(30)?;
 //! tally.add(30)?;
@@ -17,5 +18,7 @@ mod bucket;
 mod tally;
 #[cfg(test)]
 mod tests;
+mod timed;
 
 pub use tally::Tally;
+pub use timed::Timed;

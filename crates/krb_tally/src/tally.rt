@@ -1,47 +1,47 @@
-//! The times of one owner.
+//! Items in the order of their times.
 
-ghost use Rattle.std.specs.Prelude.{◌≡◌, ◌↔◌, ◌∷◌, ◌+◌, ◌≤◌, ◌<◌, ◌≤ℤ◌, ◌<ℤ◌, ◌^◌, ℤ, suc, [], All, Contains, IfOk, IsTrue, MatchOption, OnErr, OnOk, drop, false, length, slice_index_or, take, true};
+ghost use Rattle.std.specs.Prelude.{◌≡◌, ◌≢◌, ◌↔◌, ◌∷◌, ◌+◌, ◌≤◌, ◌<◌, ◌≤ℤ◌, ◌<ℤ◌, ◌^◌, ℤ, suc, [], All, Contains, IfOk, IsTrue, MatchOption, OnErr, OnOk, Some, drop, false, length, slice_get, slice_index_or, take, true};
 ghost use Rattle.std.specs.List.Sorted.{IsPermutation};
-ghost use Rattle.krb_tally.specs.Times.{number_since};
-ghost use Rattle.krb_tally.specs.Inner.Buckets.{Fits, IsIn, IsRising, Reaches, all_of};
+ghost use Rattle.krb_tally.specs.Times.{HasEqual, LacksEqual, number_since};
+ghost use Rattle.krb_tally.specs.Inner.Buckets.{Fits, IsIn, IsPlace, IsRising, Reaches, TakesOut, all_of};
 
 use crate::bucket::Bucket;
+use crate::timed::Timed;
 use std::alloc::{AllocError, Global};
 use std::marker::Model;
 
-/// The times of one owner, each as often as it was added. A contract sees them as a list, in some
-/// order.
+/// Items, each as often as it was added. A contract sees them as a list, in the order of their
+/// times.
 ///
-/// Times and moments have one unit, of any length. The times are in order, in buckets of at most
-/// 512. A call finds its bucket by binary search, and its place in the bucket, too. `since` then adds
-/// up the lengths of the later buckets. Ten million times are in about 20,000 buckets if each was
-/// later than the one before, and in at most about 60,000 otherwise.
+/// The items are in buckets of at most 512. A call finds its bucket by binary search, and its place
+/// in the bucket, too. `since` then adds up the lengths of the later buckets, and `has` goes through
+/// the items of the same time. Ten million items are in about 20,000 buckets if each was later than
+/// the one before, and in at most about 60,000 otherwise, if none is removed from the middle.
 ///
-/// Each of many times takes 8 to 16 bytes, and about 8 if each was later than the one before. A
-/// bucket's memory is freed with its last time. (How long a call takes, and how much memory, isn't
-/// proved.)
+/// Each of many items takes its size and at most an eighth more. A bucket's memory is freed with its
+/// last item. (How long a call takes, and how much memory, isn't proved.)
 #[derive(Debug, Drop)]
-pub struct Tally {
+pub struct Tally<T: Timed> {
     // They follow each other in time.
-    buckets: Vec<Bucket>,
+    buckets: Vec<Bucket<T>>,
     len: usize,
 }
 
-impl Model for Tally {
-    ghost use Rattle.std.specs.Prelude.{◌≡◌, ◌<◌, ◌^◌, ℤ, List, length};
+impl<T: Timed> Model for Tally<T> {
+    ghost use Rattle.std.specs.Prelude.{◌≡◌, ◌<◌, ◌^◌, List, length};
     ghost use Rattle.krb_tally.specs.Inner.Buckets.{IsRising, all_of};
 
-    ghost Value = { List ℤ };
+    ghost Value = { List T };
 
     ghost view = { λ tally. all_of tally.buckets.items };
 
     ghost invariant = { λ tally. (tally.len ≡ length (all_of tally.buckets.items))
-        × ((length (all_of tally.buckets.items) < 2 ^ 64) × IsRising (all_of tally.buckets.items)) };
+        × ((length (all_of tally.buckets.items) < 2 ^ 63) × IsRising T.timestamp (all_of tally.buckets.items)) };
 }
 
-impl Tally {
-    /// Makes a tally without times. Allocates nothing yet.
-    pub fn new(alloc: Global) -> Tally
+impl<T: Timed + Drop> Tally<T> {
+    /// Makes a tally without items. Allocates nothing yet.
+    pub fn new(alloc: Global) -> Tally<T>
         ensures { result ≡ [] }
     {
         Tally {
@@ -50,70 +50,110 @@ impl Tally {
         }
     }
 
-    /// Returns how many times there are.
+    /// Returns how many items there are.
     pub fn len(&self) -> usize
-        ensures { result ≡ length self.now }
+        ensures len { result ≡ length self.now }
+        ensures small { result < 2 ^ 63 }
     {
         let Tally { len, .. } = self;
         *len
     }
 
-    /// Returns the least time, if there is any.
-    pub fn first(&self) -> Option<i64>
-        ensures there { MatchOption result (self.now ≡ []) (Contains self.now) }
-        ensures least { MatchOption result (self.now ≡ []) (λ first. All (λ time. first ≤ℤ time) self.now) }
+    /// Returns the first item, if there is any. No other is before it.
+    pub fn first(&self) -> Option<&T>
+        ensures first { MatchOption result (self.now ≡ []) (λ first. slice_get self.now 0 ≡ Some first.now) }
+        ensures least { MatchOption result (self.now ≡ []) (λ first. All (λ item. T.timestamp first.now ≤ℤ T.timestamp item) self.now) }
     {
         first_of(self.buckets.as_slice())
     }
 
-    /// Returns whether there is such a time.
-    pub fn contains(&self, time: i64) -> bool
-        ensures { IsTrue result ↔ Contains self.now time }
+    /// Returns the last item, if there is any. No other is after it.
+    pub fn last(&self) -> Option<&T>
+        ensures there { MatchOption result (self.now ≡ []) (λ last. Contains self.now last.now) }
+        ensures greatest { MatchOption result (self.now ≡ []) (λ last. All (λ item. T.timestamp item ≤ℤ T.timestamp last.now) self.now) }
     {
-        find(self.buckets.as_slice(), time).is_some()
+        last_of(self.buckets.as_slice())
     }
 
-    /// Adds a time.
+    /// Adds an item.
     ///
     /// # Errors
-    /// `AllocError`: there is no memory. The times are as before.
-    pub fn add(&mut self, time: i64) -> Result<(), AllocError>
-        ensures ok { OnOk result (IsPermutation (time ∷ self.old) self.new) }
+    /// `AllocError`: there is no memory. The items are as before.
+    pub fn add(&mut self, item: T) -> Result<(), AllocError>
+        ensures ok { OnOk result (IsPermutation (item ∷ self.old) self.new) }
         ensures err { OnErr result (self.new ≡ self.old) }
     {
-        let Some(len) = self.len.checked_add(1) else {
+        if self.len >= isize::MAX as usize {
             return Err(AllocError);
-        };
-        add_in(&mut self.buckets, time)?;
-        self.len = len;
+        }
+        add_in(&mut self.buckets, item)?;
+        self.len += 1;
         Ok(())
     }
 
-    /// Removes a time once. Does nothing if there is no such time.
-    pub fn remove(&mut self, time: i64)
-        ensures there { Contains self.old time → IsPermutation self.old (time ∷ self.new) }
-        ensures none { (Contains self.old time → ⊥) → self.new ≡ self.old }
+    /// Removes an item of this time, if there is any, and returns it.
+    pub fn remove(&mut self, time: i64) -> Option<T>
+        ensures item { MatchOption result (All (λ item. T.timestamp item ≢ time) self.old) (λ item. T.timestamp item ≡ time) }
+        ensures others { MatchOption result (self.new ≡ self.old) (λ item. IsPermutation self.old (item ∷ self.new)) }
     {
-        let Some(place) = find(self.buckets.as_slice(), time) else {
-            return;
-        };
-        remove_at(&mut self.buckets, place, time);
+        let place = find(self.buckets.as_slice(), time)?;
+        let item = remove_at(&mut self.buckets, place);
         self.len -= 1;
+        Some(item)
     }
 
-    /// Returns how many times aren't before `oldest`.
+    /// Removes the first item, if there is any, and returns it.
+    pub fn pop_first(&mut self) -> Option<T>
+        ensures { MatchOption result ((self.old ≡ []) × (self.new ≡ [])) (λ item. self.old ≡ item ∷ self.new) }
+    {
+        let place = place_of_first(self.buckets.as_slice())?;
+        let item = remove_at(&mut self.buckets, place);
+        self.len -= 1;
+        Some(item)
+    }
+
+    /// Returns how many items aren't before `oldest`.
     pub fn since(&self, oldest: i64) -> usize
-        ensures { result ≡ number_since oldest self.now }
+        ensures { result ≡ number_since T.timestamp oldest self.now }
     {
         number_in(self.buckets.as_slice(), oldest)
     }
 }
 
-// The first of the times, which are in order.
-fn first_of(buckets: &[Bucket]) -> Option<i64>
-    requires { IsRising (all_of buckets.now) }
-    ensures there { MatchOption result (all_of buckets.now ≡ []) (Contains (all_of buckets.now)) }
-    ensures least { MatchOption result (all_of buckets.now ≡ []) (λ first. All (λ time. first ≤ℤ time) (all_of buckets.now)) }
+impl<T: Timed + PartialEq + Drop> Tally<T> {
+    /// Returns whether there is an equal item of the same time.
+    pub fn has(&self, item: &T) -> bool
+        ensures found { IsTrue result → HasEqual T.eq self.now item.now }
+        ensures lacks { result ≡ false → LacksEqual T.timestamp T.eq self.now item.now }
+    {
+        let buckets = self.buckets.as_slice();
+        let bucket = bucket_for(buckets, item.timestamp());
+        has_in(&buckets[bucket..], item)
+    }
+}
+
+// Whether the buckets have an equal item of the same time.
+fn has_in<T: Timed + PartialEq + Drop>(buckets: &[Bucket<T>], item: &T) -> bool
+    requires { IsRising T.timestamp (all_of buckets.now) }
+    ensures found { IsTrue result → HasEqual T.eq (all_of buckets.now) item.now }
+    ensures lacks { result ≡ false → LacksEqual T.timestamp T.eq (all_of buckets.now) item.now }
+{
+    for bucket in buckets {
+        if bucket.first().timestamp() > item.timestamp() {
+            return false;
+        }
+        if bucket.has(item) {
+            return true;
+        }
+    }
+    false
+}
+
+// The first of the items, which are in order.
+fn first_of<T: Timed + Drop>(buckets: &[Bucket<T>]) -> Option<&T>
+    requires { IsRising T.timestamp (all_of buckets.now) }
+    ensures first { MatchOption result (all_of buckets.now ≡ []) (λ first. slice_get (all_of buckets.now) 0 ≡ Some first.now) }
+    ensures least { MatchOption result (all_of buckets.now ≡ []) (λ first. All (λ item. T.timestamp first.now ≤ℤ T.timestamp item) (all_of buckets.now)) }
 {
     match buckets.first() {
         Some(bucket) => Some(bucket.first()),
@@ -121,19 +161,31 @@ fn first_of(buckets: &[Bucket]) -> Option<i64>
     }
 }
 
+// The last of the items, which are in order.
+fn last_of<T: Timed + Drop>(buckets: &[Bucket<T>]) -> Option<&T>
+    requires { IsRising T.timestamp (all_of buckets.now) }
+    ensures there { MatchOption result (all_of buckets.now ≡ []) (λ last. Contains (all_of buckets.now) last.now) }
+    ensures greatest { MatchOption result (all_of buckets.now ≡ []) (λ last. All (λ item. T.timestamp item ≤ℤ T.timestamp last.now) (all_of buckets.now)) }
+{
+    if buckets.is_empty() {
+        return None;
+    }
+    Some(buckets[buckets.len() - 1].last())
+}
+
 // The first bucket whose last time isn't before a moment. It is as many as there are if there is
 // none.
-fn bucket_for(buckets: &[Bucket], moment: i64) -> usize
-    requires { IsRising (all_of buckets.now) }
+fn bucket_for<T: Timed + Drop>(buckets: &[Bucket<T>], moment: i64) -> usize
+    requires { IsRising T.timestamp (all_of buckets.now) }
     ensures within { result ≤ length buckets.now }
-    ensures before { All (λ time. time <ℤ moment) (all_of (take result buckets.now)) }
-    ensures reached { result < length buckets.now → Reaches buckets.now result moment }
+    ensures before { All (λ item. T.timestamp item <ℤ moment) (all_of (take result buckets.now)) }
+    ensures reached { result < length buckets.now → Reaches T.timestamp buckets.now result moment }
 {
     let mut low = 0;
     let mut high = buckets.len();
     while low < high {
         let middle = low + (high - low) / 2;
-        if buckets[middle].last() < moment {
+        if buckets[middle].last().timestamp() < moment {
             low = middle + 1;
         } else {
             high = middle;
@@ -142,11 +194,11 @@ fn bucket_for(buckets: &[Bucket], moment: i64) -> usize
     low
 }
 
-// How many times of the buckets aren't before `oldest`.
-fn number_in(buckets: &[Bucket], oldest: i64) -> usize
+// How many items of the buckets aren't before `oldest`.
+fn number_in<T: Timed + Drop>(buckets: &[Bucket<T>], oldest: i64) -> usize
     requires few { length (all_of buckets.now) < 2 ^ 64 }
-    requires rising { IsRising (all_of buckets.now) }
-    ensures { result ≡ number_since oldest (all_of buckets.now) }
+    requires rising { IsRising T.timestamp (all_of buckets.now) }
+    ensures { result ≡ number_since T.timestamp oldest (all_of buckets.now) }
 {
     let bucket = bucket_for(buckets, oldest);
     if bucket == buckets.len() {
@@ -155,8 +207,8 @@ fn number_in(buckets: &[Bucket], oldest: i64) -> usize
     buckets[bucket].since(oldest) + number_of_all(&buckets[bucket + 1..])
 }
 
-// How many times the buckets have.
-fn number_of_all(buckets: &[Bucket]) -> usize
+// How many items the buckets have.
+fn number_of_all<T: Timed + Drop>(buckets: &[Bucket<T>]) -> usize
     requires { length (all_of buckets.now) < 2 ^ 64 }
     ensures { result ≡ length (all_of buckets.now) }
 {
@@ -167,17 +219,18 @@ fn number_of_all(buckets: &[Bucket]) -> usize
     found
 }
 
-// Where a time stands: in which bucket, and at which of its places.
+// Where an item stands: in which bucket, and at which of its places.
 #[derive(Drop)]
 struct Place {
     bucket: usize,
     at: usize,
 }
 
-// Returns where the time stands, if it does.
-fn find(buckets: &[Bucket], time: i64) -> Option<Place>
-    requires { IsRising (all_of buckets.now) }
-    ensures { MatchOption result (Contains (all_of buckets.now) time → ⊥) (λ place. IsIn buckets.now place.bucket place.at time) }
+// Returns where an item of the time stands, if any does.
+fn find<T: Timed + Drop>(buckets: &[Bucket<T>], time: i64) -> Option<Place>
+    requires { IsRising T.timestamp (all_of buckets.now) }
+    ensures { MatchOption result (All (λ item. T.timestamp item ≢ time) (all_of buckets.now))
+        (λ place. IsIn T.timestamp buckets.now place.bucket place.at time) }
 {
     let bucket = bucket_for(buckets, time);
     if bucket == buckets.len() {
@@ -189,36 +242,47 @@ fn find(buckets: &[Bucket], time: i64) -> Option<Place>
     }
 }
 
-// Removes the time at a place, and a bucket with its last time.
-fn remove_at(buckets: &mut Vec<Bucket>, place: Place, time: i64)
-    requires there { IsIn buckets.old.items place.bucket place.at time }
-    requires rising { IsRising (all_of buckets.old.items) }
-    ensures less { IsPermutation (all_of buckets.old.items) (time ∷ all_of buckets.new.items) }
-    ensures rising { IsRising (all_of buckets.new.items) }
+// Returns where the first item stands, if there is any.
+fn place_of_first<T: Timed + Drop>(buckets: &[Bucket<T>]) -> Option<Place>
+    ensures none { MatchOption result (all_of buckets.now ≡ []) (λ place. IsPlace buckets.now place.bucket place.at) }
+    ensures first { MatchOption result (all_of buckets.now ≡ []) (λ place. (place.bucket ≡ 0) × (place.at ≡ 0)) }
 {
-    if buckets[place.bucket].len() > 1 {
-        buckets[place.bucket].take(place.at);
-        return;
+    if buckets.is_empty() || buckets[0].len() == 0 {
+        return None;
     }
-    let _ = buckets.remove(place.bucket);
+    Some(Place { bucket: 0, at: 0 })
 }
 
-// Where a new time goes: into a bucket, or into a new one at its place.
+// Removes the item at a place, and a bucket with its last item.
+fn remove_at<T: Timed + Drop>(buckets: &mut Vec<Bucket<T>>, place: Place) -> T
+    requires there { IsPlace buckets.old.items place.bucket place.at }
+    requires rising { IsRising T.timestamp (all_of buckets.old.items) }
+    ensures out { TakesOut buckets.old.items place.bucket place.at result buckets.new.items }
+    ensures item { result ≡ slice_index_or (slice_index_or buckets.old.items place.bucket []) place.at result }
+    ensures rising { IsRising T.timestamp (all_of buckets.new.items) }
+{
+    if buckets[place.bucket].len() > 1 {
+        return buckets[place.bucket].take(place.at);
+    }
+    buckets.remove(place.bucket).into_item(place.at)
+}
+
+// Where a new item goes: into a bucket, or into a new one at its place.
 #[derive(Drop)]
 struct Room {
     bucket: usize,
     is_new: bool,
 }
 
-// Returns where a new time goes.
-fn room_for(buckets: &[Bucket], time: i64) -> Room
-    requires { IsRising (all_of buckets.now) }
+// Returns where a new item goes.
+fn room_for<T: Timed + Drop>(buckets: &[Bucket<T>], time: i64) -> Room
+    requires { IsRising T.timestamp (all_of buckets.now) }
     ensures place { result.bucket ≤ length buckets.now }
-    ensures new { result.is_new ≡ true → Fits buckets.now time result.bucket result.bucket }
-    ensures old { result.is_new ≡ false → (result.bucket < length buckets.now) × Fits buckets.now time result.bucket (suc result.bucket) }
+    ensures new { result.is_new ≡ true → Fits T.timestamp buckets.now time result.bucket result.bucket }
+    ensures old { result.is_new ≡ false → (result.bucket < length buckets.now) × Fits T.timestamp buckets.now time result.bucket (suc result.bucket) }
 {
     let bucket = bucket_for(buckets, time);
-    if bucket == buckets.len() || time <= buckets[bucket].first() {
+    if bucket == buckets.len() || time <= buckets[bucket].first().timestamp() {
         return room_between(buckets, bucket, time);
     }
     Room {
@@ -227,14 +291,14 @@ fn room_for(buckets: &[Bucket], time: i64) -> Room
     }
 }
 
-// Returns where a time goes that fits between two buckets: into the one before, or into the next, or
-// into a new one if both are full. So times that come in order fill the buckets.
-fn room_between(buckets: &[Bucket], next: usize, time: i64) -> Room
+// Returns where an item goes that fits between two buckets: into the one before, or into the next,
+// or into a new one if both are full. So items that come in order fill the buckets.
+fn room_between<T: Timed + Drop>(buckets: &[Bucket<T>], next: usize, time: i64) -> Room
     requires place { next ≤ length buckets.now }
-    requires fits { Fits buckets.now time next next }
+    requires fits { Fits T.timestamp buckets.now time next next }
     ensures place { result.bucket ≤ length buckets.now }
-    ensures new { result.is_new ≡ true → Fits buckets.now time result.bucket result.bucket }
-    ensures old { result.is_new ≡ false → (result.bucket < length buckets.now) × Fits buckets.now time result.bucket (suc result.bucket) }
+    ensures new { result.is_new ≡ true → Fits T.timestamp buckets.now time result.bucket result.bucket }
+    ensures old { result.is_new ≡ false → (result.bucket < length buckets.now) × Fits T.timestamp buckets.now time result.bucket (suc result.bucket) }
 {
     if next > 0 && !buckets[next - 1].is_full() {
         return Room {
@@ -248,13 +312,13 @@ fn room_between(buckets: &[Bucket], next: usize, time: i64) -> Room
     }
 }
 
-// Returns where a new time goes. Makes two buckets of its bucket first, if that is full.
-fn make_room(buckets: &mut Vec<Bucket>, time: i64) -> Result<Room, AllocError>
-    requires { IsRising (all_of buckets.old.items) }
+// Returns where a new item goes. Makes two buckets of its bucket first, if that is full.
+fn make_room<T: Timed + Drop>(buckets: &mut Vec<Bucket<T>>, time: i64) -> Result<Room, AllocError>
+    requires { IsRising T.timestamp (all_of buckets.old.items) }
     ensures same { all_of buckets.new.items ≡ all_of buckets.old.items }
     ensures place { IfOk result (λ room. room.bucket ≤ length buckets.new.items) }
-    ensures new { IfOk result (λ room. room.is_new ≡ true → Fits buckets.new.items time room.bucket room.bucket) }
-    ensures old { IfOk result (λ room. room.is_new ≡ false → (room.bucket < length buckets.new.items) × Fits buckets.new.items time room.bucket (suc room.bucket)) }
+    ensures new { IfOk result (λ room. room.is_new ≡ true → Fits T.timestamp buckets.new.items time room.bucket room.bucket) }
+    ensures old { IfOk result (λ room. room.is_new ≡ false → (room.bucket < length buckets.new.items) × Fits T.timestamp buckets.new.items time room.bucket (suc room.bucket)) }
 {
     let room = room_for(buckets.as_slice(), time);
     if room.is_new || !buckets[room.bucket].is_full() {
@@ -264,50 +328,58 @@ fn make_room(buckets: &mut Vec<Bucket>, time: i64) -> Result<Room, AllocError>
     Ok(room_for(buckets.as_slice(), time))
 }
 
-// Adds a time.
-fn add_in(buckets: &mut Vec<Bucket>, time: i64) -> Result<(), AllocError>
-    requires { IsRising (all_of buckets.old.items) }
-    ensures ok { OnOk result (IsPermutation (time ∷ all_of buckets.old.items) (all_of buckets.new.items)) }
+// Adds an item.
+fn add_in<T: Timed + Drop>(buckets: &mut Vec<Bucket<T>>, item: T) -> Result<(), AllocError>
+    requires { IsRising T.timestamp (all_of buckets.old.items) }
+    ensures ok { OnOk result (IsPermutation (item ∷ all_of buckets.old.items) (all_of buckets.new.items)) }
     ensures err { OnErr result (all_of buckets.new.items ≡ all_of buckets.old.items) }
-    ensures rising { IsRising (all_of buckets.new.items) }
+    ensures rising { IsRising T.timestamp (all_of buckets.new.items) }
 {
-    let room = make_room(buckets, time)?;
+    let room = make_room(buckets, item.timestamp())?;
     if room.is_new {
-        return add_new(buckets, room.bucket, time);
+        return add_new(buckets, room.bucket, item);
     }
-    add_to(buckets, room.bucket, time)
+    add_to(buckets, room.bucket, item)
 }
 
-// Adds a time to a bucket.
-fn add_to(buckets: &mut Vec<Bucket>, bucket: usize, time: i64) -> Result<(), AllocError>
+// Adds an item to a bucket.
+fn add_to<T: Timed + Drop>(
+    buckets: &mut Vec<Bucket<T>>,
+    bucket: usize,
+    item: T,
+) -> Result<(), AllocError>
     requires within { bucket < length buckets.old.items }
-    requires fits { Fits buckets.old.items time bucket (suc bucket) }
-    requires rising { IsRising (all_of buckets.old.items) }
-    ensures ok { OnOk result (IsPermutation (time ∷ all_of buckets.old.items) (all_of buckets.new.items)) }
+    requires fits { Fits T.timestamp buckets.old.items (T.timestamp item) bucket (suc bucket) }
+    requires rising { IsRising T.timestamp (all_of buckets.old.items) }
+    ensures ok { OnOk result (IsPermutation (item ∷ all_of buckets.old.items) (all_of buckets.new.items)) }
     ensures err { OnErr result (all_of buckets.new.items ≡ all_of buckets.old.items) }
-    ensures rising { IsRising (all_of buckets.new.items) }
+    ensures rising { IsRising T.timestamp (all_of buckets.new.items) }
 {
-    buckets[bucket].add(time)?;
+    buckets[bucket].add(item)?;
     Ok(())
 }
 
-// Adds a bucket of one time.
-fn add_new(buckets: &mut Vec<Bucket>, bucket: usize, time: i64) -> Result<(), AllocError>
+// Adds a bucket of one item.
+fn add_new<T: Timed + Drop>(
+    buckets: &mut Vec<Bucket<T>>,
+    bucket: usize,
+    item: T,
+) -> Result<(), AllocError>
     requires within { bucket ≤ length buckets.old.items }
-    requires fits { Fits buckets.old.items time bucket bucket }
-    requires rising { IsRising (all_of buckets.old.items) }
-    ensures ok { OnOk result (IsPermutation (time ∷ all_of buckets.old.items) (all_of buckets.new.items)) }
+    requires fits { Fits T.timestamp buckets.old.items (T.timestamp item) bucket bucket }
+    requires rising { IsRising T.timestamp (all_of buckets.old.items) }
+    ensures ok { OnOk result (IsPermutation (item ∷ all_of buckets.old.items) (all_of buckets.new.items)) }
     ensures err { OnErr result (all_of buckets.new.items ≡ all_of buckets.old.items) }
-    ensures rising { IsRising (all_of buckets.new.items) }
+    ensures rising { IsRising T.timestamp (all_of buckets.new.items) }
 {
     begin(buckets)?;
-    let one = Bucket::new(*buckets.allocator(), time)?;
+    let one = Bucket::new(*buckets.allocator(), item)?;
     buckets.insert(bucket, one)?;
     Ok(())
 }
 
-// Makes room for one bucket and no more, if there is none. Most owners have few times.
-fn begin(buckets: &mut Vec<Bucket>) -> Result<(), AllocError>
+// Makes room for one bucket and no more, if there is none. Most owners have few items.
+fn begin<T: Timed + Drop>(buckets: &mut Vec<Bucket<T>>) -> Result<(), AllocError>
     ensures { buckets.new.items ≡ buckets.old.items }
 {
     if buckets.is_empty() {
@@ -317,14 +389,14 @@ fn begin(buckets: &mut Vec<Bucket>) -> Result<(), AllocError>
 }
 
 // Makes two buckets of a full one.
-fn split(buckets: &mut Vec<Bucket>, bucket: usize) -> Result<(), AllocError>
+fn split<T: Timed + Drop>(buckets: &mut Vec<Bucket<T>>, bucket: usize) -> Result<(), AllocError>
     requires within { bucket < length buckets.old.items }
     requires full { 512 ≤ length (slice_index_or buckets.old.items bucket []) }
     ensures { all_of buckets.new.items ≡ all_of buckets.old.items }
 {
-    let alloc = *buckets.allocator();
-    let upper = buckets[bucket].upper_half(alloc)?;
+    buckets.reserve(1)?;
+    let upper = buckets[bucket].split()?;
+    // There is room, so that nothing is lost.
     buckets.insert(bucket + 1, upper)?;
-    buckets[bucket].keep_lower();
     Ok(())
 }

@@ -7,24 +7,25 @@ use std::test::Fail;
 // clause.
 #[test]
 fn counts_two_thousand_times_out_of_order(rt: HostRuntime) -> Result<(), Fail> {
-    let mut tally = Tally::new(rt.alloc());
+    let mut tally: Tally<i64> = Tally::new(rt.alloc());
     for n in 0..2000u32 {
         tally.add(i64::from(n * 7 % 2000))?;
     }
     assert_eq!(rt; tally.len(), 2000);
-    assert_eq!(rt; tally.first(), Some(0));
+    assert_eq!(rt; tally.first().copied(), Some(0));
+    assert_eq!(rt; tally.last().copied(), Some(1999));
     for n in 0..2000u32 {
         assert_eq!(rt; tally.since(i64::from(n)), 2000 - n as usize);
-        assert!(rt; tally.contains(i64::from(n)));
+        assert!(rt; tally.has(&i64::from(n)));
     }
-    assert!(rt; !tally.contains(2000));
+    assert!(rt; !tally.has(&2000));
     Ok(())
 }
 
 // Times in falling order always go into the first bucket.
 #[test]
 fn counts_falling_times(rt: HostRuntime) -> Result<(), Fail> {
-    let mut tally = Tally::new(rt.alloc());
+    let mut tally: Tally<i64> = Tally::new(rt.alloc());
     for n in (0..2000u32).rev() {
         tally.add(i64::from(n))?;
     }
@@ -37,18 +38,18 @@ fn counts_falling_times(rt: HostRuntime) -> Result<(), Fail> {
 // Times are removed in order, as a memory frees them, and each once.
 #[test]
 fn removes_what_was_added(rt: HostRuntime) -> Result<(), Fail> {
-    let mut tally = Tally::new(rt.alloc());
+    let mut tally: Tally<i64> = Tally::new(rt.alloc());
     for n in 0..1500u32 {
         tally.add(i64::from(n))?;
         tally.add(i64::from(n))?;
     }
     for n in 0..1000u32 {
-        tally.remove(i64::from(n));
-        tally.remove(i64::from(n));
-        tally.remove(i64::from(n));
+        let _ = tally.remove(i64::from(n));
+        let _ = tally.remove(i64::from(n));
+        let _ = tally.remove(i64::from(n));
     }
-    tally.remove(-1);
-    tally.remove(1499);
+    assert!(rt; tally.remove(-1).is_none());
+    assert_eq!(rt; tally.remove(1499), Some(1499));
     assert_eq!(rt; tally.len(), 999);
     assert_eq!(rt; tally.since(i64::MIN), 999);
     assert_eq!(rt; tally.since(1499), 1);
@@ -59,18 +60,33 @@ fn removes_what_was_added(rt: HostRuntime) -> Result<(), Fail> {
 // The same time many times is in several buckets.
 #[test]
 fn counts_one_time_often(rt: HostRuntime) -> Result<(), Fail> {
-    let mut tally = Tally::new(rt.alloc());
-    assert_eq!(rt; tally.first(), None);
+    let mut tally: Tally<i64> = Tally::new(rt.alloc());
+    assert!(rt; tally.first().is_none());
     for _ in 0..1200u32 {
         tally.add(7)?;
     }
     assert_eq!(rt; tally.since(7), 1200);
     assert_eq!(rt; tally.since(8), 0);
     for _ in 0..1200u32 {
-        assert!(rt; tally.contains(7));
-        tally.remove(7);
+        assert!(rt; tally.has(&7));
+        assert_eq!(rt; tally.remove(7), Some(7));
     }
-    assert!(rt; !tally.contains(7));
-    assert_eq!(rt; tally.first(), None);
+    assert!(rt; !tally.has(&7));
+    assert!(rt; tally.first().is_none());
+    Ok(())
+}
+
+// As a memory takes them: the first, until none is left.
+#[test]
+fn takes_the_first(rt: HostRuntime) -> Result<(), Fail> {
+    let mut tally: Tally<i64> = Tally::new(rt.alloc());
+    for n in 0..1300u32 {
+        tally.add(i64::from(n * 3 % 1300))?;
+    }
+    for n in 0..1300u32 {
+        assert_eq!(rt; tally.pop_first(), Some(i64::from(n)));
+    }
+    assert!(rt; tally.pop_first().is_none());
+    assert!(rt; tally.last().is_none());
     Ok(())
 }

@@ -12,6 +12,7 @@ OVERRIDING = ("x-http-method-override", "x-http-method", "x-method-override")
 _ADMINISTRATOR = "The administrator of this site can see the reason in its log."
 _KEYS = "The site's keys and those of the Kerberos server differ. Log out and in again. If that doesn't help, tell the administrator."
 _TYPES = "Your ticket is of an encryption type that this site doesn't use. Tell the administrator."
+_CHANGED = "Your login was changed on its way: somebody may be between you and this site. Tell the administrator."
 _LATER = "Please try again in a moment."
 # What users read, by the cause.
 _WHY = {
@@ -27,6 +28,7 @@ _WHY = {
     "FOREIGN_REALM": "Your realm isn't let in here.", "ANONYMOUS_CLIENT": "Anonymous users aren't let in here.",
     "NOT_ALLOWED": "You have logged in, but you aren't let in here.",
     "CHANNEL_BINDINGS": "Your login was made for another connection: somebody may be between you and this site. Tell the administrator.",
+    "LIST_MIC_WRONG": _CHANGED, "LIST_MIC_OTHER_KEY": _CHANGED,
     "BAD_HEADER": "The header Authorization is malformed.", "TOKEN_TOO_LONG": "The token is longer than this site takes.",
     "JUST_STARTED": "The site has just started, and lets nobody in for a few minutes. Please try again then.", "FULL": f"The site is busy. {_LATER}",
     "OUT_OF_MEMORY": f"The site is busy. {_LATER}", "STORE_FAILED": f"The site can't look up logins now. {_LATER}",

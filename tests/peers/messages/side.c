@@ -1,6 +1,6 @@
 /* A side of a context over the GSS-API of Heimdal or MIT krb5, by the lines of side.py.
  *
- *     side initiate NAME mutual|plain
+ *     side initiate NAME mutual|plain [negotiated]
  *     side accept NAME */
 #include <gssapi/gssapi.h>
 #include <stdio.h>
@@ -10,6 +10,8 @@
 enum { ROOM = 1 << 19 };
 
 static gss_OID_desc kerberos = {9, "\x2a\x86\x48\x86\xf7\x12\x01\x02\x02"};
+static gss_OID_desc negotiation = {6, "\x2b\x06\x01\x05\x05\x02"};
+static gss_OID mechanism = &kerberos;
 static gss_ctx_id_t context = GSS_C_NO_CONTEXT;
 static gss_name_t peer;
 static OM_uint32 asked = GSS_C_CONF_FLAG | GSS_C_INTEG_FLAG | GSS_C_REPLAY_FLAG | GSS_C_SEQUENCE_FLAG;
@@ -48,7 +50,7 @@ static OM_uint32 step(gss_buffer_t token, gss_buffer_t answer)
 {
     OM_uint32 minor;
 
-    return gss_init_sec_context(&minor, GSS_C_NO_CREDENTIAL, &context, peer, &kerberos, asked, 0,
+    return gss_init_sec_context(&minor, GSS_C_NO_CREDENTIAL, &context, peer, mechanism, asked, 0,
                                 GSS_C_NO_CHANNEL_BINDINGS, token, NULL, answer, NULL, NULL);
 }
 
@@ -61,7 +63,9 @@ static void begin(char **words, int count)
     if (gss_import_name(&minor, &name, GSS_C_NT_HOSTBASED_SERVICE, &peer) != GSS_S_COMPLETE)
         exit(2);
     if (strcmp(words[1], "initiate") == 0) {
-        asked |= count == 4 && strcmp(words[3], "mutual") == 0 ? GSS_C_MUTUAL_FLAG : 0;
+        asked |= count >= 4 && strcmp(words[3], "mutual") == 0 ? GSS_C_MUTUAL_FLAG : 0;
+        if (count == 5)
+            mechanism = &negotiation;
         (void)step(GSS_C_NO_BUFFER, &answer);
     } else {
         if (fgets(line, sizeof line, stdin) == NULL)
@@ -140,6 +144,17 @@ static void answer(const char *call, const char *second, const char *third)
     if (strcmp(call, "token") == 0) {
         given = bytes_of(second);
         say(step(&given, &rest) == GSS_S_COMPLETE ? "complete" : "incomplete");
+    } else if (strcmp(call, "step") == 0) {
+        OM_uint32 major;
+
+        given = bytes_of(second);
+        major = step(&given, &rest);
+        if (GSS_ERROR(major))
+            fault(major);
+        else {
+            printf(major == GSS_S_COMPLETE ? "complete " : "incomplete ");
+            print_bytes(&rest);
+        }
     } else if (strcmp(call, "wrap") == 0)
         wrap(strcmp(second, "sealed") == 0, bytes_of(third));
     else if (strcmp(call, "unwrap") == 0)

@@ -2,16 +2,22 @@
 its answer.
 
     side.py initiate NAME mutual|plain    begins with a line: its first token
+    side.py initiate NAME mutual|plain listed
+                                          the same in a negotiation that offers NTLM first, and Kerberos after it
     side.py accept NAME                   takes the other side's first token as its first line, and answers with its
                                           own, or "-"
 
-A later line is `token HEX` (an initiator's answer), `wrap sealed|plain HEX`, `unwrap HEX`, `mic HEX`,
+A later line is `token HEX` (an initiator's answer), `step HEX` (the same, after which it says `complete` or
+`incomplete` and its own next token, or "-"), `wrap sealed|plain HEX`, `unwrap HEX`, `mic HEX`,
 `verify HEX HEX` or `limit sealed|plain SIZE`.
 """
 import sys
 
 import gssapi
-from gssapi.raw import wrap_size_limit
+from gssapi.raw import set_neg_mechs, wrap_size_limit
+
+SPNEGO = gssapi.OID.from_int_seq("1.3.6.1.5.5.2")
+NTLM = gssapi.OID.from_int_seq("1.3.6.1.4.1.311.2.2.10")
 
 
 def shown(data):
@@ -23,6 +29,9 @@ def read(word):
 
 
 def answered(context, words):
+    if words[0] == "step":
+        token = context.step(read(words[1]))
+        return f"{'complete' if context.complete else 'incomplete'} {shown(token or b'')}"
     if words[0] == "token":
         context.step(read(words[1]))
         return "complete" if context.complete else "incomplete"
@@ -45,7 +54,11 @@ def made(words):
         flags = gssapi.RequirementFlag.integrity | gssapi.RequirementFlag.confidentiality
         if words[2] == "mutual":
             flags |= gssapi.RequirementFlag.mutual_authentication
-        context = gssapi.SecurityContext(name=name, usage="initiate", flags=flags, mech=gssapi.MechType.kerberos)
+        creds, mech = None, gssapi.MechType.kerberos
+        if words[3:] == ["listed"]:
+            creds, mech = gssapi.Credentials(usage="initiate", mechs=[SPNEGO]), SPNEGO
+            set_neg_mechs(creds, [NTLM, gssapi.MechType.kerberos])
+        context = gssapi.SecurityContext(name=name, creds=creds, usage="initiate", flags=flags, mech=mech)
         print(shown(context.step()), flush=True)
         return context
     context = gssapi.SecurityContext(creds=gssapi.Credentials(name=name, usage="accept"), usage="accept")

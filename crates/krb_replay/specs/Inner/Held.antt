@@ -1,16 +1,22 @@
--- What a timed memory holds: its tuples in order, and how many of them each client and each pair of
--- names has. Tuples that are too old are dropped at once, and freed later.
-use Rattle.std.specs.Prelude.{◌≡◌, ◌⊎◌, ◌+◌, ◌≤◌, ◌≤ℤ◌, ℕ, ℤ, Bool, true, not, int_lt, Option, Some, None, List, [], length}
+-- What a timed memory holds: its tuples in the order of their times, the times of each client's, and
+-- how many of them each pair of names has. Tuples that are too old are dropped at once, and freed
+-- later.
+use Rattle.std.specs.Prelude.{◌≡◌, ◌⊎◌, ◌&&◌, ◌+◌, ◌≤◌, ◌≤ℤ◌, ℕ, ℤ, Bool, true, not, int_lt, Option, Some, None, List, [], length}
 use Rattle.std.specs.List.{filter}
 use Rattle.std.specs.BTreeMap.{BTreeMap, is_at}
 use Rattle.std.specs.declared.cmp.Ordering.{Ordering}
-use Rattle.std.specs.Ordering.{is_eq}
+use Rattle.std.specs.Ordering.{eq_by_cmp, is_eq}
 use Rattle.krb_replay.specs.Stamp.{RealmAndName, Stamp}
 use Rattle.krb_replay.specs.Inner.Counts.{HasNoZero, count_by}
-use Rattle.krb_replay.specs.Inner.Order.{TwoNames, name_cmp, names_of}
+use Rattle.krb_replay.specs.Inner.Times.{HasNoEmpty, number_by}
+use Rattle.krb_replay.specs.Inner.Order.{TwoNames, name_cmp, names_of, stamp_cmp}
 
 abbrev pub is_before : ℤ → Stamp → Bool
 is_before oldest stamp = int_lt stamp.time oldest
+
+-- the time isn't before a moment
+abbrev pub is_recent : ℤ → ℤ → Bool
+is_recent oldest time = not (int_lt time oldest)
 
 -- the stamps whose time isn't before a moment
 abbrev pub since : ℤ → List Stamp → List Stamp
@@ -38,8 +44,17 @@ abbrev pub FreesAtMost : ℕ → ℤ → List Stamp → List Stamp → List Stam
 FreesAtMost some oldest old aside new left = (length new + length left + some ≡ length old + length aside)
     ⊎ (AreLive oldest new left × ((length new + length left ≤ length old + length aside) × (length old + length aside ≤ length new + length left + some)))
 
--- The stamps of each key are counted: of each client, or of each pair of names. No key is kept
--- that no stamp has.
+-- no stamp is there twice
+abbrev pub IsOnce : List Stamp → Type 0
+IsOnce stamps = (stamp : Stamp) → length (filter (λ one. eq_by_cmp stamp_cmp one stamp) stamps) ≤ 1
+
+-- The times of each key's stamps are kept, each as often as a stamp has it. No key is kept that no
+-- stamp has.
+pub record AreTimed (cmp : TwoNames → TwoNames → Ordering) (stamps : List Stamp) (times : BTreeMap TwoNames (List ℤ)) : Type 0 where
+  pub each : (names : TwoNames) (passes : ℤ → Bool) → number_by cmp times names passes ≡ length (filter (λ stamp. passes stamp.time && is_at (cmp (names_of stamp)) names) stamps)
+  pub no_empty : HasNoEmpty cmp times
+
+-- The stamps of each key are counted. No key is kept that no stamp has.
 pub record AreCounted (cmp : TwoNames → TwoNames → Ordering) (stamps : List Stamp) (counts : BTreeMap TwoNames ℕ) : Type 0 where
   pub each : (names : TwoNames) → count_by cmp counts names ≡ length (filter (λ stamp. is_at (cmp (names_of stamp)) names) stamps)
   pub no_zero : HasNoZero cmp counts

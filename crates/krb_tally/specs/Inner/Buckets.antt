@@ -1,42 +1,53 @@
--- Times in buckets. A bucket's times are in order, and buckets follow each other in time.
+-- Items in buckets. A bucket's items are in the order of their times, and buckets follow each other in time.
 use Rattle.std.specs.Prelude.{◌≡◌, ◌<◌, ◌≤ℤ◌, ℕ, ℤ, suc, List, [], ◌∷◌, ◌++◌, All, Contains, length, take, drop, slice_index_or, ⊤}
 
--- the times of all buckets
-abbrev pub all_of : List (List ℤ) → List ℤ
+-- the items of all buckets
+abbrev pub all_of : {X : Type 0} → List (List X) → List X
 all_of [] = []
 all_of (bucket ∷ buckets) = bucket ++ all_of buckets
 
--- no time is after a later one
-abbrev pub IsRising : List ℤ → Type 0
-IsRising [] = ⊤
-IsRising (time ∷ times) = All (λ later. time ≤ℤ later) times × IsRising times
+-- there is a place in one of several buckets
+abbrev pub IsPlace : {X : Type 0} → List (List X) → ℕ → ℕ → Type 0
+IsPlace buckets bucket at = (bucket < length buckets) × (at < length (slice_index_or buckets bucket []))
 
--- one more time stands between those that aren't after it and those that aren't before it
-pub record AddsIn (old : List ℤ) (time : ℤ) (new : List ℤ) : Type 0 where
-  pub early : List ℤ
-  pub late : List ℤ
-  pub old_is : old ≡ early ++ late
-  pub new_is : new ≡ early ++ time ∷ late
-  pub not_after : All (λ other. other ≤ℤ time) early
-  pub not_before : All (λ other. time ≤ℤ other) late
+-- the item at a place is taken out, and the others are still in their order
+pub record TakesOut {X : Type 0} (old : List (List X)) (bucket at : ℕ) (item : X) (new : List (List X)) : Type 0 where
+  pub after : List X
+  pub old_is : all_of old ≡ (all_of (take bucket old) ++ take at (slice_index_or old bucket [])) ++ item ∷ after
+  pub new_is : all_of new ≡ (all_of (take bucket old) ++ take at (slice_index_or old bucket [])) ++ after
 
--- the time stands at a place
-pub record IsAt (times : List ℤ) (at : ℕ) (time : ℤ) : Type 0 where
-  pub within : at < length times
-  pub here : (d : ℤ) → slice_index_or times at d ≡ time
+module _ {X : Type 0} (time : X → ℤ) where
+  -- no item is after a later one
+  abbrev pub IsRising : List X → Type 0
+  IsRising [] = ⊤
+  IsRising (item ∷ items) = All (λ later. time item ≤ℤ time later) items × IsRising items
 
--- the time stands at a place of one of several buckets
-abbrev pub IsIn : List (List ℤ) → ℕ → ℕ → ℤ → Type 0
-IsIn buckets bucket at time = (bucket < length buckets) × IsAt (slice_index_or buckets bucket []) at time
+  -- one more item stands between those that aren't after it and those that aren't before it
+  pub record AddsIn (old : List X) (item : X) (new : List X) : Type 0 where
+    pub early : List X
+    pub late : List X
+    pub old_is : old ≡ early ++ late
+    pub new_is : new ≡ early ++ item ∷ late
+    pub not_after : All (λ other. time other ≤ℤ time item) early
+    pub not_before : All (λ other. time item ≤ℤ time other) late
 
--- a bucket's last time isn't before a moment, and no later bucket has a time before that one
-pub record Reaches (buckets : List (List ℤ)) (bucket : ℕ) (moment : ℤ) : Type 0 where
-  pub last : ℤ
-  pub there : Contains (slice_index_or buckets bucket []) last
-  pub not_before : moment ≤ℤ last
-  pub later : All (λ time. last ≤ℤ time) (all_of (drop (suc bucket) buckets))
+  -- an item of this time stands at a place
+  pub record IsAt (items : List X) (at : ℕ) (moment : ℤ) : Type 0 where
+    pub within : at < length items
+    pub here : (d : X) → time (slice_index_or items at d) ≡ moment
 
--- a time fits after the buckets before one place, and before those from another on
-pub record Fits (buckets : List (List ℤ)) (time : ℤ) (before from : ℕ) : Type 0 where
-  pub early : All (λ other. other ≤ℤ time) (all_of (take before buckets))
-  pub late : All (λ other. time ≤ℤ other) (all_of (drop from buckets))
+  -- an item of this time stands at a place of one of several buckets
+  abbrev pub IsIn : List (List X) → ℕ → ℕ → ℤ → Type 0
+  IsIn buckets bucket at moment = (bucket < length buckets) × IsAt (slice_index_or buckets bucket []) at moment
+
+  -- a bucket's last item isn't before a moment, and no later bucket has an item before that one
+  pub record Reaches (buckets : List (List X)) (bucket : ℕ) (moment : ℤ) : Type 0 where
+    pub last : X
+    pub there : Contains (slice_index_or buckets bucket []) last
+    pub not_before : moment ≤ℤ time last
+    pub later : All (λ one. time last ≤ℤ time one) (all_of (drop (suc bucket) buckets))
+
+  -- a time fits after the buckets before one place, and before those from another on
+  pub record Fits (buckets : List (List X)) (moment : ℤ) (before from : ℕ) : Type 0 where
+    pub early : All (λ other. time other ≤ℤ moment) (all_of (take before buckets))
+    pub late : All (λ other. moment ≤ℤ time other) (all_of (drop from buckets))

@@ -29,7 +29,7 @@ lifted before after had kept state next number said time now was is answer befor
     left before after had kept state next number said time was is answer before_is after_is says moment same k i (inr (waits, code))
 lifted before after had kept state next number said time now was is answer before_is after_is says moment at (settled_at question held waits kept_is decided tells) =
     settled state next question held said before_is after_is kept_is waits says moment
-    (subst (λ (at : ℤ). IsSettled question said at state next held) at decided) tells
+    (subst (λ (at : ℤ). IsSettled question said at next held) at decided) tells
 
 pub returns : goal.returns
 returns c =

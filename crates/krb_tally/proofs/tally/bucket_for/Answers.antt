@@ -6,36 +6,38 @@ use Rattle.krb_tally.specs.Inner.Buckets.{IsRising, Reaches, all_of}
 use Rattle.krb_tally.proofs.TallyLaws.{all_before, reaches}
 use Rattle.krb_tally.proofs.tally.bucket_for.Goals as goal
 
-on : (buckets : List (List ℤ)) (at : ℕ) (here : List ℤ) (last said moment : ℤ) → at < length buckets → here ≡ get_or buckets at here → IsRising (all_of buckets)
-    → Contains here last → All (λ x. x ≤ℤ last) here → last <ℤ moment → All (λ x. x <ℤ moment) (all_of (take (at + 1) buckets))
-on buckets at here last said moment within is rising there greatest early =
+on : {X : Type 0} (when : X → ℤ) (buckets : List (List X)) (at : ℕ) (here : List X) (last : X) (moment : ℤ) → at < length buckets → here ≡ get_or buckets at here → IsRising when (all_of buckets)
+    → Contains here last → All (λ x. when x ≤ℤ when last) here → when last <ℤ moment → All (λ x. when x <ℤ moment) (all_of (take (at + 1) buckets))
+on when buckets at here last moment within is rising there greatest early =
     let stands = get_or_read buckets at here within is [] in
-    all_before buckets at within rising last moment (subst (λ (times : List ℤ). Contains times last) stands there)
-    (subst (λ (times : List ℤ). All (λ x. x ≤ℤ last) times) stands greatest) early
+    all_before when buckets at within rising last moment (subst (λ items. Contains items last) stands there)
+    (subst (λ items. All (λ x. when x ≤ℤ when last) items) stands greatest) early
 
-back : (buckets : List (List ℤ)) (at : ℕ) (here : List ℤ) (last moment : ℤ) → at < length buckets → here ≡ get_or buckets at here → IsRising (all_of buckets)
-    → Contains here last → moment ≤ℤ last → Reaches buckets at moment
-back buckets at here last moment within is rising there late =
-    reaches buckets at within rising last moment (subst (λ (times : List ℤ). Contains times last) (get_or_read buckets at here within is []) there) late
+back : {X : Type 0} (when : X → ℤ) (buckets : List (List X)) (at : ℕ) (here : List X) (last : X) (moment : ℤ) → at < length buckets → here ≡ get_or buckets at here → IsRising when (all_of buckets)
+    → Contains here last → moment ≤ℤ when last → Reaches when buckets at moment
+back when buckets at here last moment within is rising there late =
+    reaches when buckets at within rising last moment (subst (λ items. Contains items last) (get_or_read buckets at here within is []) there) late
 
-pub loop-low-preserved-then-last-moment : goal.loop-low-preserved-then-last-moment
-loop-low-preserved-then-last-moment c =
+pub loop-low-preserved-then-timestamp-moment : goal.loop-low-preserved-then-timestamp-moment
+loop-low-preserved-then-timestamp-moment g c =
     let inv = c.loop-low.invariant in
-    let early = c.if-last-moment.true in (
+    let early = c.if-timestamp-moment.true in
+    let said = c.timestamp.ensures in (
       omega arith,
       inv.1,
-      on c.args.buckets.now (c.loop-low.low + (c.loop-low.high - c.loop-low.low) / 2) c.index-buckets-middle.result c.last.result c.last.result (to_z w64 (of_z w64 c.args.moment)) (omega arith) c.index-buckets-middle.is c.requires
+      on g.T.Timed.timestamp c.args.buckets.now (c.loop-low.low + (c.loop-low.high - c.loop-low.low) / 2) c.index-buckets-middle.result c.last.result.now (to_z w64 (of_z w64 c.args.moment)) (omega arith) c.index-buckets-middle.is c.requires
           c.last.ensures.there c.last.ensures.greatest (omega (arith, ints)),
       inv.3,
     )
 
 pub loop-low-preserved : goal.loop-low-preserved
-loop-low-preserved c =
+loop-low-preserved g c =
     let inv = c.loop-low.invariant in
-    let late = c.if-last-moment.false in (
+    let late = c.if-timestamp-moment.false in
+    let said = c.timestamp.ensures in (
       omega arith,
       omega arith,
       inv.2,
-      λ within. back c.args.buckets.now (c.loop-low.low + (c.loop-low.high - c.loop-low.low) / 2) c.index-buckets-middle.result c.last.result (to_z w64 (of_z w64 c.args.moment)) within c.index-buckets-middle.is c.requires
+      λ within. back g.T.Timed.timestamp c.args.buckets.now (c.loop-low.low + (c.loop-low.high - c.loop-low.low) / 2) c.index-buckets-middle.result c.last.result.now (to_z w64 (of_z w64 c.args.moment)) within c.index-buckets-middle.is c.requires
           c.last.ensures.there (omega (arith, ints)),
     )

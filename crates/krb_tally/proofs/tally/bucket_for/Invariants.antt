@@ -3,11 +3,11 @@ use Rattle.krb_tally.specs.Inner.Buckets.{Reaches, all_of}
 use Rattle.krb_tally.proofs.tally.bucket_for.Given as goal
 
 abbrev pub invariant-loop-low : goal.invariant-loop-low
-invariant-loop-low l =
+invariant-loop-low g l =
     (l.low ≤ l.high)
     × (l.high ≤ length l.buckets)
-    × All (λ time. time <ℤ l.moment) (all_of (take l.low l.buckets))
-    × (l.high < length l.buckets → Reaches l.buckets l.high l.moment)
+    × All (λ other. g.T.Timed.timestamp other <ℤ l.moment) (all_of (take l.low l.buckets))
+    × (l.high < length l.buckets → Reaches g.T.Timed.timestamp l.buckets l.high l.moment)
 
 abbrev pub decreases-loop-low : goal.decreases-loop-low
-decreases-loop-low l = l.high - l.low
+decreases-loop-low g l = l.high - l.low

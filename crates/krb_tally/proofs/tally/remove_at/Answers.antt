@@ -1,33 +1,50 @@
-use Rattle.std.proofs.Common.{ℤ, List, ◌∷◌, set, sym, subst, arith}
+use Rattle.std.proofs.Common.{◌≡◌, ◌∙◌, ◌<◌, length, get_or, set, ap, sym, subst, arith}
 use Rattle.std.specs.List.{remove}
-use Rattle.std.specs.List.Sorted.{IsPermutation}
-use Rattle.krb_tally.specs.Inner.Buckets.{IsRising, all_of}
-use Rattle.krb_tally.proofs.TallyLaws.{gone_in, less_in}
+use Rattle.krb_tally.specs.Inner.Buckets.{IsRising, TakesOut, all_of}
+use Rattle.krb_tally.proofs.TallyLaws.{gone_in, less_in, stands, taken_rising}
 use Rattle.krb_tally.proofs.tally.remove_at.Goals as goal
 
-kept : (c : goal.After-buckets-1) → IsPermutation (all_of c.args.buckets.now.items) (c.args.time ∷ all_of (set c.args.buckets.now.items c.args.place.bucket c.take.new.self))
-    × IsRising (all_of (set c.args.buckets.now.items c.args.place.bucket c.take.new.self))
-kept c =
-    less_in c.args.buckets.now.items c.args.place.bucket c.index_mut.result.now c.requires.there.0 c.index_mut.ensures.value c.args.place.at c.args.time c.take.new.self
-    c.requires.there.1 c.take.ensures c.requires.rising
+pub returns-then-len-gt1-clause-out : goal.returns-then-len-gt1-clause-out
+returns-then-len-gt1-clause-out g c =
+    less_in c.args.buckets.now.items c.args.place.bucket c.index_mut.result.now c.requires.there.0 c.index_mut.ensures.value c.args.place.at c.take.result c.take.new.self
+    (subst (λ one. c.args.place.at < length one) (sym (stands c.args.buckets.now.items c.args.place.bucket c.index_mut.result.now c.requires.there.0 c.index_mut.ensures.value)) c.requires.there.1)
+    c.take.ensures.item c.take.ensures.others
 
-pub returns-then-len-gt1-clause-less : goal.returns-then-len-gt1-clause-less
-returns-then-len-gt1-clause-less c = (kept c).0
+pub returns-then-len-gt1-clause-item : goal.returns-then-len-gt1-clause-item
+returns-then-len-gt1-clause-item g c =
+    c.take.ensures.item ∙ ap (λ one. get_or one c.args.place.at c.take.result)
+    (stands c.args.buckets.now.items c.args.place.bucket c.index_mut.result.now c.requires.there.0 c.index_mut.ensures.value)
 
 pub returns-then-len-gt1-clause-rising : goal.returns-then-len-gt1-clause-rising
-returns-then-len-gt1-clause-rising c = (kept c).1
+returns-then-len-gt1-clause-rising g c =
+    taken_rising g.T.Timed.timestamp c.args.buckets.now.items (set c.args.buckets.now.items c.args.place.bucket c.take.new.self) c.args.place.bucket c.args.place.at c.take.result
+    (less_in c.args.buckets.now.items c.args.place.bucket c.index_mut.result.now c.requires.there.0 c.index_mut.ensures.value c.args.place.at c.take.result c.take.new.self
+    (subst (λ one. c.args.place.at < length one) (sym (stands c.args.buckets.now.items c.args.place.bucket c.index_mut.result.now c.requires.there.0 c.index_mut.ensures.value)) c.requires.there.1)
+    c.take.ensures.item c.take.ensures.others) c.requires.rising
 
-gone : (c : goal.After-drop-remove) → IsPermutation (all_of c.args.buckets.now.items) (c.args.time ∷ all_of (remove c.args.buckets.now.items c.args.place.bucket))
-    × IsRising (all_of (remove c.args.buckets.now.items c.args.place.bucket))
-gone c =
+pub returns-clause-out : goal.returns-clause-out
+returns-clause-out g c =
     let one = c.if-len-gt1.false in
-    let len = c.len.ensures in
-    gone_in c.args.buckets.now.items c.args.place.bucket c.index.result.now c.requires.there.0 c.index.ensures c.args.place.at c.args.time
-    c.requires.there.1 (omega arith) c.requires.rising
-
-pub returns-clause-less : goal.returns-clause-less
-returns-clause-less c =
-    subst (λ (buckets : List (List ℤ)). IsPermutation (all_of c.args.buckets.now.items) (c.args.time ∷ all_of buckets)) (sym c.remove.ensures.items) (gone c).0
+    let len = c.len.ensures.len in
+    let same : c.index.result.now ≡ c.remove.result =
+    stands c.args.buckets.now.items c.args.place.bucket c.index.result.now c.requires.there.0 c.index.ensures
+    ∙ sym (stands c.args.buckets.now.items c.args.place.bucket c.remove.result c.requires.there.0 c.remove.ensures.value) in
+    let few = ap (λ items. length items) same in
+    subst (λ buckets. TakesOut c.args.buckets.now.items c.args.place.bucket c.args.place.at c.into_item.result buckets) (sym c.remove.ensures.items)
+    (gone_in c.args.buckets.now.items c.args.place.bucket c.remove.result c.requires.there.0 c.remove.ensures.value c.args.place.at c.into_item.result (omega arith)
+    (subst (λ one. c.args.place.at < length one) (sym (stands c.args.buckets.now.items c.args.place.bucket c.remove.result c.requires.there.0 c.remove.ensures.value)) c.requires.there.1)
+    c.into_item.ensures)
 
 pub returns-clause-rising : goal.returns-clause-rising
-returns-clause-rising c = subst (λ (buckets : List (List ℤ)). IsRising (all_of buckets)) (sym c.remove.ensures.items) (gone c).1
+returns-clause-rising g c =
+    let one = c.if-len-gt1.false in
+    let len = c.len.ensures.len in
+    let same : c.index.result.now ≡ c.remove.result =
+    stands c.args.buckets.now.items c.args.place.bucket c.index.result.now c.requires.there.0 c.index.ensures
+    ∙ sym (stands c.args.buckets.now.items c.args.place.bucket c.remove.result c.requires.there.0 c.remove.ensures.value) in
+    let few = ap (λ items. length items) same in
+    subst (λ buckets. IsRising g.T.Timed.timestamp (all_of buckets)) (sym c.remove.ensures.items)
+    (taken_rising g.T.Timed.timestamp c.args.buckets.now.items (remove c.args.buckets.now.items c.args.place.bucket) c.args.place.bucket c.args.place.at c.into_item.result
+    (gone_in c.args.buckets.now.items c.args.place.bucket c.remove.result c.requires.there.0 c.remove.ensures.value c.args.place.at c.into_item.result (omega arith)
+    (subst (λ one. c.args.place.at < length one) (sym (stands c.args.buckets.now.items c.args.place.bucket c.remove.result c.requires.there.0 c.remove.ensures.value)) c.requires.there.1)
+    c.into_item.ensures) c.requires.rising)

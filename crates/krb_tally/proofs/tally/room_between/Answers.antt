@@ -3,13 +3,13 @@ use Rattle.krb_tally.proofs.TallyLaws.{fits_before, fits_next}
 use Rattle.krb_tally.proofs.tally.room_between.Goals as goal
 
 pub returns-then-not-is_full-clause-old : goal.returns-then-not-is_full-clause-old
-returns-then-not-is_full-clause-old c = λ _.
+returns-then-not-is_full-clause-old g c = λ _.
     let some = c.if-next-gt0.true in
     let place = c.requires.place in
-    (omega arith, fits_before c.args.buckets.now c.args.time c.args.next (c.args.next - 1) (omega arith) c.requires.fits)
+    (omega arith, fits_before g.T.Timed.timestamp c.args.buckets.now c.args.time c.args.next (c.args.next - 1) (omega arith) c.requires.fits)
 
 pub returns-else-next-buckets-clause-old : goal.returns-else-next-buckets-clause-old
-returns-else-next-buckets-clause-old c = λ _.
+returns-else-next-buckets-clause-old g c = λ _.
     let apart = c.if-next-buckets.false in
     let place = c.requires.place in
-    (omega arith, fits_next c.args.buckets.now c.args.time c.args.next c.requires.fits)
+    (omega arith, fits_next g.T.Timed.timestamp c.args.buckets.now c.args.time c.args.next c.requires.fits)

@@ -4,10 +4,8 @@ use Rattle.krb_msg.specs.Borrowed.{ap_req_of, enc_ticket_part_of, authenticator_
 use Rattle.krb_msg.specs.Module.{authenticator, enc_ticket_part}
 use Rattle.krb_ap.specs.Setup.{arrival}
 use Rattle.krb_ap.specs.Opened.{entry_key, session_key, authenticator_usage, ticket_usage}
-use Rattle.krb_ap.proofs.Truth.{is_so, is_not}
-use Rattle.krb_ap.proofs.Late.{times_named, times_placed}
+use Rattle.krb_ap.proofs.Truth.{if_ok}
 use Rattle.krb_ap.proofs.TurnedAway.{authenticator_shut, key_unusable, opens_nothing, opens_to_none, other_client, ticket_shut, turned_away, wanted, wants_by}
-use Rattle.krb_ap.proofs.AsJudged.{judged_far, judged_quiet, judged_repeat, judged_late, judged_good}
 use Rattle.krb_ap.proofs.Offsets.{cause_within}
 use Rattle.krb_ap.proofs.judging.Judge.judge.Goals as goal
 
@@ -122,123 +120,31 @@ returns-in_err-check_client-clause-judged g c =
 
 -- ---- what was opened
 
-pub returns-in_err-check_near-clause-judged : goal.returns-in_err-check_near-clause-judged
-returns-in_err-check_near-clause-judged g c =
-    let p = err_from_is_err_and c.from_residual-in_err-check_near.result c.from_residual-in_err-check_near.ensures.1 in
-    rw (p.1, p.2) (λ history moment stands eff. rw c.in_err-check_near.ensures.far.0 (judged_far c.facts.ensures g.M.ReplayMemory.has g.M.ReplayMemory.newest (record { setup = c.args.self.now.rules; memory = c.args.memory.now }) (record { setup = c.args.self.now.rules; memory = c.args.memory.now }) refl
-    c.args.bytes.now (ap_req_of c.in_ok-request.request) (enc_ticket_part_of c.in_ok-part.part) (authenticator_of c.in_ok-auth.auth) (record {
-      authenticated = (record {
-        ticketed = (record {
-          entry = c.in_ok-entry.entry.now;
-          keyed = record { asks = c.in_ok-request.ensures.read; chosen_is = rw c.in_ok-server.ensures at c.in_ok-entry.ensures.chosen };
-          opens = record { plain = _; opens = c.in_ok-open.ensures.opened; message = rw c.plain.ensures at c.in_ok-part.ensures.found };
-        });
-        usable = c.in_ok-check_key.ensures.usable;
-        opens = record {
-          same_type = c.in_ok-check_type.ensures.same;
-          opens = record { plain = _; opens = c.in_ok-plain.ensures.opened; message = rw c.as_slice.ensures.value at c.in_ok-auth.ensures.found };
-        };
-      });
-      same_client = c.in_ok-check_client.ensures.same;
-    })
-    c.args.now _ c.at-sent.ensures c.in_err-check_near.ensures.far.1 history moment stands eff))
-
-pub returns-then-not-is_settled-clause-judged : goal.returns-then-not-is_settled-clause-judged
-returns-then-not-is_settled-clause-judged g c =
-    judged_quiet c.facts.ensures g.M.ReplayMemory.has g.M.ReplayMemory.newest (record { setup = c.args.self.now.rules; memory = c.args.memory.now }) (record { setup = c.args.self.now.rules; memory = c.args.memory.now }) refl
-    c.args.bytes.now (ap_req_of c.in_ok-request.request) (enc_ticket_part_of c.in_ok-part.part) (authenticator_of c.in_ok-auth.auth) (record {
-      authenticated = (record {
-        ticketed = (record {
-          entry = c.in_ok-entry.entry.now;
-          keyed = record { asks = c.in_ok-request.ensures.read; chosen_is = rw c.in_ok-server.ensures at c.in_ok-entry.ensures.chosen };
-          opens = record { plain = _; opens = c.in_ok-open.ensures.opened; message = rw c.plain.ensures at c.in_ok-part.ensures.found };
-        });
-        usable = c.in_ok-check_key.ensures.usable;
-        opens = record {
-          same_type = c.in_ok-check_type.ensures.same;
-          opens = record { plain = _; opens = c.in_ok-plain.ensures.opened; message = rw c.as_slice.ensures.value at c.in_ok-auth.ensures.found };
-        };
-      });
-      same_client = c.in_ok-check_client.ensures.same;
-    })
-    c.args.now _ c.at-sent.ensures c.in_ok-check_near.ensures.near c.in_ok-tuple.tuple (rw c.in_ok-server.ensures at c.in_ok-tuple.ensures) (is_not _ _ c.is_settled.ensures c.if-not-is_settled.true)
-
-pub returns-then-contains-clause-judged : goal.returns-then-contains-clause-judged
-returns-then-contains-clause-judged g c =
-    judged_repeat c.facts.ensures g.M.ReplayMemory.has g.M.ReplayMemory.newest (record { setup = c.args.self.now.rules; memory = c.args.memory.now }) (record { setup = c.args.self.now.rules; memory = c.args.memory.now }) refl
-    c.args.bytes.now (ap_req_of c.in_ok-request.request) (enc_ticket_part_of c.in_ok-part.part) (authenticator_of c.in_ok-auth.auth) (record {
-      authenticated = (record {
-        ticketed = (record {
-          entry = c.in_ok-entry.entry.now;
-          keyed = record { asks = c.in_ok-request.ensures.read; chosen_is = rw c.in_ok-server.ensures at c.in_ok-entry.ensures.chosen };
-          opens = record { plain = _; opens = c.in_ok-open.ensures.opened; message = rw c.plain.ensures at c.in_ok-part.ensures.found };
-        });
-        usable = c.in_ok-check_key.ensures.usable;
-        opens = record {
-          same_type = c.in_ok-check_type.ensures.same;
-          opens = record { plain = _; opens = c.in_ok-plain.ensures.opened; message = rw c.as_slice.ensures.value at c.in_ok-auth.ensures.found };
-        };
-      });
-      same_client = c.in_ok-check_client.ensures.same;
-    })
-    c.args.now _ c.at-sent.ensures c.in_ok-check_near.ensures.near c.in_ok-tuple.tuple (rw c.in_ok-server.ensures at c.in_ok-tuple.ensures) (is_so _ _ c.is_settled.ensures c.if-not-is_settled.false) (is_so _ _ c.contains.ensures c.if-contains.true)
-
-pub returns-in-Some-clause-judged : goal.returns-in-Some-clause-judged
-returns-in-Some-clause-judged g c =
-    judged_late c.facts.ensures g.M.ReplayMemory.has g.M.ReplayMemory.newest (record { setup = c.args.self.now.rules; memory = c.args.memory.now }) (record { setup = c.args.self.now.rules; memory = c.args.memory.now }) refl
-    c.args.bytes.now (ap_req_of c.in_ok-request.request) (enc_ticket_part_of c.in_ok-part.part) (authenticator_of c.in_ok-auth.auth) (record {
-      authenticated = (record {
-        ticketed = (record {
-          entry = c.in_ok-entry.entry.now;
-          keyed = record { asks = c.in_ok-request.ensures.read; chosen_is = rw c.in_ok-server.ensures at c.in_ok-entry.ensures.chosen };
-          opens = record { plain = _; opens = c.in_ok-open.ensures.opened; message = rw c.plain.ensures at c.in_ok-part.ensures.found };
-        });
-        usable = c.in_ok-check_key.ensures.usable;
-        opens = record {
-          same_type = c.in_ok-check_type.ensures.same;
-          opens = record { plain = _; opens = c.in_ok-plain.ensures.opened; message = rw c.as_slice.ensures.value at c.in_ok-auth.ensures.found };
-        };
-      });
-      same_client = c.in_ok-check_client.ensures.same;
-    })
-    c.args.now _ c.at-sent.ensures c.in_ok-check_near.ensures.near c.in_ok-tuple.tuple (rw c.in_ok-server.ensures at c.in_ok-tuple.ensures) (is_so _ _ c.is_settled.ensures c.if-not-is_settled.false) (is_not _ _ c.contains.ensures c.if-contains.false) c.in-Some.refusal (rw c.skew.ensures at c.in-Some.ensures)
-
-pub returns-in-Some-clause-named : goal.returns-in-Some-clause-named
-returns-in-Some-clause-named g c = times_named _ c.args.now (ap_req_of c.in_ok-request.request) (enc_ticket_part_of c.in_ok-part.part) (authenticator_of c.in_ok-auth.auth) c.in-Some.refusal c.in-Some.ensures
-
-pub returns-in-Some-clause-placed : goal.returns-in-Some-clause-placed
-returns-in-Some-clause-placed g c = times_placed _ c.args.now (ap_req_of c.in_ok-request.request) (enc_ticket_part_of c.in_ok-part.part) (authenticator_of c.in_ok-auth.auth) c.in-Some.refusal c.args.bytes.now c.in-Some.ensures
-
 pub returns-clause-judged : goal.returns-clause-judged
-returns-clause-judged g c =
-    judged_good c.facts.ensures g.M.ReplayMemory.has g.M.ReplayMemory.newest (record { setup = c.args.self.now.rules; memory = c.args.memory.now }) (record { setup = c.args.self.now.rules; memory = c.args.memory.now }) refl
-    c.args.bytes.now (ap_req_of c.in_ok-request.request) (enc_ticket_part_of c.in_ok-part.part) (authenticator_of c.in_ok-auth.auth) (record {
-      authenticated = (record {
-        ticketed = (record {
-          entry = c.in_ok-entry.entry.now;
-          keyed = record { asks = c.in_ok-request.ensures.read; chosen_is = rw c.in_ok-server.ensures at c.in_ok-entry.ensures.chosen };
-          opens = record { plain = _; opens = c.in_ok-open.ensures.opened; message = rw c.plain.ensures at c.in_ok-part.ensures.found };
-        });
-        usable = c.in_ok-check_key.ensures.usable;
-        opens = record {
-          same_type = c.in_ok-check_type.ensures.same;
-          opens = record { plain = _; opens = c.in_ok-plain.ensures.opened; message = rw c.as_slice.ensures.value at c.in_ok-auth.ensures.found };
-        };
-      });
-      same_client = c.in_ok-check_client.ensures.same;
-    })
-    c.args.now _ c.at-sent.ensures c.in_ok-check_near.ensures.near c.in_ok-tuple.tuple (rw c.in_ok-server.ensures at c.in_ok-tuple.ensures) (is_so _ _ c.is_settled.ensures c.if-not-is_settled.false) (is_not _ _ c.contains.ensures c.if-contains.false) c.in_ok-accepted-in-None.accepted c.in_ok-accepted-in-None.ensures.known (rw c.skew.ensures at c.in-None.ensures)
+returns-clause-judged g c = c.judge_opened.ensures.judged c.args.bytes.now (record {
+  authenticated = (record {
+    ticketed = (record {
+      entry = c.in_ok-entry.entry.now;
+      keyed = record { asks = c.in_ok-request.ensures.read; chosen_is = rw c.in_ok-server.ensures at c.in_ok-entry.ensures.chosen };
+      opens = record { plain = _; opens = c.in_ok-open.ensures.opened; message = rw c.plain.ensures at c.in_ok-part.ensures.found };
+    });
+    usable = c.in_ok-check_key.ensures.usable;
+    opens = record {
+      same_type = c.in_ok-check_type.ensures.same;
+      opens = record { plain = _; opens = c.in_ok-plain.ensures.opened; message = rw c.as_slice.ensures.value at c.in_ok-auth.ensures.found };
+    };
+  });
+  same_client = c.in_ok-check_client.ensures.same;
+})
+
+pub returns-clause-placed : goal.returns-clause-placed
+returns-clause-placed g c = c.judge_opened.ensures.placed c.args.bytes.now
 
 pub returns-clause-asks : goal.returns-clause-asks
-returns-clause-asks g c = (ap_req_of c.in_ok-request.request, c.in_ok-request.ensures.read)
+returns-clause-asks g c = if_ok c.judge_opened.result (ap_req_of c.in_ok-request.request, c.in_ok-request.ensures.read)
+
+pub returns-clause-memory : goal.returns-clause-memory
+returns-clause-memory g c = λ memory. (ap_req_of c.in_ok-request.request, c.in_ok-request.ensures.read)
 
 pub returns-clause-service : goal.returns-clause-service
-returns-clause-service g c = (ap_req_of c.in_ok-request.request, (c.in_ok-request.ensures.read, c.in_ok-accepted-in-None.ensures.service))
-
-pub returns-in_err-accepted-in-None-clause-judged : goal.returns-in_err-accepted-in-None-clause-judged
-returns-in_err-accepted-in-None-clause-judged g c =
-    let p = err_from_is_err_and c.from_residual-in_err-accepted-in-None.result c.from_residual-in_err-accepted-in-None.ensures.1 in
-    rw (p.1, p.2) (λ history moment stands eff named. absurd (named refl))
-
-pub returns-in_err-accepted-in-None-clause-memory : goal.returns-in_err-accepted-in-None-clause-memory
-returns-in_err-accepted-in-None-clause-memory g c = λ memory. (ap_req_of c.in_ok-request.request, c.in_ok-request.ensures.read)
+returns-clause-service g c = c.judge_opened.ensures.service c.args.bytes.now c.in_ok-request.ensures.read

@@ -8,8 +8,11 @@ use Rattle.krb_c.specs.declared.service_state.ServiceState.{ServiceState}
 use Rattle.krb_c.proofs.Memory.{is_remembered, of_accepted}
 use Rattle.krb_c.proofs.service_state.ServiceState.decide.Goals as goal
 
-pub returns : goal.returns
-returns c = let accept = c.accept-outcome.ensures in let outcome = c.accept-outcome.result in
+pub returns-clause-sent : goal.returns-clause-sent
+returns-clause-sent c = ap (λ (kept : AcceptedState). kept.has_sent) c.keep.ensures.kept
+
+pub returns-clause-decides : goal.returns-clause-decides
+returns-clause-decides c = let accept = c.accept-outcome.ensures in let outcome = c.accept-outcome.result in
     subst (λ (kept : AcceptedState). Decides c.args.self.now c.keep.new.self (arrival c.args.bytes.now c.args.now) kept.accepted c.keep.result) (sym c.keep.ensures.kept) (
     subst (λ (new : ServiceState). Decides c.args.self.now new (arrival c.args.bytes.now c.args.now) (accepted_by outcome) c.keep.result) (sym c.keep.ensures.state) (record {
       outcome = outcome;

@@ -1,5 +1,5 @@
-use Rattle.krb_replay.proofs.SetLaws.{set_found}
+use Rattle.krb_replay.proofs.TimesLaws.{found_by}
 use Rattle.krb_replay.proofs.held.Held.contains.Goals as goal
 
 pub returns : goal.returns
-returns c = set_found c.self.inside.tuples c.args.self.now c.args.tuple.now c.contains.result c.contains.ensures c.self.view_is
+returns c = found_by c.self.inside.tuples c.args.self.now c.args.tuple.now c.has.result c.self.view_is c.has.ensures.found c.has.ensures.lacks

@@ -1,12 +1,14 @@
 use Rattle.krb_replay.specs.Inner.Order.{client_cmp, pair_cmp}
 use Rattle.krb_replay.proofs.HeldLaws.{counted_none}
+use Rattle.krb_replay.proofs.OnceLaws.{once_none}
+use Rattle.krb_replay.proofs.TimesLaws.{timed_none}
 use Rattle.krb_replay.proofs.held.Held.new.Goals as goal
 
 pub invariant_of-result : goal.invariant_of-result
 invariant_of-result c = (
-  c.new.ensures.ordered,
+  once_none c.new.result c.new.ensures,
   (
-    counted_none client_cmp c.new.result.keys c.new-3.result.counts c.new.ensures.empty c.new-3.ensures.none c.new-3.ensures.no_zero,
-    counted_none pair_cmp c.new.result.keys c.new-2.result.counts c.new.ensures.empty c.new-2.ensures.none c.new-2.ensures.no_zero,
+    timed_none client_cmp c.new.result c.new-3.result.times c.new.ensures c.new-3.ensures.none c.new-3.ensures.no_empty,
+    counted_none pair_cmp c.new.result c.new-2.result.counts c.new.ensures c.new-2.ensures.none c.new-2.ensures.no_zero,
   ),
 )

@@ -6,7 +6,7 @@ use Rattle.krb_replay.proofs.timed.TimedMemory.held.Goals as goal
 
 pub returns-clause-least : goal.returns-clause-least
 returns-clause-least c = λ size is.
-    let set = set_size c.self.inside.oldest c.self.inside.held size c.len.ensures.ordered
+    let set = set_size c.self.inside.oldest c.self.inside.held size c.len.ensures.once
     (subst (λ (stamps : List Stamp). IsSizeOf (Contains stamps) size) (sym (ap (λ memory. memory.stamps) c.self.view_is)) is) in
     let len = c.len.ensures.len in
     let aside = c.len-2.ensures.len in
@@ -15,7 +15,7 @@ returns-clause-least c = λ size is.
 
 pub returns-clause-size : goal.returns-clause-size
 returns-clause-size c = λ size is.
-    let set = set_size c.self.inside.oldest c.self.inside.held size c.len.ensures.ordered
+    let set = set_size c.self.inside.oldest c.self.inside.held size c.len.ensures.once
     (subst (λ (stamps : List Stamp). IsSizeOf (Contains stamps) size) (sym (ap (λ memory. memory.stamps) c.self.view_is)) is) in
     let len = c.len.ensures.len in
     let aside = c.len-2.ensures.len in

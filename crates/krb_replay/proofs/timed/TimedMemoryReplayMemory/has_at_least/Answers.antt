@@ -4,7 +4,7 @@ use Rattle.std.specs.Option.{option_map}
 use Rattle.std.proofs.lemmas.Int.{ints}
 use Rattle.krb_replay.specs.Stamp.{RealmAndName, Stamp}
 use Rattle.krb_replay.specs.Inner.Held.{IsLater, is_before, number_of, since}
-use Rattle.krb_replay.proofs.OrderLaws.{once_from_ordered}
+use Rattle.krb_replay.proofs.OnceLaws.{once_from_counts}
 use Rattle.krb_replay.proofs.SizeLaws.{AreOnce}
 use Rattle.krb_replay.proofs.TimedLaws.{decided, once_kept, since_later}
 use Rattle.krb_replay.proofs.timed.TimedMemoryReplayMemory.has_at_least.Goals as goal
@@ -27,5 +27,5 @@ returns c =
     let enough = c.has_at_least.ensures.enough in
     decided client c.args.oldest c.args.self.now.stamps c.args.count c.has_at_least.result
     (subst (λ (list : List Stamp). AreOnce list) stamps
-    (once_kept (λ stamp. not (is_before c.self.inside.oldest stamp)) c.self.inside.held (once_from_ordered c.self.inside.held c.has_at_least.ensures.ordered)))
+    (once_kept (λ stamp. not (is_before c.self.inside.oldest stamp)) c.self.inside.held (once_from_counts c.self.inside.held c.has_at_least.ensures.once)))
     ((λ yes. subst (λ (n : ℕ). c.args.count ≤ n) number (enough.0 yes)), (λ fits. enough.1 (subst (λ (n : ℕ). c.args.count ≤ n) (sym number) fits)))

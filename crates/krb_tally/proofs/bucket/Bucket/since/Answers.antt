@@ -5,16 +5,16 @@ use Rattle.krb_tally.specs.Times.{number_since}
 use Rattle.krb_tally.proofs.BucketLaws.{number_from}
 use Rattle.krb_tally.proofs.bucket.Bucket.since.Goals as goal
 
-counted : (times slice shown : List ℤ) (at n : ℕ) (said oldest : ℤ) → slice ≡ times → times ≡ shown → said ≡ oldest → n ≡ length times → at ≤ length slice
-    → All (λ x. x <ℤ said) (take at slice) → All (λ x. said ≤ℤ x) (drop at slice) → n - at ≡ number_since oldest shown
-counted times slice shown at n said oldest same seen t len within early late =
-    ap (λ (m : ℕ). m - at) (len ∙ ap (λ (all : List ℤ). length all) (sym same))
-    ∙ (number_from slice at said early late within
-    ∙ (ap (λ (all : List ℤ). number_since said all) (same ∙ seen) ∙ ap (λ (one : ℤ). number_since one shown) t))
+counted : {X : Type 0} (when : X → ℤ) (items slice shown : List X) (at n : ℕ) (said oldest : ℤ) → slice ≡ items → items ≡ shown → said ≡ oldest → n ≡ length items → at ≤ length slice
+    → All (λ x. when x <ℤ said) (take at slice) → All (λ x. said ≤ℤ when x) (drop at slice) → n - at ≡ number_since when oldest shown
+counted when items slice shown at n said oldest same seen t len within early late =
+    ap (λ (m : ℕ). m - at) (len ∙ ap (λ all. length all) (sym same))
+    ∙ (number_from when slice at said early late within
+    ∙ (ap (λ all. number_since when said all) (same ∙ seen) ∙ ap (λ (one : ℤ). number_since when one shown) t))
 
 pub returns : goal.returns
-returns c =
+returns g c =
     let t : to_z w64 (of_z w64 c.args.oldest) ≡ c.args.oldest = omega (arith, ints) in
-    let len : c.len.result ≡ length c.self.inside.times.items = search rules in
-    counted c.self.inside.times.items c.as_slice.result.now c.args.self.now c.number_before.result c.len.result (to_z w64 (of_z w64 c.args.oldest)) c.args.oldest
+    let len : c.len.result ≡ length c.self.inside.items.items = search rules in
+    counted g.T.Timed.timestamp c.self.inside.items.items c.as_slice.result.now c.args.self.now c.number_before.result c.len.result (to_z w64 (of_z w64 c.args.oldest)) c.args.oldest
     c.as_slice.ensures.value c.self.view_is t len c.number_before.ensures.within c.number_before.ensures.before c.number_before.ensures.from

@@ -1,11 +1,14 @@
-use Rattle.std.proofs.Common.{ℤ, List, ap, sym, subst, arith, length, pos}
+use Rattle.std.proofs.Common.{ap, sym, subst, arith, length}
 use Rattle.krb_tally.specs.Inner.Buckets.{IsRising}
 use Rattle.krb_tally.proofs.BucketLaws.{rising_remove}
 use Rattle.krb_tally.proofs.bucket.Bucket.take.Goals as goal
 
 pub invariant_of-self : goal.invariant_of-self
-invariant_of-self c =
-    let len = ap (λ (times : List ℤ). length times) c.self.view_is in
+invariant_of-self g c =
+    let len = ap (λ items. length items) c.self.view_is in
     let others = c.requires.others in
-    let within = c.requires.within in
-    (omega (arith, c.remove.ensures.len), subst (λ (times : List ℤ). IsRising times) (sym c.remove.ensures.items) (rising_remove c.self.inside.times.items c.args.at (pos 0) (omega arith) c.self.invariant.1))
+    let within = c.requires.within in (
+      omega (arith, c.remove.ensures.len),
+      subst (λ items. IsRising g.T.Timed.timestamp items) (sym c.remove.ensures.items)
+          (rising_remove g.T.Timed.timestamp c.self.inside.items.items c.args.at c.remove.result (omega arith) c.self.invariant.1),
+    )

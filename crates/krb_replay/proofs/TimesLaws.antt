@@ -1,0 +1,355 @@
+-- The times of each client after one more tuple or one less.
+use Rattle.std.proofs.Common.{◌≡◌, ◌≢◌, inl, inr, ℕ, ℤ, zero, suc, ◌≤ℤ◌, ◌+◌, ◌<◌, ◌≤◌, ◌&&◌, Bool, true, false, not, cond, int_lt, Option, Some, None, List, [], ◌∷◌, length, Contains, refl, sym, ap, subst, ◌∙◌, arith}
+use Rattle.std.specs.Prelude.{Result, Ok, Err, OnErr, OnOk}
+use Rattle.std.specs.List.{filter}
+use Rattle.std.specs.List.Sorted.{IsPermutation}
+use Rattle.std.specs.Ordering.{eq_by_cmp, is_eq}
+use Rattle.std.specs.declared.cmp.Ordering.{Ordering}
+use Rattle.std.specs.declared.cmp.Ordering.TheVariants.{Less, Equal, Greater}
+use Rattle.std.specs.Cmp.{IsTotalOrder}
+use Rattle.std.specs.Option.{unwrap_or}
+use Rattle.std.specs.Map.{lookup}
+use Rattle.std.specs.BTreeMap.{BTreeMap, Updates, get, is_at}
+use Rattle.std.proofs.lemmas.Cmp.{tied_itself}
+use Rattle.std.proofs.lemmas.Int.{ints}
+use Rattle.std.proofs.lemmas.List.Sorted.{Contains-permutation, IsPermutation-refl, IsPermutation-sym, length_permutation, sum_by-IsPermutation}
+use Rattle.std.proofs.lemmas.List.Elements.{All-contains}
+use Rattle.std.proofs.lemmas.Map.Views.{tells_apart}
+use Rattle.std.proofs.lemmas.List.Sums.{length-filter}
+use Rattle.krb_replay.specs.Stamp.{RealmAndName, Stamp}
+use Rattle.krb_replay.specs.Inner.Held.{AreCounted, AreTimed, is_before, is_recent, number_before, number_of, since}
+use Rattle.krb_replay.specs.Inner.Counts.{AddsOne}
+use Rattle.krb_replay.specs.Memory.{AddsStamp}
+use Rattle.krb_tally.specs.Times.{HasEqual, LacksEqual}
+use Rattle.krb_replay.specs.Inner.Order.{TwoNames, client_cmp, names_of, stamp_cmp, stamp_total}
+use Rattle.krb_replay.specs.Inner.Times.{AddsTime, HasNoEmpty, SameTimes, TakesTime, number_by, one_at, times_by}
+use Rattle.krb_replay.proofs.DropLaws.{among_rest, first_or_rest}
+use Rattle.krb_replay.proofs.HeldLaws.{all_of_none, both_kept, filter_longer, late_is, weighed}
+use Rattle.krb_replay.proofs.OrderLaws.{exact_stamps}
+
+-- as many pass in another order
+pub same_number : {X : Type 0} (p : X → Bool) (xs ys : List X) → IsPermutation xs ys → length (filter p ys) ≡ length (filter p xs)
+same_number p xs ys moved = length-filter p ys ∙ (sum_by-IsPermutation (λ x. cond (p x) 1 0) xs ys moved ∙ sym (length-filter p xs))
+
+-- one more, or one less
+pub one_more : {X : Type 0} (p : X → Bool) (x : X) (xs ys : List X) → IsPermutation (x ∷ xs) ys → length (filter p ys) ≡ weighed (p x) + length (filter p xs)
+one_more p x xs ys moved = same_number p (x ∷ xs) ys moved ∙ filter_longer p x xs
+
+pub one_less : {X : Type 0} (p : X → Bool) (x : X) (xs ys : List X) → IsPermutation xs (x ∷ ys) → length (filter p xs) ≡ weighed (p x) + length (filter p ys)
+one_less p x xs ys moved = sym (same_number p xs (x ∷ ys) moved) ∙ filter_longer p x ys
+
+pub all_pass : {X : Type 0} (xs : List X) → length (filter (λ (x : X). true) xs) ≡ length xs
+all_pass [] = refl
+all_pass (x ∷ xs) = let rest = all_pass xs in omega arith
+
+is_tie : (o : Ordering) → is_eq o ≡ true → o ≡ Equal
+is_tie Less e = absurd (cc)
+is_tie Equal e = refl
+is_tie Greater e = absurd (cc)
+
+pub some_are_not_empty : (times : List ℤ) → 0 < length times → Some times ≢ Some []
+some_are_not_empty times some e = let none : length times ≡ 0 = ap (λ (o : Option (List ℤ)). length (unwrap_or o [])) e in absurd (omega arith)
+
+pub none_is_not_empty : (value : Option (List ℤ)) → value ≡ None → value ≢ Some []
+none_is_not_empty None is empty = cc
+none_is_not_empty (Some x) is empty = cc
+
+at_value : (at : Bool) (found old value : Option (List ℤ)) → found ≡ cond at value old → value ≢ Some [] → old ≢ Some [] → found ≢ Some []
+at_value true found old value is apart none empty = apart (sym is ∙ empty)
+at_value false found old value is apart none empty = none (sym is ∙ empty)
+
+module _ {K : Type 0} (cmp : K → K → Ordering) (total : IsTotalOrder cmp) where
+  same_lookup : (key other : K) → cmp key other ≡ Equal → (entries : List (K × List ℤ)) → lookup (is_at (cmp key)) entries ≡ lookup (is_at (cmp other)) entries
+  same_lookup key other same [] = refl
+  same_lookup key other same (e ∷ es) =
+      ap (λ (at : Bool). cond at (Some e.1) (lookup (is_at (cmp key)) es)) (ap is_eq (total.congr key other e.0 same))
+      ∙ ap (λ (found : Option (List ℤ)). cond (is_at (cmp other) e.0) (Some e.1) found) (same_lookup key other same es)
+
+  -- equal keys have the same times
+  same_key : (times : BTreeMap K (List ℤ)) (key other : K) → is_at (cmp key) other ≡ true → times_by cmp times key ≡ times_by cmp times other
+  same_key times key other same = ap (λ (found : Option (List ℤ)). unwrap_or found []) (same_lookup key other (is_tie (cmp key other) same) times.entries)
+
+  hit : (old new : BTreeMap K (List ℤ)) (key other : K) (value : Option (List ℤ)) → Updates cmp old new key value
+      → is_at (cmp key) other ≡ true → times_by cmp new other ≡ unwrap_or value []
+  hit old new key other value updates same =
+      ap (λ (found : Option (List ℤ)). unwrap_or found [])
+      (updates.0 other ∙ ap (λ (at : Bool). cond at value (get cmp old other)) same)
+
+  missed : (old new : BTreeMap K (List ℤ)) (key other : K) (value : Option (List ℤ)) → Updates cmp old new key value
+      → is_at (cmp key) other ≡ false → times_by cmp new other ≡ times_by cmp old other
+  missed old new key other value updates apart = ap (λ (found : Option (List ℤ)). unwrap_or found []) (updates.2 other apart)
+
+  no_empty_after : (old new : BTreeMap K (List ℤ)) (key : K) (value : Option (List ℤ)) → Updates cmp old new key value → value ≢ Some [] → HasNoEmpty cmp old → HasNoEmpty cmp new
+  no_empty_after old new key value updates apart none other =
+      at_value (is_at (cmp key) other) (get cmp new other) (get cmp old other) value (updates.0 other) apart (none other)
+
+  more_at : (at : Bool) (old new : BTreeMap K (List ℤ)) (key other : K) (now : List ℤ) (time : ℤ) (passes : ℤ → Bool) → Updates cmp old new key (Some now)
+      → IsPermutation (time ∷ times_by cmp old key) now → is_at (cmp key) other ≡ at
+      → number_by cmp new other passes ≡ number_by cmp old other passes + cond (at && passes time) 1 0
+  more_at true old new key other now time passes updates moved is =
+      let after = ap (λ (times : List ℤ). length (filter passes times)) (hit old new key other (Some now) updates is) in
+      let before = ap (λ (times : List ℤ). length (filter passes times)) (same_key old key other is) in
+      let one = one_more passes time (times_by cmp old key) now moved in
+      omega arith
+  more_at false old new key other now time passes updates moved is =
+      let same = ap (λ (times : List ℤ). length (filter passes times)) (missed old new key other (Some now) updates is) in
+      omega arith
+
+  pub more_times : (old new : BTreeMap K (List ℤ)) (key : K) (now : List ℤ) (time : ℤ) → Updates cmp old new key (Some now) → IsPermutation (time ∷ times_by cmp old key) now
+      → AddsTime cmp old new key time
+  more_times old new key now time updates moved = record {
+    times = λ other passes. more_at (is_at (cmp key) other) old new key other now time passes updates moved refl;
+    no_empty = no_empty_after old new key (Some now) updates (some_are_not_empty now (let longer = length_permutation (time ∷ times_by cmp old key) now moved in omega arith));
+  }
+
+  less_at : (at : Bool) (old new : BTreeMap K (List ℤ)) (key other : K) (value : Option (List ℤ)) (time : ℤ) (passes : ℤ → Bool) → Updates cmp old new key value
+      → IsPermutation (times_by cmp old key) (time ∷ unwrap_or value []) → is_at (cmp key) other ≡ at
+      → number_by cmp new other passes + cond (at && passes time) 1 0 ≡ number_by cmp old other passes
+  less_at true old new key other value time passes updates moved is =
+      let after = ap (λ (times : List ℤ). length (filter passes times)) (hit old new key other value updates is) in
+      let before = ap (λ (times : List ℤ). length (filter passes times)) (same_key old key other is) in
+      let one = one_less passes time (times_by cmp old key) (unwrap_or value []) moved in
+      omega arith
+  less_at false old new key other value time passes updates moved is =
+      let same = ap (λ (times : List ℤ). length (filter passes times)) (missed old new key other value updates is) in
+      omega arith
+
+  pub less_times : (old new : BTreeMap K (List ℤ)) (key : K) (value : Option (List ℤ)) (time : ℤ) → Updates cmp old new key value
+      → IsPermutation (times_by cmp old key) (time ∷ unwrap_or value []) → value ≢ Some [] → TakesTime cmp old new key time
+  less_times old new key value time updates moved apart = record {
+    times = λ other passes. less_at (is_at (cmp key) other) old new key other value time passes updates moved refl;
+    no_empty = no_empty_after old new key value updates apart;
+  }
+
+  still_at : (at : Bool) (old new : BTreeMap K (List ℤ)) (key other : K) (passes : ℤ → Bool) (was : List ℤ) → Updates cmp old new key (Some was)
+      → times_by cmp old key ≡ was → is_at (cmp key) other ≡ at → number_by cmp new other passes ≡ number_by cmp old other passes
+  still_at true old new key other passes was updates same is =
+      ap (λ (times : List ℤ). length (filter passes times)) (hit old new key other (Some was) updates is ∙ (sym same ∙ same_key old key other is))
+  still_at false old new key other passes was updates same is =
+      ap (λ (times : List ℤ). length (filter passes times)) (missed old new key other (Some was) updates is)
+
+  -- what was there is written again
+  pub still_times : (old new : BTreeMap K (List ℤ)) (key : K) (was : List ℤ) → Updates cmp old new key (Some was) → times_by cmp old key ≡ was
+      → (HasNoEmpty cmp old → Some was ≢ Some []) → SameTimes cmp old new
+  still_times old new key was updates same apart = record {
+    times = λ other passes. still_at (is_at (cmp key) other) old new key other passes was updates same refl;
+    no_empty = λ none. no_empty_after old new key (Some was) updates (apart none) none;
+  }
+
+same_get : {K : Type 0} (cmp : K → K → Ordering) (old new : BTreeMap K (List ℤ)) (other : K) → new.entries ≡ old.entries → get cmp new other ≡ get cmp old other
+same_get cmp old new other same = ap (λ entries. lookup (is_at (cmp other)) entries) same
+
+pub same_times : {K : Type 0} (cmp : K → K → Ordering) (old new : BTreeMap K (List ℤ)) → new.entries ≡ old.entries → SameTimes cmp old new
+same_times cmp old new same = record {
+  times = λ other passes. ap (λ (found : Option (List ℤ)). length (filter passes (unwrap_or found []))) (same_get cmp old new other same);
+  no_empty = λ none other empty. none other (sym (same_get cmp old new other same) ∙ empty);
+}
+
+-- one less, and then the same
+pub less_then_same : {K : Type 0} (cmp : K → K → Ordering) (old mid new : BTreeMap K (List ℤ)) (key : K) (time : ℤ) → TakesTime cmp old mid key time → SameTimes cmp mid new
+    → TakesTime cmp old new key time
+less_then_same cmp old mid new key time less same = record {
+  times = λ other passes. let now = less.times other passes in let still = same.times other passes in omega arith;
+  no_empty = λ none. same.no_empty (less.no_empty none);
+}
+
+-- one more, and one less
+pub more_then_less : {K : Type 0} (cmp : K → K → Ordering) (old mid new : BTreeMap K (List ℤ)) (key : K) (time : ℤ) → AddsTime cmp old mid key time → TakesTime cmp mid new key time
+    → SameTimes cmp old new
+more_then_less cmp old mid new key time more less = record {
+  times = λ other passes. let one = more.times other passes in let now = less.times other passes in omega arith;
+  no_empty = λ none. less.no_empty (more.no_empty none);
+}
+
+-- ---- a time among others
+
+is_time : ℤ → ℤ → Bool
+is_time time other = not (int_lt other time) && not (int_lt time other)
+
+both_hold : (a b : Bool) → (a && b) ≡ true → (a ≡ true) × (b ≡ true)
+both_hold true b e = (refl, e)
+both_hold false b e = absurd (cc)
+
+not_early : (time other : ℤ) → not (int_lt other time) ≡ true → not (int_lt time other) ≡ true → other ≡ time
+not_early time other one both = grind (arith, ints)
+
+same_time : (time other : ℤ) → (not (int_lt other time) && not (int_lt time other)) ≡ true → other ≡ time
+same_time time other e = let h = both_hold (not (int_lt other time)) (not (int_lt time other)) e in not_early time other h.0 h.1
+
+own_time : (time : ℤ) → (not (int_lt time time) && not (int_lt time time)) ≡ true
+own_time time = grind (arith, ints)
+
+there_by : (b : Bool) (time x : ℤ) (xs : List ℤ) → (not (int_lt x time) && not (int_lt time x)) ≡ b
+    → 0 < length (cond b (x ∷ filter (λ (t : ℤ). not (int_lt t time) && not (int_lt time t)) xs) (filter (λ (t : ℤ). not (int_lt t time) && not (int_lt time t)) xs))
+    → (0 < length (filter (λ (t : ℤ). not (int_lt t time) && not (int_lt time t)) xs) → Contains xs time) → Contains (x ∷ xs) time
+there_by true time x xs is some rest = (zero, omega arith, same_time time x is)
+there_by false time x xs is some rest = let more = rest some in (suc more.0, (let within = more.1 in omega arith), more.2)
+
+-- a time that is counted is there
+pub time_there : (time : ℤ) (times : List ℤ) → 0 < length (filter (λ (t : ℤ). not (int_lt t time) && not (int_lt time t)) times) → Contains times time
+time_there time [] some = absurd (omega arith)
+time_there time (x ∷ xs) some = there_by (not (int_lt x time) && not (int_lt time x)) time x xs refl some (time_there time xs)
+
+pub none_there : (times : List ℤ) → length times ≤ 0 → times ≡ []
+none_there [] none = refl
+none_there (x ∷ times) none = absurd (omega arith)
+
+-- one that is there alone
+pub alone : (times : List ℤ) (time : ℤ) → length times ≤ 1 → Contains times time → times ≡ time ∷ []
+alone [] time few there = let within = there.1 in absurd (omega arith)
+alone (x ∷ y ∷ times) time few there = absurd (omega arith)
+alone (x ∷ []) time few (zero, within, is) = ap (λ (it : ℤ). it ∷ []) is
+alone (x ∷ []) time few (suc k, within, is) = absurd (omega arith)
+
+pub alone_moves : (times : List ℤ) (time : ℤ) → length times ≤ 1 → Contains times time → IsPermutation times (time ∷ [])
+alone_moves times time few there = subst (λ (all : List ℤ). IsPermutation all (time ∷ [])) (sym (alone times time few there)) (IsPermutation-refl (time ∷ []))
+
+pub from_ok : {A E : Type 0} {P Q : Type 0} (answer : Result A E) → (P → Q) → OnOk answer P → OnOk answer Q
+from_ok (Ok x) give h = give h
+from_ok (Err e) give h = h
+
+pub from_err : {A E : Type 0} {P Q : Type 0} (answer : Result A E) → (P → Q) → OnErr answer P → OnErr answer Q
+from_err (Ok x) give h = h
+from_err (Err e) give h = give h
+
+-- ---- what is held
+
+swap_tests : (a b : Bool) → weighed (a && b) ≡ weighed (b && a)
+swap_tests true true = refl
+swap_tests true false = refl
+swap_tests false true = refl
+swap_tests false false = refl
+
+module _ (cmp : TwoNames → TwoNames → Ordering) where
+  pub timed_none : (stamps : List Stamp) (times : BTreeMap TwoNames (List ℤ)) → stamps ≡ [] → ((names : TwoNames) → times_by cmp times names ≡ []) → HasNoEmpty cmp times
+      → AreTimed cmp stamps times
+  timed_none stamps times is none no_empty = record {
+    each = λ names passes. ap (λ (list : List ℤ). length (filter passes list)) (none names)
+        ∙ ap (λ (list : List Stamp). length (filter (λ stamp. passes stamp.time && is_at (cmp (names_of stamp)) names) list)) (sym is);
+    no_empty = no_empty;
+  }
+
+  pub timed_still : (stamps : List Stamp) (before after : BTreeMap TwoNames (List ℤ)) → AreTimed cmp stamps before → SameTimes cmp before after → AreTimed cmp stamps after
+  timed_still stamps before after timed same = record {
+    each = λ names passes. same.times names passes ∙ timed.each names passes;
+    no_empty = same.no_empty timed.no_empty;
+  }
+
+  pub timed_more : (old new : List Stamp) (before after : BTreeMap TwoNames (List ℤ)) (added : Stamp) → AreTimed cmp old before → IsPermutation (added ∷ old) new
+      → AddsTime cmp before after (names_of added) added.time → AreTimed cmp new after
+  timed_more old new before after added timed moved adds = record {
+    each = λ names passes.
+        let one = one_more (λ (stamp : Stamp). passes stamp.time && is_at (cmp (names_of stamp)) names) added old new moved in
+        let was = timed.each names passes in
+        let now = adds.times names passes in
+        let swapped = swap_tests (passes added.time) (is_at (cmp (names_of added)) names) in
+        omega arith;
+    no_empty = adds.no_empty timed.no_empty;
+  }
+
+  pub timed_less : (first : Stamp) (rest : List Stamp) (before after : BTreeMap TwoNames (List ℤ)) → AreTimed cmp (first ∷ rest) before
+      → TakesTime cmp before after (names_of first) first.time → AreTimed cmp rest after
+  timed_less first rest before after timed takes = record {
+    each = λ names passes.
+        let all = filter_longer (λ (stamp : Stamp). passes stamp.time && is_at (cmp (names_of stamp)) names) first rest in
+        let was = timed.each names passes in
+        let now = takes.times names passes in
+        let swapped = swap_tests (passes first.time) (is_at (cmp (names_of first)) names) in
+        omega arith;
+    no_empty = takes.no_empty timed.no_empty;
+  }
+
+  -- the counts after one more stamp
+  pub counted_more : (old new : List Stamp) (before after : BTreeMap TwoNames ℕ) (added : Stamp) → AreCounted cmp old before → IsPermutation (added ∷ old) new
+      → AddsOne cmp before after (names_of added) → AreCounted cmp new after
+  counted_more old new before after added counted moved more = record {
+    each = λ names.
+        let one = one_more (λ (stamp : Stamp). is_at (cmp (names_of stamp)) names) added old new moved in
+        let was = counted.each names in
+        let now = more.counts names in
+        omega arith;
+    no_zero = more.no_zero counted.no_zero;
+  }
+
+  module _ (total : IsTotalOrder cmp) where
+    own_key : (names : TwoNames) → is_at (cmp names) names ≡ true
+    own_key names = ap is_eq (tied_itself total names)
+
+    -- what was added is there
+    pub added_there : (old new : BTreeMap TwoNames (List ℤ)) (names : TwoNames) (time : ℤ) → AddsTime cmp old new names time → Contains (times_by cmp new names) time
+    added_there old new names time adds =
+        time_there time (times_by cmp new names)
+        (let now = adds.times names (λ (t : ℤ). not (int_lt t time) && not (int_lt time t)) in
+        let one : one_at cmp names names (not (int_lt time time) && not (int_lt time time)) ≡ 1 =
+        ap (λ (at : Bool). cond (at && (not (int_lt time time) && not (int_lt time time))) 1 0) (own_key names) ∙ ap (λ (at : Bool). cond at 1 0) (own_time time) in
+        omega arith)
+
+    -- the first stamp's time is there
+    pub first_timed : (first : Stamp) (rest : List Stamp) (times : BTreeMap TwoNames (List ℤ)) → AreTimed cmp (first ∷ rest) times
+        → Contains (times_by cmp times (names_of first)) first.time
+    first_timed first rest times timed =
+        time_there first.time (times_by cmp times (names_of first))
+        (let passes : ℤ → Bool = λ (t : ℤ). not (int_lt t first.time) && not (int_lt first.time t) in
+        let is = timed.each (names_of first) (λ (t : ℤ). not (int_lt t first.time) && not (int_lt first.time t)) in
+        let all = filter_longer (λ (stamp : Stamp). (not (int_lt stamp.time first.time) && not (int_lt first.time stamp.time)) && is_at (cmp (names_of stamp)) (names_of first)) first rest in
+        let one : weighed ((not (int_lt first.time first.time) && not (int_lt first.time first.time)) && is_at (cmp (names_of first)) (names_of first)) ≡ 1 =
+        ap (λ (at : Bool). weighed (at && is_at (cmp (names_of first)) (names_of first))) (own_time first.time) ∙ ap (λ (at : Bool). weighed at) (own_key (names_of first)) in
+        omega arith)
+
+-- one more that isn't before a moment
+pub none_before : (oldest : ℤ) (old new now : List Stamp) (added : Stamp) → IsPermutation (added ∷ old) new → old ≡ now → oldest ≤ℤ added.time
+    → number_before None oldest new ≡ number_before None oldest now
+none_before oldest old new now added moved same recent =
+    let one = one_more (is_before oldest) added old new moved in
+    let later : weighed (is_before oldest added) ≡ 0 = ap weighed (late_is oldest added recent) in
+    let few = all_of_none (filter (is_before oldest) new) in
+    let were = all_of_none (filter (is_before oldest) old) in
+    let whole = ap (λ (stamps : List Stamp). number_before None oldest stamps) same in
+    omega arith
+
+-- how many of a client there are, and how many since a moment
+pub number_of_client : (client : RealmAndName) (names : TwoNames) (stamps : List Stamp) (times : BTreeMap TwoNames (List ℤ)) → names.1 ≡ client → AreTimed client_cmp stamps times
+    → length (times_by client_cmp times names) ≡ number_of (Some client) stamps
+number_of_client client names stamps times is timed =
+    sym (all_pass (times_by client_cmp times names)) ∙ (timed.each names (λ (time : ℤ). true)
+    ∙ ap (λ (name : RealmAndName). number_of (Some name) stamps) is)
+
+pub number_since_of : (client : RealmAndName) (names : TwoNames) (oldest : ℤ) (stamps : List Stamp) (times : BTreeMap TwoNames (List ℤ)) → names.1 ≡ client → AreTimed client_cmp stamps times
+    → number_by client_cmp times names (is_recent oldest) ≡ number_of (Some client) (since oldest stamps)
+number_since_of client names oldest stamps times is timed =
+    timed.each names (is_recent oldest)
+    ∙ (ap (λ (list : List Stamp). length list)
+    (sym (both_kept (λ stamp. is_at (client_cmp (names_of stamp)) names) (λ stamp. not (is_before oldest stamp)) (λ stamp. is_recent oldest stamp.time && is_at (client_cmp (names_of stamp)) names)
+    (λ stamp. refl) stamps))
+    ∙ ap (λ (name : RealmAndName). number_of (Some name) (since oldest stamps)) is)
+
+-- a stamp is added
+pub added_by : (old new : List Stamp) (added : Stamp) → IsPermutation (added ∷ old) new → AddsStamp (Contains old) (Contains new) added
+added_by old new added moved stamp = (
+  λ there. elim (first_or_rest added old stamp (Contains-permutation new (added ∷ old) stamp (IsPermutation-sym (added ∷ old) new moved) there)) [
+    | inl same ↦ inl (sym same)
+    | inr before ↦ inr before
+  ],
+  λ either. Contains-permutation (added ∷ old) new stamp moved (elim either [
+    | inl same ↦ (zero, omega arith, sym same)
+    | inr before ↦ among_rest added old stamp before
+  ]),
+)
+
+-- what a look-up finds
+pub found_by : (held stamps : List Stamp) (stamp : Stamp) (answer : Bool) → held ≡ stamps → (answer ≡ true → HasEqual (eq_by_cmp stamp_cmp) held stamp)
+    → (answer ≡ false → LacksEqual (λ (one : Stamp). one.time) (eq_by_cmp stamp_cmp) held stamp)
+    → (answer ≡ true → Contains stamps stamp) × (Contains stamps stamp → answer ≡ true)
+found_by held stamps stamp true same found lacks = (
+  λ yes. let has = found yes in
+      subst (λ (list : List Stamp). Contains list stamp) same (subst (λ (one : Stamp). Contains held one) (tells_apart exact_stamps has.one stamp has.equal) has.there),
+  λ there. refl,
+)
+found_by held stamps stamp false same found lacks = (
+  λ yes. absurd (cc),
+  λ there.
+      let none = All-contains (λ (one : Stamp). one.time ≡ stamp.time → eq_by_cmp stamp_cmp one stamp ≡ false) held stamp (lacks refl)
+      (subst (λ (list : List Stamp). Contains list stamp) (sym same) there) refl in
+      let own : eq_by_cmp stamp_cmp stamp stamp ≡ true = ap is_eq (tied_itself stamp_total stamp) in
+      absurd (cc),
+)

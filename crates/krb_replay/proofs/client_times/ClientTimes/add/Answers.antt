@@ -1,0 +1,38 @@
+use Rattle.std.proofs.Common.{◌≡◌, ◌∙◌, ℤ, Option, Some, List, [], ◌∷◌, IsSome, ap, arith, of_z, refl, subst, sym, to_z}
+use Rattle.std.specs.Int.{w64}
+use Rattle.std.specs.Option.{unwrap_or}
+use Rattle.std.specs.List.Sorted.{IsPermutation}
+use Rattle.std.proofs.lemmas.Int.{ints}
+use Rattle.krb_replay.specs.Inner.Order.{client_cmp, client_total}
+use Rattle.krb_replay.specs.Inner.Times.{times_by}
+use Rattle.krb_replay.proofs.TimesLaws.{from_err, from_ok, more_times, none_there, still_times}
+use Rattle.krb_replay.proofs.client_times.ClientTimes.add.Goals as goal
+
+pub returns-in-Some-clause-ok : goal.returns-in-Some-clause-ok
+returns-in-Some-clause-ok c =
+    let t : to_z w64 (of_z w64 c.args.time) ≡ c.args.time = omega (arith, ints) in
+    let was : times_by client_cmp c.args.self.now.times c.args.client ≡ c.in-Some.times.now = ap (λ (found : Option (List ℤ)). unwrap_or found []) (sym c.in-Some.ensures.value) in
+    from_ok c.add.result
+    (λ (moved : IsPermutation (to_z w64 (of_z w64 c.args.time) ∷ c.in-Some.times.now) c.add.new.self).
+    more_times client_cmp client_total c.args.self.now.times (c.get_mut.follows.lender c.add.new.self) c.args.client c.add.new.self c.args.time
+    ((c.get_mut.follows.holds c.add.new.self).3 (subst (λ (found : Option (List ℤ)). IsSome found) c.in-Some.ensures.value refl))
+    (subst (λ (times : List ℤ). IsPermutation (c.args.time ∷ times) c.add.new.self) (sym was)
+    (subst (λ (time : ℤ). IsPermutation (time ∷ c.in-Some.times.now) c.add.new.self) t moved))) c.add.ensures.ok
+
+pub returns-in-Some-clause-err : goal.returns-in-Some-clause-err
+returns-in-Some-clause-err c =
+    let was : times_by client_cmp c.args.self.now.times c.args.client ≡ c.in-Some.times.now = ap (λ (found : Option (List ℤ)). unwrap_or found []) (sym c.in-Some.ensures.value) in
+    from_err c.add.result
+    (λ (same : c.add.new.self ≡ c.in-Some.times.now).
+    still_times client_cmp client_total c.args.self.now.times (c.get_mut.follows.lender c.add.new.self) c.args.client c.add.new.self
+    ((c.get_mut.follows.holds c.add.new.self).3 (subst (λ (found : Option (List ℤ)). IsSome found) c.in-Some.ensures.value refl))
+    (was ∙ sym same) (λ none empty. none c.args.client (sym c.in-Some.ensures.value ∙ (ap (λ (times : List ℤ). Some times) (sym same) ∙ empty)))) c.add.ensures.err
+
+pub returns-clause-ok : goal.returns-clause-ok
+returns-clause-ok c =
+    let t : to_z w64 (of_z w64 c.args.time) ≡ c.args.time = omega (arith, ints) in
+    let none : times_by client_cmp c.args.self.now.times c.args.client ≡ [] =
+    none_there (times_by client_cmp c.args.self.now.times c.args.client) (let few = c.if-of-gt0.false in let count = c.of.ensures in omega arith) in
+    more_times client_cmp client_total c.args.self.now.times c.insert.new.self c.args.client c.add-2.new.self c.args.time c.in_ok-insert.ensures.updates
+    (subst (λ (times : List ℤ). IsPermutation (c.args.time ∷ times) c.add-2.new.self) (c.new-times.ensures ∙ sym none)
+    (subst (λ (time : ℤ). IsPermutation (time ∷ c.new-times.result) c.add-2.new.self) t c.in_ok-add.ensures.ok))

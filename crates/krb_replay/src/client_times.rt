@@ -1,0 +1,96 @@
+//! The times of each client's tuples.
+
+ghost use Rattle.std.specs.Prelude.{◌≡◌, [], Contains, OnErr, OnOk, length};
+ghost use Rattle.krb_replay.specs.Inner.Held.{is_recent};
+ghost use Rattle.krb_replay.specs.Inner.Order.{TwoNames, client_cmp};
+ghost use Rattle.krb_replay.specs.Inner.Times.{AddsTime, HasNoEmpty, SameTimes, TakesTime, number_by, times_by};
+
+use crate::pair::ByClient;
+use krb_tally::Tally;
+use std::alloc::{AllocError, Global};
+use std::collections::BTreeMap;
+
+/// The times of each client's tuples, if it has any: in microseconds since 1970-01-01T00:00:00Z, and
+/// each as often as a tuple has it.
+#[derive(Debug, Drop)]
+pub(crate) struct ClientTimes {
+    times: BTreeMap<ByClient, Tally<i64>>,
+    alloc: Global,
+}
+
+impl ClientTimes {
+    pub(crate) fn new(alloc: Global) -> ClientTimes
+        ensures none { (key : TwoNames) → times_by client_cmp result.times key ≡ [] }
+        ensures no_empty { HasNoEmpty client_cmp result.times }
+    {
+        ClientTimes {
+            times: BTreeMap::new(alloc),
+            alloc,
+        }
+    }
+
+    /// Returns how many tuples the client has.
+    pub(crate) fn of(&self, client: &ByClient) -> usize
+        ensures { result ≡ length (times_by client_cmp self.now.times client.now) }
+    {
+        match self.times.get(client) {
+            Some(times) => times.len(),
+            None => 0,
+        }
+    }
+
+    /// Returns how many tuples of the client aren't before `oldest`.
+    pub(crate) fn since(&self, client: &ByClient, oldest: i64) -> usize
+        ensures { result ≡ number_by client_cmp self.now.times client.now (is_recent oldest) }
+    {
+        match self.times.get(client) {
+            Some(times) => times.since(oldest),
+            None => 0,
+        }
+    }
+
+    /// Adds the time of one more tuple of the client.
+    pub(crate) fn add(&mut self, client: ByClient, time: i64) -> Result<(), AllocError>
+        ensures ok { OnOk result (AddsTime client_cmp self.old.times self.new.times client time) }
+        ensures err { OnErr result (SameTimes client_cmp self.old.times self.new.times) }
+    {
+        if self.of(&client) > 0 {
+            match self.times.get_mut(&client) {
+                Some(times) => return times.add(time),
+                None => return Err(AllocError),
+            }
+        }
+        let mut times = Tally::new(self.alloc);
+        times.add(time)?;
+        self.times.insert(client, times)?;
+        Ok(())
+    }
+
+    /// Removes the time of a tuple of the client. Frees the names that are kept, if the client has
+    /// no more tuples.
+    pub(crate) fn remove(&mut self, client: &ByClient, time: i64)
+        requires { Contains (times_by client_cmp self.old.times client.now) time }
+        ensures { TakesTime client_cmp self.old.times self.new.times client.now time }
+    {
+        if self.of(client) > 1 {
+            match self.times.get_mut(client) {
+                Some(times) => {
+                    let _ = times.remove(time);
+                    return;
+                }
+                None => return,
+            }
+        }
+        let _ = self.times.remove_entry(client);
+        self.free_if_empty();
+    }
+
+    // An emptied tree keeps a block.
+    fn free_if_empty(&mut self)
+        ensures { self.new.times.entries ≡ self.old.times.entries }
+    {
+        if self.times.is_empty() {
+            self.times.clear();
+        }
+    }
+}
