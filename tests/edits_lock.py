@@ -4,9 +4,9 @@
     CRATE/WHAT.edit HASH       this edit was refused
 
 Whether an edit is refused depends on the edit, on the functions that it changes and their proofs, on the heads of the functions that these name
-(tests/edits_stated.py), on its crate's lemmas, on what its crate and the crates below state beside functions, definitions among it, and on the
-toolchain. The hash is of all that, without comments. (An edit of what stands outside functions, or of a const fn, depends on all sources and
-proofs of its crate.) A line holds only while the edit applies, since an edit may name a comment.
+(tests/edits_stated.py), on the definitions, lemmas, types and traits of its crate and the crates below to which the names in all that lead
+(tests/edits_items.py), and on the toolchain. The hash is of all that, without comments. (An edit of what stands outside functions, or of a
+const fn, depends on all sources and proofs of its crate.) A line holds only while the edit applies, since an edit may name a comment.
 
 Lines are believed, but not for long: the edits are dealt to slots, and each commit has the slot of its number (`share`).
 """
@@ -15,7 +15,8 @@ import os
 import subprocess
 from functools import lru_cache
 
-from edits_stated import files_below, read, source, stated, without_its_comments, words_of
+from edits_items import Item, Reached
+from edits_stated import OWN_PROOF, files_below, read, source, stated, without_its_comments, words_of
 from source_text import without_comments
 
 FILE = "tests/edits.lock"
@@ -23,8 +24,6 @@ FILE = "tests/edits.lock"
 SLOTS = 24
 # Of these, the slots of edits that change what stands outside functions: they need a check of their own, and of the whole crate.
 OUTSIDE = 4
-# The files of a function's own proof.
-OWN_PROOF = ("Answers.antt", "Invariants.antt", "Proof.antt")
 
 
 def toolchain():
@@ -52,26 +51,38 @@ def proofs_of(folder):
 
 
 @lru_cache(maxsize=None)
-def sum_below(crate, known):
-    """The hash of what the edits of a crate have in common: what it states beside functions, its lemmas, and what the crates below state so."""
-    below = [(name, known[name].deps, stated(known[name].folder).rest) for name in sorted(crate.below)]
-    lemmas = [it for it in proofs_of(crate.folder) if not it[0]]
-    return sum_of(crate.name, sorted(crate.deps), stated(crate.folder).rest, lemmas, below)
-
-
-@lru_cache(maxsize=None)
-def words_of_lemmas(crate, known):
-    """The names in a crate's lemmas, and in what macros may write there."""
-    lemmas = [words_of(text) for folder, _, text in proofs_of(crate.folder) if not folder]
-    return frozenset().union(*lemmas, *(stated(known[it].folder).of_macros for it in [crate.name, *crate.below]))
-
-
-def named_heads(crate, known, texts):
-    """The heads of all functions that are named in these texts or in lemmas."""
-    words = words_of_lemmas(crate, known).union(*map(words_of, texts))
+def items_below(crate, known):
+    """The items of a crate and of those below, as a check comes to them."""
     all_stated = [(it, stated(known[it].folder)) for it in sorted([crate.name, *crate.below])]
-    words |= {own for _, it in all_stated for other, own in it.renamed if other in words}
-    return [(name, it.named(words)) for name, it in all_stated]
+    traits = frozenset().union(*(it.traits for _, it in all_stated))
+    # (to come to an item of a crate is to come to the crate first)
+    named = lambda name, it: Item(repr((name, it.text)), it.words, tuple(words | {name} for words in it.names))
+    return Reached([named(name, it) for name, found in all_stated for it in found.items_for(traits, name != crate.name)])
+
+
+def words_said(crate, known, texts):
+    """The names that a check of these texts says, and those that macros may write there."""
+    of_macros = (stated(known[it].folder).of_macros for it in [crate.name, *crate.below])
+    return frozenset([crate.name]).union(*of_macros, *map(words_of, texts))
+
+
+def functions_named(crate, known, words):
+    """The functions that these words name, each with its type, if it is of one, and its head."""
+    all_stated = [(it, stated(known[it].folder)) for it in sorted([crate.name, *crate.below])]
+    words = words | {own for _, it in all_stated for other, own in it.renamed if other in words}
+    return [(of_type, (name, head)) for name, it in all_stated for of_type, head in it.named(words, name != crate.name)]
+
+
+def matters(crate, known, words):
+    """The heads and the items that matter to a check that says these words. A function of a type does if it is named and its type matters."""
+    named, heads, found = functions_named(crate, known, words), [], []
+    while True:
+        found, said = items_below(crate, known).of(words)
+        more = [head for of_type, head in named if head not in heads and (not of_type or of_type in said)]
+        if not more:
+            return sorted(map(repr, heads)), sorted(it.text for it in found)
+        heads += more
+        words = said.union(*(words_of(repr(it)) for it in more))
 
 
 def hash_of(edit, known, version):
@@ -86,7 +97,8 @@ def hash_of(edit, known, version):
     owners = [words for _, owner, *_ in changed for _, words in owner]
     texts = [text for *_, text in [*changed, *proofs]] + [*edit.changed.values(), *owners] + (whole[0] if whole else [])
     imports = [(path, source(f"{crate.folder}/{path}").imported(text)) for path, *_, text in changed]
-    parts = (sum_below(crate, known), named_heads(crate, known, texts), imports, changed, proofs, whole)
+    heads, items = matters(crate, known, words_said(crate, known, texts).union(words_of(repr(imports))))
+    parts = (crate.name, sorted(crate.deps), heads, items, imports, changed, proofs, whole)
     return sum_of(version, " ".join(read(edit.file).split()), *parts)[:32]
 
 
@@ -138,7 +150,7 @@ class Lock:
     """The lock of a repository, and what it says of the edits of these crates."""
 
     def __init__(self, top, known, crates):
-        self.top, self.known, self.version = top, Known(known), toolchain()
+        self.top, self.known, self.version, self.made = top, Known(known), toolchain(), {}
         self.edits = {it.name: it for crate in crates for it in crate.edits}
         rows = read_lock(top)
         self.held = {name for name, it in self.edits.items() if (made := rows.get((self.version, name))) and made == self.row(it, self.version)}
@@ -146,7 +158,9 @@ class Lock:
 
     def row(self, edit, version):
         """What the lock has to say of an edit under a toolchain; None if the edit can't be applied."""
-        return None if edit.fault else hash_of(edit, self.known, version)
+        if (edit.name, version) not in self.made:
+            self.made[edit.name, version] = None if edit.fault else hash_of(edit, self.known, version)
+        return self.made[edit.name, version]
 
     def holds(self, edit):
         return edit.name in self.held

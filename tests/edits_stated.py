@@ -5,17 +5,24 @@ A check of a function sees of other functions what stands before their bodies, a
 calls by name a function of a module or of a type, and by the type's name, too, one of a type that takes no `self`. It
 may call without a name a function of a trait (an operator, `?`, a loop, the end of a value), and so may a macro. So a
 source is cut into these pieces: for each function that is called by name its head, with the attributes before it; and
-all the rest, which has types, constants, traits and their implementations, without bodies. With each piece goes what
-it imports.
+the other items, without bodies: types, constants, traits and their implementations. With each piece goes what it
+imports. A file of definitions is cut into its definitions.
+
+An item or a definition matters to a check that can come to it by names: the check names it, or a piece does that
+matters. An implementation has no name; it matters if its type does, and its trait.
 """
 import os
 import re
 from collections import defaultdict
 from functools import lru_cache
 
-from source_text import functions_of, parameters_left_out, without_comments
+from edits_items import definitions_of, items_handed_on, items_of_source, traits_of, type_and_trait
+from source_text import functions_of, without_comments
 
+# The files of a function's own proof.
+OWN_PROOF = ("Answers.antt", "Invariants.antt", "Proof.antt")
 WORD = re.compile(r"[A-Za-z_]\w*")
+SHOWN = re.compile(r"(?:#\[[^\[\]]*\]\s*)*pub\s")
 ATTRIBUTES = re.compile(r"(?:\s*#\[[^\[\]]*\])+\s*\Z")
 PUBLIC_IMPORT = re.compile(r"\b(?:ghost\s+)?pub(?:\([^)]*\))?\s+use\s[^;]*;")
 IMPORT = re.compile(r"\b(?:ghost\s+)?use\s+([^;]*);")
@@ -77,12 +84,17 @@ def is_called_by_name(function):
     return bool(function.name) and not function.is_const and not is_of_trait
 
 
-def type_of(function, head):
-    """The type by whose name the function is called, or nothing."""
+def type_of(function):
+    """The type that the function is one of, or nothing."""
     kind, words = ([it for it in function.owner if it[0] != "mod"] or [("", "")])[-1]
-    if kind != "impl" or re.search(r"\(\s*(?:&\s*)?(?:'\w+\s+)?(?:mut\s+)?self\b", head):
-        return ""
-    return re.match(r"\s*(?:\w+::)*(\w*)", parameters_left_out(words)[0])[1]
+    return type_and_trait(words)[0] if kind == "impl" else ""
+
+
+def is_used(name, words, text):
+    """Whether a text uses a name that is imported: it may have a sign of antt's without its places for operands."""
+    if WORD.fullmatch(name) or name == "*":
+        return name in words or name in "_*"
+    return all(it in text for it in name.split("◌"))
 
 
 class Source:
@@ -97,7 +109,7 @@ class Source:
             if is_called_by_name(it):
                 found = ATTRIBUTES.search(before)
                 before, head = (before[: found.start()], found[0] + head) if found else (before, head)
-                self.heads.append((it.name, it.owner, " ".join(head.split()), type_of(it, head)))
+                self.heads.append((it.name, it.owner, " ".join(head.split()), type_of(it)))
                 kept.append(before)
             else:
                 kept += [before, head, "{}"]
@@ -112,14 +124,13 @@ class Source:
         renamed = [(name, path.rpartition(" as ")[0]) for name, path in every if " as " in path]
         self.renamed = [(name, path.rpartition("::")[2]) for name, path in renamed]
         self.renamed += [(name, word) for name, target in ALIAS.findall(code) for word in words_of(target)]
-        # the rest with what it hands on, and what it imports; or nothing
-        self.rest = (code, public, self.imported(code)) if code or public else None
+        # the code that stands beside these functions, and what it hands on
+        self.rest, self.public = code, public
 
     def imported(self, text):
         """What a piece of the source uses of what is imported, and what is imported without a word."""
         words = words_of(text)
-        is_used = lambda it: it in words or it == "_" or not WORD.fullmatch(it)
-        return tuple(sorted({path for name, path in self.imports if is_used(name)}))
+        return tuple(sorted({path for name, path in self.imports if is_used(name, words, text)}))
 
 
 @lru_cache(maxsize=None)
@@ -131,23 +142,33 @@ class Stated:
     """What a crate states: the rest of each source, its definitions, and the heads of its functions by name."""
 
     def __init__(self, folder):
-        self.rest, self.heads, self.renamed = [], defaultdict(list), []
-        for path in files_below(f"{folder}/src"):
-            it, name = source(path), os.path.relpath(path, folder)
+        self.heads, self.renamed, self.items = defaultdict(list), [], []
+        sources = [(os.path.relpath(path, folder), source(path)) for path in files_below(f"{folder}/src")]
+        self.traits = frozenset().union(*(traits_of(it.rest) for _, it in sources))
+        self.sources = sources
+        for name, it in sources:
             self.renamed += it.renamed
-            if it.rest:
-                self.rest.append((name, it.rest))
+            self.items += items_handed_on(name, it.public, leaves)
             for function, owner, head, of_type in it.heads:
                 self.heads[function].append((of_type, (name, owner, head, it.imported(head))))
-        self.rest += [(os.path.relpath(it, folder), without_its_comments(it)) for it in files_below(f"{folder}/specs")]
+        lemmas = [it for it in files_below(f"{folder}/proofs") if os.path.basename(it) not in OWN_PROOF]
+        for path in [*files_below(f"{folder}/specs"), *lemmas]:
+            self.items += definitions_of(os.path.relpath(path, folder), COMMENT_OF_ANTT.sub("", read(path)))
         # what a macro writes isn't named where the macro is used
         with_macros = [it for it in files_below(f"{folder}/src") if "macro_rules!" in read(it)]
         self.of_macros = frozenset().union(*(words_of(without_its_comments(it)) for it in with_macros))
 
-    def named(self, words):
-        """The heads of all functions with these names, without those whose type would have to be named and isn't."""
+    def items_for(self, traits, is_below):
+        """Its definitions and the items of its sources, if these are the traits of the repository; of a crate below,
+        the items that it shows."""
+        items = (items_of_source(name, it.rest, it.imported, traits, is_below) for name, it in self.sources)
+        return [*self.items, *(item for found in items for item in found)]
+
+    def named(self, words, is_below):
+        """The functions with these names, each with its type, if it is of one, and its head; of a crate below, those
+        that it shows."""
         found = [it for name in sorted(words & self.heads.keys()) for it in self.heads[name]]
-        return [head for of_type, head in found if not of_type or of_type in words]
+        return [(of_type, head) for of_type, head in found if not is_below or SHOWN.match(head[2])]
 
 
 @lru_cache(maxsize=None)

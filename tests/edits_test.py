@@ -7,6 +7,7 @@ import subprocess
 import sys
 import tempfile
 
+import edits_items
 import edits_lock
 import edits_stated
 from edits import crates_of
@@ -170,6 +171,9 @@ NAMES_A_COMMENT = ("names_a_comment", "    n + n", "    n + n + 1\nold: // Where
 # The edits of the lock's test: of a function, of one that calls it, and one that changes a comment outside of functions, too.
 LOCKED = [EDITS[1], EDITS[9], NAMES_A_COMMENT]
 
+# A definition whose name stands in the functions of the edits. The name of its module does, too, or doesn't.
+NAMED = "abbrev pub n : ℕ\nn = 1\n"
+
 # What is changed (file, old text, new text), and how many of the three are tried again for it.
 CHANGES = [
     ("a comment of the crate below", "low/src/lib.rt", "// A number.", "// One.", 0),
@@ -189,12 +193,16 @@ CHANGES = [
     ("a contract of the crate below that an edit's function names", "low/src/lib.rt", "result ≡ 3", "result ≤ 3", 2),
     ("the contract of the function that it calls", "sample/src/lib.rt", "ensures { result ≡ n * 2 }", "ensures { result ≤ n * 2 }", 3),
     ("the attribute of a function that it calls", "sample/src/lib.rt", "pub fn twice", "#[inline]\npub fn twice", 3),
-    ("the contract of a trait", "sample/src/lib.rt", "ensures { result ≤ 1 };", "ensures { result ≤ 2 };", 3),
-    ("a constant", "sample/src/lib.rt", "MOST: u32 = 1000", "MOST: u32 = 1001", 3),
-    ("an import of a sign", "sample/src/lib.rt", "◌+◌, ◌*◌}", "◌+◌, ◌*◌, ◌<◌}", 3),
-    ("a definition of the crate below", "low/specs/Lib.antt", "", "pub mod More\n", 3),
-    ("a definition", "sample/specs/Lib.antt", "", "pub mod More\n", 3),
-    ("a lemma", "sample/proofs/Lemmas.antt", "", "pub lemma : ℕ\n", 3),
+    ("the contract of another trait", "sample/src/lib.rt", "ensures { result ≤ 1 };", "ensures { result ≤ 2 };", 1),
+    ("another function's constant", "sample/src/lib.rt", "MOST: u32 = 1000", "MOST: u32 = 1001", 1),
+    ("an import of a sign", "sample/src/lib.rt", "◌+◌, ◌*◌}", "◌+◌}", 3),
+    ("an import of a sign that only a trait has", "sample/src/lib.rt", "◌≡◌, ◌≤◌", "◌≡◌", 3),
+    ("an import of a sign that nothing has", "sample/src/lib.rt", "◌+◌, ◌*◌}", "◌+◌, ◌*◌, ◌<◌}", 1),
+    ("a definition of a crate below that nothing names", "low/specs/Other.antt", "", NAMED, 0),
+    ("a definition that nothing names", "sample/specs/Other.antt", "", NAMED, 0),
+    ("a definition", "sample/specs/twice.antt", "", NAMED, 3),
+    ("a lemma that nothing names", "sample/proofs/Other.antt", "", "pub n : ℕ\n", 1),
+    ("a lemma that a function's proof names", "sample/proofs/third.antt", "", "pub twice : ℕ\n", 2),
 ]
 TURN = "edits: sample: 1 edits are tried: it is their turn"
 
@@ -257,11 +265,88 @@ def check_imports(hold):
     hold("the names of imports", found == {"b": "a::b", "e": "a::c::d as e", "*": "a::c::*", "self": "a::f::self"})
     it = edits_stated.Source("use a::{b, c::d as e};\npub use f::g as h;\nmod i;\n\npub fn j(k: b) -> u8 {\n    e(k)\n}\n")
     hold("functions under other names", it.renamed == [("e", "d"), ("h", "g")])
-    hold("what is handed on is stated", it.rest == ("", ["pub use f::g as h;"], ()))
+    hold("what is handed on", it.public == ["pub use f::g as h;"] and it.rest == "")
+    handed = list(edits_items.items_handed_on("lib.rt", it.public, edits_stated.leaves))
+    hold("and how a check comes to it", [(one.text[1], one.names) for one in handed] == [("f::g as h", (frozenset({"h"}),))])
     hold("what a function's head imports", it.imported(it.heads[0][2]) == ("a::b",))
     it = edits_stated.Source("type A = B<C>;\nimpl<T: X> B<T> {\n    pub fn new() -> B<T> {\n    }\n\n    fn of(&self) {\n    }\n}\n")
-    hold("the type of a function without self", [(name, of_type) for name, *_, of_type in it.heads] == [("new", "B"), ("of", "")])
+    hold("the type of a function", [(name, of_type) for name, *_, of_type in it.heads] == [("new", "B"), ("of", "B")])
     hold("a type under another name", sorted(it.renamed) == [("A", "B"), ("A", "C")])
+
+
+DEFINITIONS = """use Rattle.std.specs.Prelude.{◌≡◌, ◌<◌, ℕ, List as Many}
+
+abbrev pub two : ℕ → ℕ
+two n = n + two_more
+-- a comment
+pub record Pair (X : Type 0) : Type 0 where
+  pub first : X
+  pub same : first ≡ first
+
+pub data Side : Type 0 where
+  left : ℕ → Side
+  right : Side
+
+module _ {X : Type 0} where
+  abbrev pub many : Many X
+  many = []
+
+late : ℕ
+late = two 1
+"""
+
+ITEMS = """#![tactic(auto)]
+pub const MOST: usize = 4;
+const LEAST: usize = 1;
+#[derive(Drop)]
+pub struct Shown { pub at: usize, rest: Vec<(u8, u8)>, }
+pub(crate) struct Hidden { at: usize, }
+impl Model for Shown { ghost Value = { Pair }; ghost view = { λ s. record { at = s.at; rest = s.rest } }; ghost invariant = { λ s. s.at < 4 }; }
+impl Named for Shown { fn name(&self) -> u8 {} }
+impl<T: Named> Other for T { fn other(&self) {} }
+impl Hidden { const X: u8 = 1; }
+pub trait Named { fn name(&self) -> u8; }
+"""
+
+
+def check_definitions(hold):
+    """What a file of definitions is cut into, and how a check comes to each part."""
+    text = edits_stated.COMMENT_OF_ANTT.sub("", DEFINITIONS)
+    named = lambda path: {it.text[1]: it for it in edits_items.definitions_of(path, text)}
+    found = named("specs/Pairs.antt")
+    hold("definitions", list(found) == ["two", "Pair", "Side", "many", "late"])
+    hold("an equation", found["two"].text[2] == "\nabbrev pub two : ℕ → ℕ\ntwo n = n + two_more")
+    hold("what a definition imports", found["two"].text[3] == ("Rattle.std.specs.Prelude.ℕ",) and found["Pair"].text[3] == ("Rattle.std.specs.Prelude.◌≡◌",))
+    hold("an import under another name", found["many"].text[3] == ("Rattle.std.specs.Prelude.List as Many",))
+    hold("a definition's names", found["two"].names == (frozenset({"two", "specs", "Pairs"}),))
+    hold("the names of variants", [set(it) - {"specs", "Pairs"} for it in found["Side"].names] == [{"Side"}, {"left"}, {"right"}])
+    hold("what a module takes", found["many"].text[2].startswith("module _ {X : Type 0} where\nabbrev pub many"))
+    hold("a lemma's proof is left out", named("proofs/Pairs.antt")["late"].text[2] == "\nlate : ℕ")
+    hold("an equation isn't", "two_more" in named("proofs/Pairs.antt")["two"].text[2])
+
+
+def check_items(hold):
+    """What the items of a source are, and which of them a crate shows."""
+    traits = edits_items.traits_of(ITEMS)
+    items = lambda is_below: {it.text[1]: it for it in edits_items.items_of_source("a.rt", ITEMS, lambda text: (), traits, is_below)}
+    every, shown = items(False), items(True)
+    hold("all items", len(every) == 10 and "#![tactic(auto)]" in every)
+    hold("a public constant", [it for it in shown if "MOST" in it or "LEAST" in it] == ["pub const MOST: usize = 4;"])
+    hold("a private field isn't shown", "#[derive(Drop)] pub struct Shown {pub at: usize}" in shown)
+    hold("nor what the type's value is made of", [it for it in shown if " Model " in it] == ["impl Model for Shown { ghost Value = { Pair };   }"])
+    hold("nor a private type", not any("Hidden" in it for it in shown) and any("Hidden" in it for it in every))
+    names = {text: it.names for text, it in every.items()}
+    hold("a type's name", names["#[derive(Drop)] pub struct Shown { pub at: usize, rest: Vec<(u8, u8)>, }"] == (frozenset({"Shown"}),))
+    hold("a trait of another crate", next(it for text, it in names.items() if " Model " in text) == (frozenset({"Shown"}),))
+    hold("a trait", next(it for text, it in names.items() if text.startswith("impl Named")) == (frozenset({"Shown", "Named"}),))
+    hold("an implementation for any type", next(it for text, it in names.items() if " Other " in text) == ())
+    reached = edits_items.Reached(every.values())
+    said = lambda *words: {it.text[1].partition(" {")[0] for it in reached.of(words)[0]}
+    always = {"#![tactic(auto)]", "impl<T: Named> Other for T", "pub trait Named"}
+    hold("what matters always, and what that names", said() == always)
+    named = edits_items.Reached([it for it in every.values() if it.names])
+    hold("a trait by its function", [it.text[1].partition(" {")[0] for it in named.of({"name"})[0]] == ["pub trait Named"])
+    hold("what a name leads to", said("Shown") == always | {"#[derive(Drop)] pub struct Shown", "impl Model for Shown", "impl Named for Shown"})
 
 
 def check_toolchains(hold, room):
@@ -333,6 +418,8 @@ def main():
         hold("nothing where the crate isn't proved", status == 1 and not tried and f"\n0 passed, {len(EDITS)} failed\n" in unproved)
     check_lock(hold)
     check_imports(hold)
+    check_definitions(hold)
+    check_items(hold)
     if failed:
         print(said)
         print(f"edits' own test: FAILED: {', '.join(failed)}")
