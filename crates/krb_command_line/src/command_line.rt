@@ -43,7 +43,7 @@ pub enum Command<'a> {
         /// must not be FILE; a new file has mode 0600.
         out: &'a str,
         /// `--replace`: Writes a new file, and renames it to OUT once it is whole: OUT may be FILE,
-        /// and stays as it was if the command fails.
+        /// and is never left half written.
         replace: bool,
     },
     /// `convert-ccache FILE OUT [--replace]`: writes a copy of a credential cache, in version
@@ -55,7 +55,7 @@ pub enum Command<'a> {
         /// must not be FILE; a new file has mode 0600.
         out: &'a str,
         /// `--replace`: Writes a new file, and renames it to OUT once it is whole: OUT may be FILE,
-        /// and stays as it was if the command fails.
+        /// and is never left half written.
         replace: bool,
     },
     /// `pick-key KEYTAB NAME ETYPE [--kvno NUMBER]`: prints the entry of a keytab whose key would

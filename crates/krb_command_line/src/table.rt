@@ -210,7 +210,7 @@ const REPLACE: Argument<'static> = Argument {
     name: "replace",
     kind: Flag,
     greatest: None,
-    help: "Writes a new file, and renames it to OUT once it is whole: OUT may be FILE, and stays as it was if the command fails",
+    help: "Writes a new file, and renames it to OUT once it is whole: OUT may be FILE, and is never left half written",
 };
 
 const TOKENS: Argument<'static> = Argument {
