@@ -1638,11 +1638,11 @@ fevstunik_answer fevstunik_token_answer(const uint8_t *token, size_t token_size,
  * FEVSTUNIK_MECHANISM_NONE, and the buffer has the answer that asks for it (22 bytes at most): send
  * it, and take the client's next token. A negotiation has at most two such rounds. One whose first
  * mechanism is another is refused, also if Kerberos is in its list: a change of the list would be
- * found only by a mechListMIC, and this library makes none. `negotiation` is all zero before the
- * first token. The call changes it, unless it returns FEVSTUNIK_SHORT_BUFFER,
- * FEVSTUNIK_BAD_NEGOTIATION or FEVSTUNIK_OUT_OF_MEMORY: then call again with the same token.
- * `wrapped` is filled on FEVSTUNIK_OK and FEVSTUNIK_SHORT_BUFFER. The buffer must not overlap the
- * token.
+ * found only by a mechListMIC, which fevstunik_service_answer makes and checks, and this call
+ * doesn't. `negotiation` is all zero before the first token. The call changes it, unless it returns
+ * FEVSTUNIK_SHORT_BUFFER, FEVSTUNIK_BAD_NEGOTIATION or FEVSTUNIK_OUT_OF_MEMORY: then call again
+ * with the same token. `wrapped` is filled on FEVSTUNIK_OK and FEVSTUNIK_SHORT_BUFFER. The buffer
+ * must not overlap the token.
  *
  * Returns FEVSTUNIK_OK or FEVSTUNIK_SHORT_BUFFER; or writes nothing to the buffer and returns one
  * of the codes from FEVSTUNIK_NOT_A_TOKEN to FEVSTUNIK_NESTED_NEGOTIATION,

@@ -12,8 +12,10 @@ bool store_open(struct store *store, const char *name, int seconds)
     for (size_t at = 0; name[size] == ':' && at < sizeof kinds / sizeof *kinds; at++)
         if (strlen(kinds[at]->name) == size && strncmp(name, kinds[at]->name, size) == 0)
             store->kind = kinds[at];
-    if (store->kind == NULL)
+    if (store->kind == NULL) {
+        fprintf(stderr, "%s: a store is named sqlite:PATH or redis:SOCKET\n", name);
         return false;
+    }
     store->where = name + size + 1;
     store->wait = 1000 * (int64_t)seconds;
     pthread_mutex_init(&store->lock, NULL);

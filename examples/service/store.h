@@ -10,7 +10,9 @@
 #include "sources.h"
 
 /* The largest skew of the services that share a store, in seconds, for which a store is made. */
+#ifndef LARGEST_SKEW
 #define LARGEST_SKEW 300
+#endif
 /* How many connections are kept for later calls, and how many bytes the path of a store has at most. */
 #define KEPT 16
 #define PATH_SIZE 4096
