@@ -1,6 +1,6 @@
 //! Some of the items.
 
-ghost use Rattle.std.specs.Prelude.{◌≡◌, ◌≢◌, ◌↔◌, ◌≤◌, ◌<◌, ◌≤ℤ◌, ◌<ℤ◌, ◌∷◌, ℤ, [], All, Contains, IfOk, IsTrue, MatchOption, OnErr, OnOk, drop, false, length, slice_index_or, take};
+ghost use Rattle.std.specs.Prelude.{◌≡◌, ◌≢◌, ◌-◌, ◌↔◌, ◌≤◌, ◌<◌, ◌≤ℤ◌, ◌<ℤ◌, ◌∷◌, ℤ, [], All, Contains, IfOk, IsTrue, MatchOption, OnErr, OnOk, drop, false, length, slice_index_or, take};
 ghost use Rattle.std.specs.List.{remove};
 ghost use Rattle.krb_tally.specs.Times.{HasEqual, LacksEqual, number_since};
 ghost use Rattle.krb_tally.specs.Inner.Buckets.{AddsIn, IsAt, IsRising};
@@ -19,14 +19,15 @@ pub(crate) struct Bucket<T: Timed> {
 }
 
 impl<T: Timed> Model for Bucket<T> {
-    ghost use Rattle.std.specs.Prelude.{◌<◌, List, length};
+    ghost use Rattle.std.specs.Prelude.{◌<◌, ◌≤◌, List, length};
     ghost use Rattle.krb_tally.specs.Inner.Buckets.{IsRising};
 
     ghost Value = { List T };
 
     ghost view = { λ bucket. bucket.items.items };
 
-    ghost invariant = { λ bucket. (0 < length bucket.items.items) × IsRising T.timestamp bucket.items.items };
+    ghost invariant = { λ bucket. (0 < length bucket.items.items)
+        × ((length bucket.items.items ≤ 512) × IsRising T.timestamp bucket.items.items) };
 }
 
 impl<T: Timed + Drop> Bucket<T> {
@@ -42,12 +43,14 @@ impl<T: Timed + Drop> Bucket<T> {
     pub(crate) fn len(&self) -> usize
         ensures len { result ≡ length self.now }
         ensures some { 0 < result }
+        ensures most { result ≤ 512 }
     {
         self.items.len()
     }
 
     pub(crate) fn is_full(&self) -> bool
-        ensures { IsTrue result → 512 ≤ length self.now }
+        ensures full { IsTrue result → 512 ≤ length self.now }
+        ensures room { result ≡ false → length self.now < 512 }
     {
         self.items.len() >= MOST
     }
@@ -65,6 +68,7 @@ impl<T: Timed + Drop> Bucket<T> {
     pub(crate) fn last(&self) -> &T
         ensures there { Contains self.now result.now }
         ensures greatest { All (λ item. T.timestamp item ≤ℤ T.timestamp result.now) self.now }
+        ensures place { result.now ≡ slice_index_or self.now (length self.now - 1) result.now }
     {
         &self.items[self.items.len() - 1]
     }
@@ -72,6 +76,7 @@ impl<T: Timed + Drop> Bucket<T> {
     /// Adds an item. Makes room for an eighth more if there is none, and not for twice as many, so that
     /// little room is unused.
     pub(crate) fn add(&mut self, item: T) -> Result<(), AllocError>
+        requires { length self.old < 512 }
         ensures ok { OnOk result (AddsIn T.timestamp self.old item self.new) }
         ensures err { OnErr result (self.new ≡ self.old) }
     {
@@ -90,6 +95,7 @@ impl<T: Timed + Drop> Bucket<T> {
     }
 
     fn insert(&mut self, item: T) -> Result<(), AllocError>
+        requires { length self.old < 512 }
         ensures ok { OnOk result (AddsIn T.timestamp self.old item self.new) }
         ensures err { OnErr result (self.new ≡ self.old) }
     {
@@ -141,6 +147,8 @@ impl<T: Timed + Drop> Bucket<T> {
         requires { 512 ≤ length self.old }
         ensures lower { OnOk result (self.new ≡ take 256 self.old) }
         ensures upper { IfOk result (λ bucket. bucket ≡ drop 256 self.old) }
+        ensures lower_room { OnOk result (length self.new < 512) }
+        ensures upper_room { IfOk result (λ bucket. length bucket < 512) }
         ensures err { OnErr result (self.new ≡ self.old) }
     {
         let upper = self.halve()?;
@@ -152,6 +160,8 @@ impl<T: Timed + Drop> Bucket<T> {
         requires { 512 ≤ length self.old }
         ensures lower { OnOk result (self.new ≡ take 256 self.old) }
         ensures upper { IfOk result (λ bucket. bucket ≡ drop 256 self.old) }
+        ensures lower_room { OnOk result (length self.new < 512) }
+        ensures upper_room { IfOk result (λ bucket. length bucket < 512) }
         ensures err { OnErr result (self.new ≡ self.old) }
     {
         let items = self.items.split_off(MOST / 2)?;
@@ -168,7 +178,7 @@ impl<T: Timed + Drop> Bucket<T> {
 impl<T: Timed + PartialEq> Bucket<T> {
     /// Returns whether there is an equal item of the same time.
     pub(crate) fn has(&self, item: &T) -> bool
-        ensures found { IsTrue result → HasEqual T.eq self.now item.now }
+        ensures found { IsTrue result → HasEqual T.timestamp T.eq self.now item.now }
         ensures lacks { result ≡ false → LacksEqual T.timestamp T.eq self.now item.now }
     {
         let at = number_before(self.items.as_slice(), item.timestamp());
@@ -176,10 +186,12 @@ impl<T: Timed + PartialEq> Bucket<T> {
     }
 }
 
-// Whether some of the items, which are in order, has the same time and is equal.
+// Whether some of the items, which are in order and not before the item, has the same time and is
+// equal.
 fn has_among<T: Timed + PartialEq>(items: &[T], item: &T) -> bool
-    requires { IsRising T.timestamp items.now }
-    ensures found { IsTrue result → HasEqual T.eq items.now item.now }
+    requires rising { IsRising T.timestamp items.now }
+    requires from { All (λ one. T.timestamp item.now ≤ℤ T.timestamp one) items.now }
+    ensures found { IsTrue result → HasEqual T.timestamp T.eq items.now item.now }
     ensures lacks { result ≡ false → LacksEqual T.timestamp T.eq items.now item.now }
 {
     for one in items {

@@ -1,9 +1,9 @@
 //! Items in the order of their times.
 
-ghost use Rattle.std.specs.Prelude.{◌≡◌, ◌≢◌, ◌↔◌, ◌∷◌, ◌+◌, ◌≤◌, ◌<◌, ◌≤ℤ◌, ◌<ℤ◌, ◌^◌, ℤ, suc, [], All, Contains, IfOk, IsTrue, MatchOption, OnErr, OnOk, Some, drop, false, length, slice_get, slice_index_or, take, true};
+ghost use Rattle.std.specs.Prelude.{◌≡◌, ◌≢◌, ◌↔◌, ◌∷◌, ◌⊎◌, ◌+◌, ◌-◌, ◌≤◌, ◌<◌, ◌≤ℤ◌, ◌<ℤ◌, ◌^◌, ℤ, suc, [], All, Contains, IfOk, IsTrue, MatchOption, OnErr, OnOk, Some, drop, false, length, slice_get, slice_index_or, take, true};
 ghost use Rattle.std.specs.List.Sorted.{IsPermutation};
 ghost use Rattle.krb_tally.specs.Times.{HasEqual, LacksEqual, number_since};
-ghost use Rattle.krb_tally.specs.Inner.Buckets.{Fits, IsIn, IsPlace, IsRising, Reaches, TakesOut, all_of};
+ghost use Rattle.krb_tally.specs.Inner.Buckets.{Fits, Halves, IsIn, IsPlace, IsRising, Reaches, TakesOut, all_of};
 
 use crate::bucket::Bucket;
 use crate::timed::Timed;
@@ -69,6 +69,7 @@ impl<T: Timed + Drop> Tally<T> {
 
     /// Returns the last item, if there is any. No other is after it.
     pub fn last(&self) -> Option<&T>
+        ensures last { MatchOption result (self.now ≡ []) (λ last. slice_get self.now (length self.now - 1) ≡ Some last.now) }
         ensures there { MatchOption result (self.now ≡ []) (λ last. Contains self.now last.now) }
         ensures greatest { MatchOption result (self.now ≡ []) (λ last. All (λ item. T.timestamp item ≤ℤ T.timestamp last.now) self.now) }
     {
@@ -123,7 +124,7 @@ impl<T: Timed + Drop> Tally<T> {
 impl<T: Timed + PartialEq + Drop> Tally<T> {
     /// Returns whether there is an equal item of the same time.
     pub fn has(&self, item: &T) -> bool
-        ensures found { IsTrue result → HasEqual T.eq self.now item.now }
+        ensures found { IsTrue result → HasEqual T.timestamp T.eq self.now item.now }
         ensures lacks { result ≡ false → LacksEqual T.timestamp T.eq self.now item.now }
     {
         let buckets = self.buckets.as_slice();
@@ -135,7 +136,7 @@ impl<T: Timed + PartialEq + Drop> Tally<T> {
 // Whether the buckets have an equal item of the same time.
 fn has_in<T: Timed + PartialEq + Drop>(buckets: &[Bucket<T>], item: &T) -> bool
     requires { IsRising T.timestamp (all_of buckets.now) }
-    ensures found { IsTrue result → HasEqual T.eq (all_of buckets.now) item.now }
+    ensures found { IsTrue result → HasEqual T.timestamp T.eq (all_of buckets.now) item.now }
     ensures lacks { result ≡ false → LacksEqual T.timestamp T.eq (all_of buckets.now) item.now }
 {
     for bucket in buckets {
@@ -164,6 +165,7 @@ fn first_of<T: Timed + Drop>(buckets: &[Bucket<T>]) -> Option<&T>
 // The last of the items, which are in order.
 fn last_of<T: Timed + Drop>(buckets: &[Bucket<T>]) -> Option<&T>
     requires { IsRising T.timestamp (all_of buckets.now) }
+    ensures last { MatchOption result (all_of buckets.now ≡ []) (λ last. slice_get (all_of buckets.now) (length (all_of buckets.now) - 1) ≡ Some last.now) }
     ensures there { MatchOption result (all_of buckets.now ≡ []) (λ last. Contains (all_of buckets.now) last.now) }
     ensures greatest { MatchOption result (all_of buckets.now ≡ []) (λ last. All (λ item. T.timestamp item ≤ℤ T.timestamp last.now) (all_of buckets.now)) }
 {
@@ -319,13 +321,32 @@ fn make_room<T: Timed + Drop>(buckets: &mut Vec<Bucket<T>>, time: i64) -> Result
     ensures place { IfOk result (λ room. room.bucket ≤ length buckets.new.items) }
     ensures new { IfOk result (λ room. room.is_new ≡ true → Fits T.timestamp buckets.new.items time room.bucket room.bucket) }
     ensures old { IfOk result (λ room. room.is_new ≡ false → (room.bucket < length buckets.new.items) × Fits T.timestamp buckets.new.items time room.bucket (suc room.bucket)) }
+    ensures room { IfOk result (λ room. room.is_new ≡ false → length (slice_index_or buckets.new.items room.bucket []) < 512) }
 {
     let room = room_for(buckets.as_slice(), time);
     if room.is_new || !buckets[room.bucket].is_full() {
         return Ok(room);
     }
     split(buckets, room.bucket)?;
-    Ok(room_for(buckets.as_slice(), time))
+    Ok(Room {
+        bucket: half_for(buckets.as_slice(), room.bucket, time),
+        is_new: false,
+    })
+}
+
+// Returns which of two buckets a new item goes into: into the one at `lower` or into the next.
+fn half_for<T: Timed + Drop>(buckets: &[Bucket<T>], lower: usize, time: i64) -> usize
+    requires within { suc lower < length buckets.now }
+    requires fits { Fits T.timestamp buckets.now time lower (suc (suc lower)) }
+    requires rising { IsRising T.timestamp (all_of buckets.now) }
+    ensures either { (result ≡ lower) ⊎ (result ≡ suc lower) }
+    ensures fits { Fits T.timestamp buckets.now time result (suc result) }
+{
+    if time < buckets[lower + 1].first().timestamp() {
+        lower
+    } else {
+        lower + 1
+    }
 }
 
 // Adds an item.
@@ -351,6 +372,7 @@ fn add_to<T: Timed + Drop>(
     requires within { bucket < length buckets.old.items }
     requires fits { Fits T.timestamp buckets.old.items (T.timestamp item) bucket (suc bucket) }
     requires rising { IsRising T.timestamp (all_of buckets.old.items) }
+    requires room { length (slice_index_or buckets.old.items bucket []) < 512 }
     ensures ok { OnOk result (IsPermutation (item ∷ all_of buckets.old.items) (all_of buckets.new.items)) }
     ensures err { OnErr result (all_of buckets.new.items ≡ all_of buckets.old.items) }
     ensures rising { IsRising T.timestamp (all_of buckets.new.items) }
@@ -392,7 +414,8 @@ fn begin<T: Timed + Drop>(buckets: &mut Vec<Bucket<T>>) -> Result<(), AllocError
 fn split<T: Timed + Drop>(buckets: &mut Vec<Bucket<T>>, bucket: usize) -> Result<(), AllocError>
     requires within { bucket < length buckets.old.items }
     requires full { 512 ≤ length (slice_index_or buckets.old.items bucket []) }
-    ensures { all_of buckets.new.items ≡ all_of buckets.old.items }
+    ensures same { all_of buckets.new.items ≡ all_of buckets.old.items }
+    ensures halves { OnOk result (Halves buckets.old.items bucket buckets.new.items) }
 {
     buckets.reserve(1)?;
     let upper = buckets[bucket].split()?;

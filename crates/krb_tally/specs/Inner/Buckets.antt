@@ -1,4 +1,4 @@
--- Items in buckets. A bucket's items are in the order of their times, and buckets follow each other in time.
+-- Items in buckets of at most 512. A bucket's items are in the order of their times, and buckets follow each other in time.
 use Rattle.std.specs.Prelude.{◌≡◌, ◌<◌, ◌≤ℤ◌, ℕ, ℤ, suc, List, [], ◌∷◌, ◌++◌, All, Contains, length, take, drop, slice_index_or, ⊤}
 
 -- the items of all buckets
@@ -15,6 +15,14 @@ pub record TakesOut {X : Type 0} (old : List (List X)) (bucket at : ℕ) (item :
   pub after : List X
   pub old_is : all_of old ≡ (all_of (take bucket old) ++ take at (slice_index_or old bucket [])) ++ item ∷ after
   pub new_is : all_of new ≡ (all_of (take bucket old) ++ take at (slice_index_or old bucket [])) ++ after
+
+-- a bucket has become two, each with room for more; the others are as they were
+pub record Halves {X : Type 0} (old : List (List X)) (bucket : ℕ) (new : List (List X)) : Type 0 where
+  pub within : suc bucket < length new
+  pub before : take bucket new ≡ take bucket old
+  pub lower : length (slice_index_or new bucket []) < 512
+  pub upper : length (slice_index_or new (suc bucket) []) < 512
+  pub after : drop (suc (suc bucket)) new ≡ drop (suc bucket) old
 
 module _ {X : Type 0} (time : X → ℤ) where
   -- no item is after a later one
@@ -40,12 +48,12 @@ module _ {X : Type 0} (time : X → ℤ) where
   abbrev pub IsIn : List (List X) → ℕ → ℕ → ℤ → Type 0
   IsIn buckets bucket at moment = (bucket < length buckets) × IsAt (slice_index_or buckets bucket []) at moment
 
-  -- a bucket's last item isn't before a moment, and no later bucket has an item before that one
+  -- one of a bucket's items isn't before a moment, and no later bucket has an item before that one
   pub record Reaches (buckets : List (List X)) (bucket : ℕ) (moment : ℤ) : Type 0 where
-    pub last : X
-    pub there : Contains (slice_index_or buckets bucket []) last
-    pub not_before : moment ≤ℤ time last
-    pub later : All (λ one. time last ≤ℤ time one) (all_of (drop (suc bucket) buckets))
+    pub late : X
+    pub there : Contains (slice_index_or buckets bucket []) late
+    pub not_before : moment ≤ℤ time late
+    pub later : All (λ one. time late ≤ℤ time one) (all_of (drop (suc bucket) buckets))
 
   -- a time fits after the buckets before one place, and before those from another on
   pub record Fits (buckets : List (List X)) (moment : ℤ) (before from : ℕ) : Type 0 where

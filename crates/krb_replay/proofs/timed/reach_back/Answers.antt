@@ -40,3 +40,17 @@ returns-clause-shrinks c =
     let same : length c.free_first.new.self ≡ length c.loop.held = ap (λ (stamps : List Stamp). length stamps) (c.free_first.ensures.none c.loop-test.false).0 in
     let less = c.loop.invariant.shrinks in
     omega arith
+
+pub returns-then-oldest-time-clause-live : goal.returns-then-oldest-time-clause-live
+returns-then-oldest-time-clause-live c = λ late. let early = c.if-oldest-time.true in absurd (omega (arith, ints))
+
+pub returns-clause-live : goal.returns-clause-live
+returns-clause-live c = λ _.
+    let o : to_z w64 (of_z w64 c.args.oldest) ≡ c.args.oldest = omega (arith, ints) in
+    let none = c.free_first.ensures.none c.loop-test.false in
+    let all : since c.args.oldest c.loop.held ≡ c.loop.held = ap (λ (oldest : ℤ). since oldest c.loop.held) (sym o) ∙ none.1 in
+    let later = c.if-oldest-time.false in
+    let t : to_z w64 (of_z w64 c.args.time) ≡ c.args.time = omega (arith, ints) in
+    ap (λ (time : ℤ). since time c.free_first.new.self) t
+    ∙ (ap (λ (stamps : List Stamp). since c.args.time stamps) none.0
+    ∙ (recent_before c.args.oldest c.args.time c.loop.held all (omega (arith, ints)) ∙ sym none.0))

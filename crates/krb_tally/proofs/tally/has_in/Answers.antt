@@ -22,8 +22,8 @@ returns-then-timestamp-clause-lacks g c = λ _.
 
 pub returns-then-has-clause-found : goal.returns-then-has-clause-found
 returns-then-has-clause-found g c = λ _.
-    found_in g.T.PartialEq.eq c.args.buckets.now c.loop-bucket.bucket-index c.args.item.now c.loop-bucket-test.true
-    (subst (λ items. HasEqual g.T.PartialEq.eq items c.args.item.now) (get_or_read c.args.buckets.now c.loop-bucket.bucket-index c.bucket-item.result c.loop-bucket-test.true c.bucket-item.is [])
+    found_in g.T.Timed.timestamp g.T.PartialEq.eq c.args.buckets.now c.loop-bucket.bucket-index c.args.item.now c.loop-bucket-test.true
+    (subst (λ items. HasEqual g.T.Timed.timestamp g.T.PartialEq.eq items c.args.item.now) (get_or_read c.args.buckets.now c.loop-bucket.bucket-index c.bucket-item.result c.loop-bucket-test.true c.bucket-item.is [])
     (c.has.ensures.found c.if-has.true))
 
 pub loop-bucket-preserved : goal.loop-bucket-preserved

@@ -10,7 +10,8 @@ invariant_of-result g c =
     let half = ap (λ items. length items) c.in_ok-items.ensures.tail in
     let rest = length-drop 256 c.self.inside.items.items in
     let full = c.requires in
-    (omega arith, subst (λ items. IsRising g.T.Timed.timestamp items) (sym c.in_ok-items.ensures.tail) (rising_drop g.T.Timed.timestamp 256 c.self.inside.items.items c.self.invariant.1))
+    let most = c.self.invariant.1.0 in
+    (omega arith, (omega arith, subst (λ items. IsRising g.T.Timed.timestamp items) (sym c.in_ok-items.ensures.tail) (rising_drop g.T.Timed.timestamp 256 c.self.inside.items.items c.self.invariant.1.1)))
 
 pub invariant_of-self-2 : goal.invariant_of-self-2
 invariant_of-self-2 g c =
@@ -20,4 +21,5 @@ invariant_of-self-2 g c =
     let whole = ap (λ items. length items) (take-append-drop 256 c.self.inside.items.items) in
     let sum = length-append (take 256 c.self.inside.items.items) (drop 256 c.self.inside.items.items) in
     let full = c.requires in
-    (omega arith, subst (λ items. IsRising g.T.Timed.timestamp items) (sym c.in_ok-items.ensures.items) (rising_take g.T.Timed.timestamp 256 c.self.inside.items.items c.self.invariant.1))
+    let most = c.self.invariant.1.0 in
+    (omega arith, (omega arith, subst (λ items. IsRising g.T.Timed.timestamp items) (sym c.in_ok-items.ensures.items) (rising_take g.T.Timed.timestamp 256 c.self.inside.items.items c.self.invariant.1.1)))

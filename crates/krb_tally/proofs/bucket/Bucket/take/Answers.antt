@@ -9,6 +9,6 @@ invariant_of-self g c =
     let others = c.requires.others in
     let within = c.requires.within in (
       omega (arith, c.remove.ensures.len),
-      subst (λ items. IsRising g.T.Timed.timestamp items) (sym c.remove.ensures.items)
-          (rising_remove g.T.Timed.timestamp c.self.inside.items.items c.args.at c.remove.result (omega arith) c.self.invariant.1),
+      (let most = c.self.invariant.1.0 in omega (arith, c.remove.ensures.len), subst (λ items. IsRising g.T.Timed.timestamp items) (sym c.remove.ensures.items)
+          (rising_remove g.T.Timed.timestamp c.self.inside.items.items c.args.at c.remove.result (omega arith) c.self.invariant.1.1)),
     )

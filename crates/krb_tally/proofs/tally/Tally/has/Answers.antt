@@ -17,9 +17,9 @@ has_in-requires g c =
 
 pub returns-clause-found : goal.returns-clause-found
 returns-clause-found g c = λ yes.
-    subst (λ items. HasEqual g.T.PartialEq.eq items c.args.item.now) (ap (λ buckets. all_of buckets) c.as_slice-buckets.ensures.value ∙ c.self.view_is)
-    (found_after g.T.PartialEq.eq c.as_slice-buckets.result.now c.bucket_for-bucket.result c.args.item.now
-    (subst (λ all. HasEqual g.T.PartialEq.eq (all_of all) c.args.item.now) (take_rest c.as_slice-buckets.result.now c.bucket_for-bucket.result) (c.has_in.ensures.found yes)))
+    subst (λ items. HasEqual g.T.Timed.timestamp g.T.PartialEq.eq items c.args.item.now) (ap (λ buckets. all_of buckets) c.as_slice-buckets.ensures.value ∙ c.self.view_is)
+    (found_after g.T.Timed.timestamp g.T.PartialEq.eq c.as_slice-buckets.result.now c.bucket_for-bucket.result c.args.item.now
+    (subst (λ all. HasEqual g.T.Timed.timestamp g.T.PartialEq.eq (all_of all) c.args.item.now) (take_rest c.as_slice-buckets.result.now c.bucket_for-bucket.result) (c.has_in.ensures.found yes)))
 
 pub returns-clause-lacks : goal.returns-clause-lacks
 returns-clause-lacks g c = λ no.
