@@ -16,7 +16,7 @@ use krb_tally::{Tally, Timed};
 use std::alloc::{AllocError, Global};
 use std::marker::Model;
 
-/// Tuples in the order of their times. Those with the same names share one copy of them. How many
+/// Tuples in order, by their times first. Those with the same names share one copy of them. How many
 /// tuples each pair of names has is counted, and the times of each client's tuples are kept a second
 /// time, so that those since a moment can be counted without a look at each. Names are kept as long
 /// as a tuple has them. (The names of a client's first tuple are kept as long as the client has any.)

@@ -18,10 +18,9 @@ const FREED_AT_ONCE: usize = 16;
 /// The memory for a service that runs for a long time: `advance` drops all tuples whose time is
 /// before the latest moment less the skew.
 ///
-/// Tuples may come in any order of time. The time for a look-up and a new tuple grows with the
-/// logarithm of how many tuples are held, and with how many of them are of the same microsecond.
-/// Counting tuples since a moment adds up how many are in each bucket of at most 512 tuples. (This is
-/// measured, and not proved.)
+/// Tuples may come in any order. The time for a look-up and a new tuple grows with the logarithm of
+/// how many tuples are held, also if many are of the same microsecond. Counting tuples since a moment
+/// adds up how many are in each bucket of at most 512 tuples. (This is measured, and not proved.)
 ///
 /// What `advance` drops is out of the set at once, and is freed later: each call of `expect`,
 /// `remember` and `advance` frees 16 tuples, if there are as many. A tuple that is older than what was

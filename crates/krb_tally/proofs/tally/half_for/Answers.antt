@@ -1,8 +1,7 @@
-use Rattle.std.proofs.Common.{◌≡◌, ◌+◌, ◌<◌, ◌≤ℤ◌, ℕ, suc, ℤ, List, [], All, Contains, length, get_or, add-one, sym, subst, arith, to_z, of_z}
-use Rattle.std.specs.Int.{w64}
+use Rattle.std.proofs.Common.{◌≡◌, ◌+◌, ◌<◌, ◌≤ℤ◌, ℕ, suc, ℤ, List, [], All, Contains, length, get_or, add-one, pos, sym, subst, arith}
 use Rattle.std.proofs.lemmas.Int.{ints}
 use Rattle.std.proofs.lemmas.List.{get_or_read}
-use Rattle.krb_tally.specs.Inner.Buckets.{Fits, IsRising, all_of}
+use Rattle.krb_tally.specs.Inner.Buckets.{Fits, IsRising, all_of, place_from}
 use Rattle.krb_tally.proofs.TallyLaws.{half_lower, half_upper}
 use Rattle.krb_tally.proofs.tally.half_for.Goals as goal
 
@@ -19,16 +18,13 @@ upper_one when buckets lower at here first time next within is rising fits there
     (half_upper when buckets lower first time within rising fits
     (subst (λ items. Contains items first) (get_or_read buckets (suc lower) here within (subst (λ (n : ℕ). here ≡ get_or buckets n here) next is) []) there) from)
 
-pub returns-then-time-timestamp-clause-fits : goal.returns-then-time-timestamp-clause-fits
-returns-then-time-timestamp-clause-fits g c =
-    let early = c.if-time-timestamp.true in
-    let said = c.timestamp.ensures in
-    lower_one g.T.Timed.timestamp c.args.buckets.now c.args.lower (c.args.lower + 1) c.index-buckets-lower.result c.first.result.now c.args.time (add-one c.args.lower) c.requires.within
-    c.index-buckets-lower.is c.requires.fits c.first.ensures.least (omega (arith, ints))
+pub returns-then-is_before-clause-fits : goal.returns-then-is_before-clause-fits
+returns-then-is_before-clause-fits g c =
+    let early = c.is_before.ensures.before c.if-is_before.true in
+    upper_one (place_from g.T.Ord.cmp c.args.item.now) c.args.buckets.now c.args.lower (c.args.lower + 1) c.index-buckets-lower.result c.first.result.now (pos 1) (add-one c.args.lower) c.requires.within
+    c.index-buckets-lower.is (c.requires.sorted.from c.args.item.now) c.requires.fits c.first.ensures.there (omega (arith, ints))
 
-pub returns-else-time-timestamp-clause-fits : goal.returns-else-time-timestamp-clause-fits
-returns-else-time-timestamp-clause-fits g c =
-    let late = c.if-time-timestamp.false in
-    let said = c.timestamp.ensures in
-    upper_one g.T.Timed.timestamp c.args.buckets.now c.args.lower (c.args.lower + 1) c.index-buckets-lower.result c.first.result.now c.args.time (add-one c.args.lower) c.requires.within
-    c.index-buckets-lower.is c.requires.rising c.requires.fits c.first.ensures.there (omega (arith, ints))
+pub returns-else-is_before-clause-fits : goal.returns-else-is_before-clause-fits
+returns-else-is_before-clause-fits g c =
+    lower_one (place_from g.T.Ord.cmp c.args.item.now) c.args.buckets.now c.args.lower (c.args.lower + 1) c.index-buckets-lower.result c.first.result.now (pos 1) (add-one c.args.lower) c.requires.within
+    c.index-buckets-lower.is c.requires.fits (c.first.ensures.least_from c.args.item.now) (c.is_before.ensures.from c.if-is_before.false)

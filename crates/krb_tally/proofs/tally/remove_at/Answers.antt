@@ -1,6 +1,6 @@
 use Rattle.std.proofs.Common.{◌≡◌, ◌∙◌, ◌<◌, length, get_or, set, ap, sym, subst, arith}
 use Rattle.std.specs.List.{remove}
-use Rattle.krb_tally.specs.Inner.Buckets.{IsRising, TakesOut, all_of}
+use Rattle.krb_tally.specs.Inner.Buckets.{IsRising, TakesOut, all_of, place_from}
 use Rattle.krb_tally.proofs.TallyLaws.{gone_in, less_in, stands, taken_rising}
 use Rattle.krb_tally.proofs.tally.remove_at.Goals as goal
 
@@ -48,3 +48,28 @@ returns-clause-rising g c =
     (gone_in c.args.buckets.now.items c.args.place.bucket c.remove.result c.requires.there.0 c.remove.ensures.value c.args.place.at c.into_item.result (omega arith)
     (subst (λ one. c.args.place.at < length one) (sym (stands c.args.buckets.now.items c.args.place.bucket c.remove.result c.requires.there.0 c.remove.ensures.value)) c.requires.there.1)
     c.into_item.ensures) c.requires.rising)
+
+pub returns-then-len-gt1-clause-sorted : goal.returns-then-len-gt1-clause-sorted
+returns-then-len-gt1-clause-sorted g c = record {
+  from = λ one_item.
+      taken_rising (place_from g.T.Ord.cmp one_item) c.args.buckets.now.items (set c.args.buckets.now.items c.args.place.bucket c.take.new.self) c.args.place.bucket c.args.place.at c.take.result
+      (less_in c.args.buckets.now.items c.args.place.bucket c.index_mut.result.now c.requires.there.0 c.index_mut.ensures.value c.args.place.at c.take.result c.take.new.self
+      (subst (λ one. c.args.place.at < length one) (sym (stands c.args.buckets.now.items c.args.place.bucket c.index_mut.result.now c.requires.there.0 c.index_mut.ensures.value)) c.requires.there.1)
+      c.take.ensures.item c.take.ensures.others) (c.requires.sorted.from one_item);
+}
+
+pub returns-clause-sorted : goal.returns-clause-sorted
+returns-clause-sorted g c = record {
+  from = λ one_item.
+      let one = c.if-len-gt1.false in
+      let len = c.len.ensures.len in
+      let same : c.index.result.now ≡ c.remove.result =
+      stands c.args.buckets.now.items c.args.place.bucket c.index.result.now c.requires.there.0 c.index.ensures
+      ∙ sym (stands c.args.buckets.now.items c.args.place.bucket c.remove.result c.requires.there.0 c.remove.ensures.value) in
+      let few = ap (λ items. length items) same in
+      subst (λ buckets. IsRising (place_from g.T.Ord.cmp one_item) (all_of buckets)) (sym c.remove.ensures.items)
+      (taken_rising (place_from g.T.Ord.cmp one_item) c.args.buckets.now.items (remove c.args.buckets.now.items c.args.place.bucket) c.args.place.bucket c.args.place.at c.into_item.result
+      (gone_in c.args.buckets.now.items c.args.place.bucket c.remove.result c.requires.there.0 c.remove.ensures.value c.args.place.at c.into_item.result (omega arith)
+      (subst (λ one. c.args.place.at < length one) (sym (stands c.args.buckets.now.items c.args.place.bucket c.remove.result c.requires.there.0 c.remove.ensures.value)) c.requires.there.1)
+      c.into_item.ensures) (c.requires.sorted.from one_item));
+}

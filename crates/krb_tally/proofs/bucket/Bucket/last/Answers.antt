@@ -1,6 +1,6 @@
 use Rattle.std.proofs.Common.{◌≡◌, ◌-◌, ℕ, ℤ, ◌≤ℤ◌, ◌<◌, List, All, arith, subst, length, take, suc, rules, get_or, sym}
 use Rattle.std.proofs.lemmas.List.{take_all}
-use Rattle.krb_tally.specs.Inner.Buckets.{IsRising}
+use Rattle.krb_tally.specs.Inner.Buckets.{IsRising, place_from}
 use Rattle.krb_tally.proofs.BucketLaws.{up_to}
 use Rattle.krb_tally.proofs.bucket.Bucket.last.Goals as goal
 
@@ -24,4 +24,9 @@ returns-clause-place g c =
 pub returns-clause-greatest : goal.returns-clause-greatest
 returns-clause-greatest g c =
     let len : c.len.result ≡ length c.self.inside.items.items = search rules in
-    greatest g.T.Timed.timestamp c.self.inside.items.items c.args.self.now c.len.result c.index.result.now c.self.invariant.0 len c.index.ensures c.self.invariant.1.1 c.self.view_is
+    greatest g.T.Timed.timestamp c.self.inside.items.items c.args.self.now c.len.result c.index.result.now c.self.invariant.0 len c.index.ensures c.self.invariant.1.1.0 c.self.view_is
+
+pub returns-clause-greatest_from : goal.returns-clause-greatest_from
+returns-clause-greatest_from g c = λ one.
+    let len : c.len.result ≡ length c.self.inside.items.items = search rules in
+    greatest (place_from g.T.Ord.cmp one) c.self.inside.items.items c.args.self.now c.len.result c.index.result.now c.self.invariant.0 len c.index.ensures (c.self.invariant.1.1.1.from one) c.self.view_is
