@@ -325,6 +325,17 @@ module _ {X : Type 0} (when : X → ℤ) where
         (All-weaker (λ x. when first ≤ℤ when x) (λ x. when item <ℤ when x) (λ x from. omega (arith, ints)) here least)
         (All-weaker (λ x. when first ≤ℤ when x) (λ x. when item <ℤ when x) (λ x from. omega (arith, ints)) after (after_it first there)))))
 
+  -- a search goes on after a bucket, or ends by it, by its last item
+  module _ (buckets : List (List X)) (at : ℕ) (here : List X) (last : X) (moment : ℤ) (within : at < length buckets) (is : here ≡ get_or buckets at here) (rising : IsRising when (all_of buckets)) (there : Contains here last) where
+    pub goes_on : All (λ x. when x ≤ℤ when last) here → when last <ℤ moment → All (λ x. when x <ℤ moment) (all_of (take (at + 1) buckets))
+    goes_on greatest early =
+        let stands = get_or_read buckets at here within is [] in
+        all_before buckets at within rising last moment (subst (λ items. Contains items last) stands there)
+        (subst (λ items. All (λ x. when x ≤ℤ when last) items) stands greatest) early
+
+    pub ends_by : moment ≤ℤ when last → Reaches when buckets at moment
+    ends_by late = reaches buckets at within rising last moment (subst (λ items. Contains items last) (get_or_read buckets at here within is []) there) late
+
   pub end_fits : (buckets : List (List X)) (at : ℕ) (moment : ℤ) → length buckets ≤ at → All (λ x. when x <ℤ moment) (all_of (take at buckets)) → Fits when buckets moment at at
   end_fits buckets at moment end early = record {
     early = All-weaker (λ x. when x <ℤ moment) (λ x. when x ≤ℤ moment) (λ x upto. omega (arith, ints)) (all_of (take at buckets)) early;
