@@ -66,6 +66,19 @@ def requests(memory):
     yield "held", "1000 1700000100 1000"
 
 
+def one_time(count):
+    """As many tuples of one microsecond are remembered, each of another client and in no order, and then found."""
+    yield "memory timed", "memory"
+    clients = [name_word(1, b"EX", [b"user%d" % (7919 * it % count)]) for it in range(count)]
+    for call, answer in ("remember", "ok"), ("contains", "true"):
+        for client in clients:
+            yield f"{call} {SERVICE} {client} 1700000100 5", answer
+    for micros in 4, 6:
+        yield f"contains {SERVICE} {clients[0]} 1700000100 {micros}", "false"
+    yield f"contains {SERVICE} {name_word(1, b'EX', [b'nobody'])} 1700000100 5", "false"
+    yield "len", str(count)
+
+
 def errors():
     """The error of each code is built, and has that code (field 6 of a KRB-ERROR, RFC 4120, section 5.9.1)."""
     for cause, code in CODES.items():
@@ -77,7 +90,7 @@ def errors():
 SWEEPS = {
     "caches": (FILES, read_caches), "the last credential of caches": (EXCHANGE, asked_caches),
     "requests, list": (EXCHANGE, lambda: requests("list")), "requests, timed": (EXCHANGE, lambda: requests("timed")),
-    "errors": (EXCHANGE, errors),
+    "tuples of one microsecond": (EXCHANGE, lambda: one_time(200_000)), "errors": (EXCHANGE, errors),
 }
 
 

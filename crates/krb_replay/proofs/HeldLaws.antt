@@ -148,13 +148,6 @@ drop_all p (x ∷ xs) all =
     ap (λ (passes : Bool). cond passes (x ∷ filter p xs) (filter p xs)) (All-head (λ y. p y ≡ false) x xs all)
     ∙ drop_all p xs (All-tail (λ y. p y ≡ false) x xs all)
 
--- none is left if the greatest is before the moment
-pub none_left : (oldest : ℤ) (last : Stamp) (stamps : List Stamp) → All (λ stamp. stamp.time ≤ℤ last.time) stamps → last.time <ℤ oldest
-    → since oldest stamps ≡ []
-none_left oldest last stamps all early =
-    drop_all (λ stamp. not (is_before oldest stamp)) stamps
-    (λ k d within. ap not (early_is oldest (get_or stamps k d) (let before = all k d within in omega (arith, ints))))
-
 first_dropped : (oldest : ℤ) (x : Stamp) (xs : List Stamp) → x.time <ℤ oldest → since oldest (x ∷ xs) ≡ since oldest xs
 first_dropped oldest x xs early =
     ap (λ (before : Bool). cond (not before) (x ∷ since oldest xs) (since oldest xs)) (early_is oldest x early)

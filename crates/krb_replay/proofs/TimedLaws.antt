@@ -10,7 +10,7 @@ use Rattle.krb_replay.specs.Stamp.{RealmAndName, Stamp}
 use Rattle.krb_replay.specs.Limit.{HasAtLeast, IsOf, Since}
 use Rattle.krb_replay.specs.Memory.{AddsStamp, FreesSome, IsSizeOf, SameStamps, earlier_of, later_of}
 use Rattle.krb_replay.specs.Inner.Order.{name_cmp, name_total}
-use Rattle.krb_replay.specs.Inner.Held.{AreLive, FreesAtMost, IsLater, IsOnce, is_before, is_of, number_before, number_of, since}
+use Rattle.krb_replay.specs.Inner.Held.{FreesAtMost, IsLater, IsOnce, is_before, is_of, number_before, number_of, since}
 use Rattle.krb_replay.proofs.HeldLaws.{all_of_none, both_kept, from_filter, into_filter, recent_from, recent_is, two_sides}
 use Rattle.krb_replay.proofs.OrderLaws.{exact_names}
 use Rattle.krb_replay.proofs.OnceLaws.{once_cons, once_from_counts}
@@ -189,11 +189,10 @@ set_size oldest held size once is =
       size_is = refl;
     }) is
 
--- ---- what takes room: what is held, and what is aside
+-- ---- what takes room
 
-pub all_held : (oldest : ℤ) (held aside : List Stamp)
-    → length (since oldest held) + (number_before None oldest held + length aside) ≡ length held + length aside
-all_held oldest held aside =
+pub all_held : (oldest : ℤ) (held : List Stamp) → length (since oldest held) + number_before None oldest held ≡ length held
+all_held oldest held =
     let sides = two_sides None oldest held in
     let all = all_of_none held in
     let live = all_of_none (since oldest held) in
@@ -204,82 +203,83 @@ some_or_none back old zero is less = inl refl
 some_or_none back old (suc new) is less = inr (omega arith)
 
 -- nothing is left to free
-none_unfreed : (oldest : ℤ) (held aside : List Stamp) → AreLive oldest held aside → number_before None oldest held + length aside ≡ 0
-none_unfreed oldest held aside live =
-    let all = all_held oldest held aside in
-    let kept : length (since oldest held) ≡ length held = ap (λ (stamps : List Stamp). length stamps) live.0 in
-    let none : length aside ≡ 0 = ap (λ (stamps : List Stamp). length stamps) live.1 in
+none_unfreed : (oldest : ℤ) (held : List Stamp) → since oldest held ≡ held → number_before None oldest held ≡ 0
+none_unfreed oldest held live =
+    let all = all_held oldest held in
+    let kept : length (since oldest held) ≡ length held = ap (λ (stamps : List Stamp). length stamps) live in
     omega arith
 
--- no more is held and aside
-pub fewer_left : (oldest : ℤ) (old aside new left : List Stamp) → FreesAtMost 16 oldest old aside new left
-    → length new + length left ≤ length old + length aside
-fewer_left oldest old aside new left either = elim either [
+-- no more is held
+pub fewer_left : (oldest : ℤ) (old new : List Stamp) → FreesAtMost 16 oldest old new → length new ≤ length old
+fewer_left oldest old new either = elim either [
   | inl some ↦ omega arith
   | inr live ↦ live.1.0
 ]
 
 -- so many fewer are left to free
-pub frees_16 : (oldest : ℤ) (old aside new left : List Stamp) → since oldest new ≡ since oldest old → FreesAtMost 16 oldest old aside new left
-    → number_before None oldest new + length left ≡ number_before None oldest old + length aside - 16
-frees_16 oldest old aside new left same either =
-    let before = all_held oldest old aside in
-    let after = all_held oldest new left in
+pub frees_16 : (oldest : ℤ) (old new : List Stamp) → since oldest new ≡ since oldest old → FreesAtMost 16 oldest old new
+    → number_before None oldest new ≡ number_before None oldest old - 16
+frees_16 oldest old new same either =
+    let before = all_held oldest old in
+    let after = all_held oldest new in
     let kept : length (since oldest new) ≡ length (since oldest old) = ap (λ (stamps : List Stamp). length stamps) same in
     elim either [
       | inl some ↦ omega arith
-      | inr live ↦ (let none = none_unfreed oldest new left live.0 in let less = live.1.1 in omega arith)
+      | inr live ↦ (let none = none_unfreed oldest new live.0 in let less = live.1.1 in omega arith)
     ]
 
 -- what a new stamp frees: the set may reach back, some are freed, and the stamp is added
-pub frees_some : (oldest reached : ℤ) (old back between new aside left : List Stamp) → since reached back ≡ since oldest old → length back ≤ length old
-    → since reached between ≡ since reached back → FreesAtMost 16 reached back aside between left
-    → number_before None reached new ≡ number_before None reached between
-    → FreesSome 16 (number_before None oldest old + length aside) (number_before None reached new + length left)
-frees_some oldest reached old back between new aside left same fewer still either is =
-    let frees = frees_16 reached back aside between left still either in
-    let before = all_held oldest old aside in
-    let after = all_held reached back aside in
+pub frees_some : (oldest reached : ℤ) (old back between new : List Stamp) → since reached back ≡ since oldest old → length back ≤ length old
+    → since reached between ≡ since reached back → FreesAtMost 16 reached back between → number_before None reached new ≡ number_before None reached between
+    → FreesSome 16 (number_before None oldest old) (number_before None reached new)
+frees_some oldest reached old back between new same fewer still either is =
+    let frees = frees_16 reached back between still either in
+    let before = all_held oldest old in
+    let after = all_held reached back in
     let kept : length (since reached back) ≡ length (since oldest old) = ap (λ (stamps : List Stamp). length stamps) same in
-    some_or_none (number_before None reached back + length aside) (number_before None oldest old + length aside) (number_before None reached new + length left)
-    (omega arith) (omega arith)
+    some_or_none (number_before None reached back) (number_before None oldest old) (number_before None reached new) (omega arith) (omega arith)
 
 -- and if the set reaches the stamp already
-pub frees_16_for : (oldest : ℤ) (old between new aside left : List Stamp) → since oldest between ≡ since oldest old
-    → FreesAtMost 16 oldest old aside between left → number_before None oldest new ≡ number_before None oldest between
-    → number_before None oldest new + length left ≡ number_before None oldest old + length aside - 16
-frees_16_for oldest old between new aside left still either is =
-    let frees = frees_16 oldest old aside between left still either in
+pub frees_16_for : (oldest : ℤ) (old between new : List Stamp) → since oldest between ≡ since oldest old
+    → FreesAtMost 16 oldest old between → number_before None oldest new ≡ number_before None oldest between
+    → number_before None oldest new ≡ number_before None oldest old - 16
+frees_16_for oldest old between new still either is =
+    let frees = frees_16 oldest old between still either in
     omega arith
 
-pub grows_by_one : (oldest reached : ℤ) (old back between new aside left : List Stamp) → length back ≤ length old
-    → FreesAtMost 16 reached back aside between left → length new ≤ length between + 1
-    → length (since reached new) + (number_before None reached new + length left) ≤ length (since oldest old) + (number_before None oldest old + length aside) + 1
-grows_by_one oldest reached old back between new aside left fewer either one =
-    let less = fewer_left reached back aside between left either in
-    let before = all_held oldest old aside in
-    let after = all_held reached new left in
+-- and if it has to reach back
+pub frees_all : (reached : ℤ) (back between new : List Stamp) → since reached back ≡ back → since reached between ≡ since reached back
+    → FreesAtMost 16 reached back between → number_before None reached new ≡ number_before None reached between → number_before None reached new ≡ 0
+frees_all reached back between new live still either is =
+    let frees = frees_16 reached back between still either in
+    let none = none_unfreed reached back live in
     omega arith
 
--- what a moment frees: all may be put aside, and some are freed
-pub frees_dropped : (oldest later : ℤ) (old between new aside put left : List Stamp) → length between + length put ≡ length old + length aside
-    → since later new ≡ since later between → FreesAtMost 16 later between put new left
-    → number_before None later new + length left
-    ≡ length (since oldest old) + (number_before None oldest old + length aside) - length (since later new) - 16
-frees_dropped oldest later old between new aside put left all same either =
-    let frees = frees_16 later between put new left same either in
-    let kept : length (since later new) ≡ length (since later between) = ap (λ (stamps : List Stamp). length stamps) same in
-    let before = all_held oldest old aside in
-    let after = all_held later between put in
+pub grows_by_one : (oldest reached : ℤ) (old back between new : List Stamp) → length back ≤ length old
+    → FreesAtMost 16 reached back between → length new ≤ length between + 1
+    → length (since reached new) + number_before None reached new ≤ length (since oldest old) + number_before None oldest old + 1
+grows_by_one oldest reached old back between new fewer either one =
+    let less = fewer_left reached back between either in
+    let before = all_held oldest old in
+    let after = all_held reached new in
     omega arith
 
-pub shrinks : (oldest later : ℤ) (old between new aside put left : List Stamp) → length between + length put ≡ length old + length aside
-    → FreesAtMost 16 later between put new left
-    → length (since later new) + (number_before None later new + length left) ≤ length (since oldest old) + (number_before None oldest old + length aside)
-shrinks oldest later old between new aside put left all either =
-    let less = fewer_left later between put new left either in
-    let before = all_held oldest old aside in
-    let after = all_held later new left in
+-- what a moment frees
+pub frees_dropped : (oldest later : ℤ) (old new : List Stamp) → since later new ≡ since later old → FreesAtMost 16 later old new
+    → number_before None later new ≡ length (since oldest old) + number_before None oldest old - length (since later new) - 16
+frees_dropped oldest later old new same either =
+    let frees = frees_16 later old new same either in
+    let kept : length (since later new) ≡ length (since later old) = ap (λ (stamps : List Stamp). length stamps) same in
+    let before = all_held oldest old in
+    let after = all_held later old in
+    omega arith
+
+pub shrinks : (oldest later : ℤ) (old new : List Stamp) → FreesAtMost 16 later old new
+    → length (since later new) + number_before None later new ≤ length (since oldest old) + number_before None oldest old
+shrinks oldest later old new either =
+    let less = fewer_left later old new either in
+    let before = all_held oldest old in
+    let after = all_held later new in
     omega arith
 
 -- ---- the moment before which stamps are dropped

@@ -337,7 +337,7 @@ added_by old new added moved stamp = (
 )
 
 -- what a look-up finds
-pub found_by : (held stamps : List Stamp) (stamp : Stamp) (answer : Bool) → held ≡ stamps → (answer ≡ true → HasEqual (eq_by_cmp stamp_cmp) held stamp)
+pub found_by : (held stamps : List Stamp) (stamp : Stamp) (answer : Bool) → held ≡ stamps → (answer ≡ true → HasEqual (λ (one : Stamp). one.time) (eq_by_cmp stamp_cmp) held stamp)
     → (answer ≡ false → LacksEqual (λ (one : Stamp). one.time) (eq_by_cmp stamp_cmp) held stamp)
     → (answer ≡ true → Contains stamps stamp) × (Contains stamps stamp → answer ≡ true)
 found_by held stamps stamp true same found lacks = (

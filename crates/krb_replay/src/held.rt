@@ -16,7 +16,7 @@ use krb_tally::{Tally, Timed};
 use std::alloc::{AllocError, Global};
 use std::marker::Model;
 
-/// Tuples in the order of their times. Those with the same names share one copy of them. How many
+/// Tuples in order, by their times first. Those with the same names share one copy of them. How many
 /// tuples each pair of names has is counted, and the times of each client's tuples are kept a second
 /// time, so that those since a moment can be counted without a look at each. Names are kept as long
 /// as a tuple has them. (The names of a client's first tuple are kept as long as the client has any.)
@@ -68,16 +68,16 @@ impl Held {
         self.tuples.len()
     }
 
-    /// Returns about how many bytes are taken: 40 for a tuple, and 200 for two short names. A
+    /// Returns about how many bytes are taken: 28 for a tuple, and 200 for two short names. A
     /// tuple has at most two names of its own.
     pub(crate) fn bytes(&self) -> usize
-        ensures least { min (40 * length self.now) (2 ^ 64 - 1) ≤ result }
-        ensures most { result ≤ 240 * length self.now }
+        ensures least { min (28 * length self.now) (2 ^ 64 - 1) ≤ result }
+        ensures most { result ≤ 228 * length self.now }
     {
         let tuples = self.tuples.len();
         let pairs = tuples.min(self.pairs.len());
         tuples
-            .saturating_mul(40)
+            .saturating_mul(28)
             .saturating_add(pairs.saturating_mul(200))
     }
 
@@ -135,16 +135,6 @@ impl Held {
                 );
                 true
             }
-            None => false,
-        }
-    }
-
-    /// Returns whether there are any tuples, and all are before `oldest`.
-    pub(crate) fn are_before(&self, oldest: i64) -> bool
-        ensures { IsTrue result → since oldest self.now ≡ [] }
-    {
-        match self.tuples.last() {
-            Some(last) => last.timestamp() < oldest,
             None => false,
         }
     }

@@ -1,7 +1,7 @@
 //! A memory that forgets what is old.
 
-ghost use Rattle.std.specs.Prelude.{◌≡◌, ◌+◌, ◌≤◌, ◌≤ℤ◌, [], IsTrue, None, length, true, false};
-ghost use Rattle.krb_replay.specs.Inner.Held.{AreLive, FreesAtMost, IsLater, since};
+ghost use Rattle.std.specs.Prelude.{◌≡◌, ◌+◌, ◌≤◌, ◌≤ℤ◌, ◌<ℤ◌, [], None, length, true, false};
+ghost use Rattle.krb_replay.specs.Inner.Held.{FreesAtMost, IsLater, since};
 ghost use Rattle.krb_replay.specs.Memory.{earlier_of};
 
 use crate::held::Held;
@@ -11,7 +11,6 @@ use crate::tuple::Tuple;
 use krb_time::Moment;
 use std::alloc::{AllocError, Global};
 use std::marker::Model;
-use std::mem;
 
 // How many dropped tuples a call frees, if there are as many. A call adds at most one.
 const FREED_AT_ONCE: usize = 16;
@@ -19,30 +18,26 @@ const FREED_AT_ONCE: usize = 16;
 /// The memory for a service that runs for a long time: `advance` drops all tuples whose time is
 /// before the latest moment less the skew.
 ///
-/// Tuples may come in any order of time. The time for a look-up and a new tuple grows with the
-/// logarithm of how many tuples are held, and with how many of them are of the same microsecond.
-/// Counting tuples since a moment adds up how many are in each bucket of at most 512 tuples. (This is
-/// measured, and not proved.)
+/// Tuples may come in any order. The time for a look-up and a new tuple grows with the logarithm of
+/// how many tuples are held, also if many are of the same microsecond. Counting tuples since a moment
+/// adds up how many are in each bucket of at most 512 tuples. (This is measured, and not proved.)
 ///
 /// What `advance` drops is out of the set at once, and is freed later: each call of `expect`,
-/// `remember` and `advance` frees 16 tuples, if there are as many. If all tuples are too old, as after
-/// an idle time, they are put aside, and no other call sees them. A tuple that is older than what was
-/// dropped is remembered only after that is freed.
+/// `remember` and `advance` frees 16 tuples, if there are as many. A tuple that is older than what was
+/// dropped is remembered only after all of that is freed.
 ///
 /// Tuples of one service and one client share the two names. The names are freed with the last such
 /// tuple; those of a client's first tuple are freed with the client's last.
 #[derive(Debug, Drop)]
 pub struct TimedMemory {
     held: Held,
-    // What was dropped all at once, and isn't freed yet.
-    aside: Held,
     // Held tuples before this time, in microseconds since 1970-01-01T00:00:00Z, are dropped.
     oldest: i64,
     latest: Option<Moment>,
 }
 
 impl Model for TimedMemory {
-    ghost use Rattle.std.specs.Prelude.{◌+◌, None, length};
+    ghost use Rattle.std.specs.Prelude.{None};
     ghost use Rattle.krb_replay.specs.Inner.Held.{number_before, since};
     ghost use Rattle.krb_replay.specs.Memory.{Memory};
 
@@ -51,7 +46,7 @@ impl Model for TimedMemory {
     ghost view = { λ memory. record {
       stamps = since memory.oldest memory.held;
       latest = memory.latest;
-      unfreed = number_before None memory.oldest memory.held + length memory.aside;
+      unfreed = number_before None memory.oldest memory.held;
       oldest = memory.oldest;
     } };
 }
@@ -68,7 +63,6 @@ impl TimedMemory {
     {
         TimedMemory {
             held: Held::new(alloc),
-            aside: Held::new(alloc),
             oldest: i64::MIN,
             latest: None,
         }
@@ -81,16 +75,21 @@ impl TimedMemory {
         ensures size { (size : ℕ) → IsSizeOf (Contains self.now.stamps) size → result ≡ size + self.now.unfreed }
         ensures exact { result ≡ held_of self.now }
     {
-        self.held.len() + self.aside.len()
+        self.held.len()
     }
 
-    /// Returns about how many bytes these take. It is an estimate: 40 for a tuple, and 200 for the
+    /// Returns about how many bytes these take. It is an estimate: 28 for a tuple, and 200 for the
     /// two names that tuples share.
+    ///
+    /// A tuple takes 24 bytes, its buckets have at most an eighth more room if tuples come in the
+    /// order of their times, and the lists of buckets take less than 1 byte for each. Not counted
+    /// is the room of a bucket's freed tuples, until its last one is freed: at most 10,000 bytes, and
+    /// 5,000 for each client. Names of usual length take 200 to 290 bytes.
     pub fn bytes(&self) -> usize
-        ensures least { min (40 * held_of self.now) (2 ^ 64 - 1) ≤ result }
-        ensures most { result ≤ 240 * held_of self.now }
+        ensures least { min (28 * held_of self.now) (2 ^ 64 - 1) ≤ result }
+        ensures most { result ≤ 228 * held_of self.now }
     {
-        self.held.bytes().saturating_add(self.aside.bytes())
+        self.held.bytes()
     }
 }
 
@@ -132,8 +131,9 @@ impl ReplayMemory for TimedMemory {
 
         // 16 that were dropped are freed, or all if they are fewer.
         ensures frees { self.new.unfreed ≡ self.old.unfreed - 16 }
+        ensures shrinks { held_of self.new ≤ held_of self.old }
     {
-        free_some(&mut self.held, &mut self.aside, self.oldest);
+        free_some(&mut self.held, self.oldest);
     }
 
     fn remember(&mut self, tuple: Tuple) -> Result<(), AllocError>
@@ -143,14 +143,15 @@ impl ReplayMemory for TimedMemory {
         ensures newest { self.new.latest ≡ self.old.latest }
         ensures oldest { self.new.oldest ≡ earlier_of self.old.oldest tuple.time }
 
-        // 16 that were dropped are freed, or all if they are fewer. More may be freed only for a
-        // tuple that is older than what was dropped.
+        // 16 that were dropped are freed, or all if they are fewer. All are freed for a tuple that
+        // is older than what was dropped.
         ensures frees { FreesSome 16 self.old.unfreed self.new.unfreed }
         ensures frees_16 { self.old.oldest ≤ℤ tuple.time → self.new.unfreed ≡ self.old.unfreed - 16 }
+        ensures frees_all { tuple.time <ℤ self.old.oldest → self.new.unfreed ≡ 0 }
         ensures grows { held_of self.new ≤ held_of self.old + 1 }
     {
         let oldest = reach_back(&mut self.held, self.oldest, tuple.time().micros());
-        free_some(&mut self.held, &mut self.aside, oldest);
+        free_some(&mut self.held, oldest);
         let added = self.held.add(tuple);
         self.oldest = oldest;
         added
@@ -172,8 +173,7 @@ impl ReplayMemory for TimedMemory {
         let latest = later(self.latest, moment);
         let cut = latest.micros() - skew.micros();
         let oldest = later_moment(self.oldest, cut);
-        put_aside(&mut self.held, &mut self.aside, oldest);
-        free_some(&mut self.held, &mut self.aside, oldest);
+        free_some(&mut self.held, oldest);
         self.oldest = oldest;
         self.latest = Some(latest);
     }
@@ -200,6 +200,7 @@ fn reach_back(held: &mut Held, oldest: i64, time: i64) -> i64
     ensures reached { result ≤ℤ time }
     ensures value { result ≡ earlier_of oldest time }
     ensures stays { oldest ≤ℤ time → held.new ≡ held.old }
+    ensures live { time <ℤ oldest → since result held.new ≡ held.new }
     ensures shrinks { length held.new ≤ length held.old }
 {
     if oldest <= time {
@@ -209,37 +210,14 @@ fn reach_back(held: &mut Held, oldest: i64, time: i64) -> i64
     time
 }
 
-// Puts all that is held aside, if all of it is dropped, it is more than a call frees, and nothing is
-// aside yet.
-fn put_aside(held: &mut Held, aside: &mut Held, oldest: i64)
-    ensures same { since oldest held.new ≡ since oldest held.old }
-    ensures all { length held.new + length aside.new ≡ length held.old + length aside.old }
-{
-    if aside.len() == 0 && held.len() > FREED_AT_ONCE && held.are_before(oldest) {
-        mem::swap(held, aside);
-    }
-}
-
 // Frees 16 of what is dropped, or all if it is less.
-fn free_some(held: &mut Held, aside: &mut Held, oldest: i64)
+fn free_some(held: &mut Held, oldest: i64)
     ensures same { since oldest held.new ≡ since oldest held.old }
-    ensures frees { FreesAtMost 16 oldest held.old aside.old held.new aside.new }
+    ensures frees { FreesAtMost 16 oldest held.old held.new }
 {
     for _ in 0..FREED_AT_ONCE {
-        if !free_one(held, aside, oldest) {
+        if !held.free_first(oldest) {
             return;
         }
     }
-}
-
-// Frees one tuple that is dropped, if there is one, and returns whether it did.
-fn free_one(held: &mut Held, aside: &mut Held, oldest: i64) -> bool
-    ensures same { since oldest held.new ≡ since oldest held.old }
-    ensures freed { IsTrue result → length held.new + length aside.new + 1 ≡ length held.old + length aside.old }
-    ensures none { result ≡ false → AreLive oldest held.new aside.new × ((held.new ≡ held.old) × (aside.new ≡ aside.old)) }
-{
-    if held.free_first(oldest) {
-        return true;
-    }
-    aside.pop_first()
 }

@@ -11,7 +11,7 @@ ghost use Rattle.krb_replay.specs.Keeping.{kept_until};
 ghost use Rattle.krb_replay.specs.Stamp.{name_of};
 ghost use Rattle.std.specs.Option.{option_map};
 ghost use Rattle.krb_replay.specs.Inner.Held.{is_of};
-ghost use Rattle.krb_replay.specs.Inner.Order.{names_of, stamp_cmp, stamp_total};
+ghost use Rattle.krb_replay.specs.Inner.Order.{names_of, stamp_by_time, stamp_cmp, stamp_total};
 
 use crate::pair::{ByClient, Pair};
 use crate::skew::Skew;
@@ -157,6 +157,8 @@ fn moment_of(micros: i64) -> Option<Moment>
 
 impl Timed for Tuple {
     ghost timestamp = { λ stamp. stamp.time };
+
+    ghost by_time = { stamp_by_time };
 
     fn timestamp(&self) -> i64 {
         let time = self.time();

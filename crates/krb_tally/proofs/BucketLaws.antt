@@ -167,6 +167,14 @@ module _ {X : Type 0} (when : X → ℤ) where
       let m = length-append more.early (item ∷ more.late) in
       omega arith
 
+  pub added_most : (most : ℕ) (old new : List X) (item : X) → AddsIn when old item new → length old < most → length new ≤ most
+  added_most most old new item more few =
+      let n = ap (λ (items : List X). length items) more.new_is in
+      let m = length-append more.early (item ∷ more.late) in
+      let was = ap (λ (items : List X). length items) more.old_is in
+      let sum = length-append more.early more.late in
+      omega arith
+
   -- what is before a time, or after it, isn't an equal item of that time
   pub early_lacks : (eq : X → X → Bool) (items : List X) (item : X) → All (λ x. when x <ℤ when item) items → LacksEqual when eq items item
   early_lacks eq items item early k d within same = let before = early k d within in absurd (omega (arith, ints))
@@ -197,8 +205,8 @@ module _ {X : Type 0} (when : X → ℤ) where
       (All-nil (λ x. when x ≡ when item → eq x item ≡ false))))
 
 -- an item equal to one stands in a longer list, too
-pub has_right : {X : Type 0} (eq : X → X → Bool) (a b : List X) (item : X) → HasEqual eq b item → HasEqual eq (a ++ b) item
-has_right eq [] b item has = has
-has_right eq (x ∷ a) b item has =
-    let more = has_right eq a b item has in
-    record { one = more.one; there = (suc more.there.0, omega (arith, more.there.1), more.there.2); equal = more.equal }
+pub has_right : {X : Type 0} (when : X → ℤ) (eq : X → X → Bool) (a b : List X) (item : X) → HasEqual when eq b item → HasEqual when eq (a ++ b) item
+has_right when eq [] b item has = has
+has_right when eq (x ∷ a) b item has =
+    let more = has_right when eq a b item has in
+    record { one = more.one; there = (suc more.there.0, omega (arith, more.there.1), more.there.2); same_time = more.same_time; equal = more.equal }

@@ -1,2 +1,3 @@
 pub mod BucketLaws
+pub mod OrderLaws
 pub mod TallyLaws

@@ -1,14 +1,14 @@
 -- The items of all buckets, and after a change of one of them.
-use Rattle.std.proofs.Common.{◌≡◌, ℕ, zero, suc, ℤ, ◌≤ℤ◌, ◌<ℤ◌, ◌+◌, ◌<◌, ◌≤◌, Bool, false, List, [], ◌∷◌, ◌++◌, All, Contains, length, get_or, set, take, drop, refl, sym, ap, subst, ◌∙◌, append_assoc, length-append, int_lt, not, Option, Some, is_some, slice_get, unwrap_or, true≢false, arith}
+use Rattle.std.proofs.Common.{◌≡◌, ℕ, zero, suc, ℤ, ◌≤ℤ◌, ◌<ℤ◌, ◌+◌, ◌<◌, ◌≤◌, Bool, false, List, [], ◌∷◌, ◌++◌, All, Contains, length, get_or, set, take, drop, refl, sym, ap, subst, ◌∙◌, append_assoc, length-append, int_lt, not, ◌-◌, Option, Some, is_some, slice_get, unwrap_or, true≢false, arith}
 use Rattle.std.specs.List.{insert, remove}
 use Rattle.std.specs.List.Sorted.{IsPermutation}
 use Rattle.std.proofs.lemmas.Int.{ints}
-use Rattle.std.proofs.lemmas.List.{get_or_read, take-append-drop, take_more}
+use Rattle.std.proofs.lemmas.List.{append-nil, get_or_read, take-append-drop, take_more}
 use Rattle.std.proofs.lemmas.List.Elements.{All-append, All-contains, All-nil, All-weaker, Contains-append_left, Contains-append_right}
 use Rattle.std.proofs.lemmas.List.Sorted.{IsPermutation-middle, IsPermutation-sym}
 use Rattle.std.proofs.lemmas.List.Sums.{count_by-le-length, length-filter}
 use Rattle.krb_tally.specs.Times.{HasEqual, LacksEqual, number_since}
-use Rattle.krb_tally.specs.Inner.Buckets.{AddsIn, Fits, IsRising, Reaches, TakesOut, all_of}
+use Rattle.krb_tally.specs.Inner.Buckets.{AddsIn, Fits, Halves, IsRising, Reaches, TakesOut, all_of}
 use Rattle.krb_tally.proofs.BucketLaws.{all_left, all_right, all_since, apart, at_place, both_parts, early_lacks, has_right, lacks_both, late_lacks, none_since, rising_less, rising_more, rising_right}
 
 pub all_append : {X : Type 0} (a b : List (List X)) → all_of (a ++ b) ≡ all_of a ++ all_of b
@@ -51,6 +51,43 @@ module _ {X : Type 0} where
       sym (append_assoc lower upper (all_of xs)) ∙ ap (λ (one : List X). one ++ all_of xs) (sym both ∙ is)
   halved (x ∷ xs) (suc at) lower upper here within is both =
       ap (λ (rest : List X). x ++ rest) (halved xs at lower upper here (omega arith) is both)
+
+  -- and there is room in both
+  pub halves : (buckets : List (List X)) (at : ℕ) (lower upper : List X) → at < length buckets → length lower < 512 → length upper < 512
+      → Halves buckets at (insert (set buckets at lower) (suc at) upper)
+  halves [] at lower upper within few also = absurd (omega arith)
+  halves (x ∷ xs) zero lower upper within few also = record { within = omega arith; before = refl; lower = few; upper = also; after = refl }
+  halves (x ∷ xs) (suc at) lower upper within few also =
+      let rest = halves xs at lower upper (omega arith) few also in
+      record {
+        within = let more = rest.within in omega arith;
+        before = ap (λ (some : List (List X)). x ∷ some) rest.before;
+        lower = rest.lower;
+        upper = rest.upper;
+        after = rest.after;
+      }
+
+  -- the last item of two lists is that of the second
+  pub last_right : (a b : List X) (last : X) → 0 < length b → slice_get b (length b - 1) ≡ Some last → slice_get (a ++ b) (length (a ++ b) - 1) ≡ Some last
+  last_right [] b last some is = is
+  last_right (x ∷ a) b last some is =
+      let sum = length-append a b in
+      let place : length (x ∷ a ++ b) - 1 ≡ suc (length (a ++ b) - 1) = omega arith in
+      ap (λ (n : ℕ). slice_get (x ∷ a ++ b) n) place ∙ last_right a b last some is
+
+  -- the last of the last bucket is the last of all
+  pub last_of_all : (buckets : List (List X)) (at : ℕ) (last : X) → at < length buckets → length buckets ≤ suc at → 0 < length (get_or buckets at [])
+      → slice_get (get_or buckets at []) (length (get_or buckets at []) - 1) ≡ Some last → slice_get (all_of buckets) (length (all_of buckets) - 1) ≡ Some last
+  last_of_all [] at last within end some is = absurd (omega arith)
+  last_of_all (x ∷ xs) (suc at) last within end some is =
+      last_right x (all_of xs) last
+      (let sum = ap (λ (items : List X). length items) (at_bucket xs at (omega arith)) in
+      let one = length-append (all_of (take at xs)) (get_or xs at [] ++ all_of (drop (suc at) xs)) in
+      let two = length-append (get_or xs at []) (all_of (drop (suc at) xs)) in
+      omega arith)
+      (last_of_all xs at last (omega arith) (omega arith) some is)
+  last_of_all (x ∷ y ∷ xs) zero last within end some is = absurd (omega arith)
+  last_of_all (x ∷ []) zero last within end some is = subst (λ (items : List X). slice_get items (length items - 1) ≡ Some last) (sym (append-nil x)) is
 
   pub take_fewer : (P : X → Type 0) (buckets : List (List X)) (n : ℕ) → All P (all_of (take (suc n) buckets)) → All P (all_of (take n buckets))
   take_fewer P buckets zero all = All-nil P
@@ -213,7 +250,7 @@ module _ {X : Type 0} (when : X → ℤ) where
 
     -- a search ends by a bucket with a late item
     pub reaches : (last : X) (moment : ℤ) → Contains here last → moment ≤ℤ when last → Reaches when buckets at moment
-    reaches last moment there late = record { last = last; there = there; not_before = late; later = after_it last there }
+    reaches last moment there late = record { late = last; there = there; not_before = late; later = after_it last there }
 
     -- no item is of a time if none in the bucket for it is
     pub lacks_all : (moment : ℤ) → All (λ x. when x <ℤ moment) before → Reaches when buckets at moment → All (λ x. when x ≡ moment → ⊥) here
@@ -223,10 +260,10 @@ module _ {X : Type 0} (when : X → ℤ) where
         (All-append (λ x. when x ≡ moment → ⊥) before (here ++ after)
         (All-weaker (λ x. when x <ℤ moment) (λ x. when x ≡ moment → ⊥) (λ x upto same. omega (arith, ints)) before early)
         (All-append (λ x. when x ≡ moment → ⊥) here after none
-        (All-weaker (λ x. when reached.last ≤ℤ when x) (λ x. when x ≡ moment → ⊥)
+        (All-weaker (λ x. when reached.late ≤ℤ when x) (λ x. when x ≡ moment → ⊥)
         (λ x from same.
         let late = reached.not_before in
-        All-contains (λ y. when y ≡ moment → ⊥) here reached.last none reached.there (omega (arith, ints))) after reached.later)))
+        All-contains (λ y. when y ≡ moment → ⊥) here reached.late none reached.there (omega (arith, ints))) after reached.later)))
 
     -- those that count are in the bucket and the later ones
     pub number_from : (oldest : ℤ) → All (λ x. when x <ℤ oldest) before → Reaches when buckets at oldest
@@ -236,14 +273,14 @@ module _ {X : Type 0} (when : X → ℤ) where
         let one = both_parts when oldest before (here ++ after) in
         let two = both_parts when oldest here after in
         let none = none_since when oldest before early in
-        let all = all_since when oldest after (All-weaker (λ x. when reached.last ≤ℤ when x) (λ x. oldest ≤ℤ when x)
+        let all = all_since when oldest after (All-weaker (λ x. when reached.late ≤ℤ when x) (λ x. oldest ≤ℤ when x)
         (λ x from. let late = reached.not_before in omega (arith, ints)) after reached.later) in
         omega arith
 
     pub old_fits : (moment : ℤ) → All (λ x. when x <ℤ moment) before → Reaches when buckets at moment → Fits when buckets moment at (suc at)
     old_fits moment early reached = record {
       early = All-weaker (λ x. when x <ℤ moment) (λ x. when x ≤ℤ moment) (λ x upto. omega (arith, ints)) before early;
-      late = All-weaker (λ x. when reached.last ≤ℤ when x) (λ x. moment ≤ℤ when x) (λ x from. let late = reached.not_before in omega (arith, ints)) after reached.later;
+      late = All-weaker (λ x. when reached.late ≤ℤ when x) (λ x. moment ≤ℤ when x) (λ x from. let late = reached.not_before in omega (arith, ints)) after reached.later;
     }
 
     pub new_fits : (first : X) (moment : ℤ) → All (λ x. when x <ℤ moment) before → Reaches when buckets at moment → All (λ x. when first ≤ℤ when x) here → moment ≤ℤ when first
@@ -252,7 +289,7 @@ module _ {X : Type 0} (when : X → ℤ) where
       early = All-weaker (λ x. when x <ℤ moment) (λ x. when x ≤ℤ moment) (λ x upto. omega (arith, ints)) before early;
       late = drop_here (λ x. moment ≤ℤ when x) buckets at within
           (All-weaker (λ x. when first ≤ℤ when x) (λ x. moment ≤ℤ when x) (λ x late. omega (arith, ints)) here least)
-          (All-weaker (λ x. when reached.last ≤ℤ when x) (λ x. moment ≤ℤ when x) (λ x late. let from = reached.not_before in omega (arith, ints)) after reached.later);
+          (All-weaker (λ x. when reached.late ≤ℤ when x) (λ x. moment ≤ℤ when x) (λ x late. let from = reached.not_before in omega (arith, ints)) after reached.later);
     }
 
     pub somewhere : (item : X) → Contains here item → Contains (all_of buckets) item
@@ -288,10 +325,46 @@ module _ {X : Type 0} (when : X → ℤ) where
         (All-weaker (λ x. when first ≤ℤ when x) (λ x. when item <ℤ when x) (λ x from. omega (arith, ints)) here least)
         (All-weaker (λ x. when first ≤ℤ when x) (λ x. when item <ℤ when x) (λ x from. omega (arith, ints)) after (after_it first there)))))
 
+  -- a search goes on after a bucket, or ends by it, by its last item
+  module _ (buckets : List (List X)) (at : ℕ) (here : List X) (last : X) (moment : ℤ) (within : at < length buckets) (is : here ≡ get_or buckets at here) (rising : IsRising when (all_of buckets)) (there : Contains here last) where
+    pub goes_on : All (λ x. when x ≤ℤ when last) here → when last <ℤ moment → All (λ x. when x <ℤ moment) (all_of (take (at + 1) buckets))
+    goes_on greatest early =
+        let stands = get_or_read buckets at here within is [] in
+        all_before buckets at within rising last moment (subst (λ items. Contains items last) stands there)
+        (subst (λ items. All (λ x. when x ≤ℤ when last) items) stands greatest) early
+
+    pub ends_by : moment ≤ℤ when last → Reaches when buckets at moment
+    ends_by late = reaches buckets at within rising last moment (subst (λ items. Contains items last) (get_or_read buckets at here within is []) there) late
+
   pub end_fits : (buckets : List (List X)) (at : ℕ) (moment : ℤ) → length buckets ≤ at → All (λ x. when x <ℤ moment) (all_of (take at buckets)) → Fits when buckets moment at at
   end_fits buckets at moment end early = record {
     early = All-weaker (λ x. when x <ℤ moment) (λ x. when x ≤ℤ moment) (λ x upto. omega (arith, ints)) (all_of (take at buckets)) early;
     late = past (λ x. moment ≤ℤ when x) buckets at end;
+  }
+
+  -- what fits into two buckets fits into the first if it isn't after the second one's first item
+  pub half_lower : (buckets : List (List X)) (lower : ℕ) (first : X) (moment : ℤ) → suc lower < length buckets → Fits when buckets moment lower (suc (suc lower))
+      → All (λ x. when first ≤ℤ when x) (get_or buckets (suc lower) []) → moment ≤ℤ when first → Fits when buckets moment lower (suc lower)
+  half_lower buckets lower first moment within fits least upto = record {
+    early = fits.early;
+    late = drop_here (λ x. moment ≤ℤ when x) buckets (suc lower) within
+        (All-weaker (λ x. when first ≤ℤ when x) (λ x. moment ≤ℤ when x) (λ x from. omega (arith, ints)) (get_or buckets (suc lower) []) least) fits.late;
+  }
+
+  -- and into the second if it isn't before that
+  pub half_upper : (buckets : List (List X)) (lower : ℕ) (first : X) (moment : ℤ) → suc lower < length buckets → IsRising when (all_of buckets) → Fits when buckets moment lower (suc (suc lower))
+      → Contains (get_or buckets (suc lower) []) first → when first ≤ℤ moment → Fits when buckets moment (suc lower) (suc (suc lower))
+  half_upper buckets lower first moment within rising fits there from = record {
+    early = All-weaker (λ x. when x ≤ℤ when first) (λ x. when x ≤ℤ moment) (λ x upto. omega (arith, ints)) (all_of (take (suc lower) buckets))
+        (before_it buckets (suc lower) within rising first there);
+    late = fits.late;
+  }
+
+  -- what fits into a bucket fits into its two halves
+  pub halves_fit : (old new : List (List X)) (at : ℕ) (moment : ℤ) → Halves old at new → Fits when old moment at (suc at) → Fits when new moment at (suc (suc at))
+  halves_fit old new at moment halves fits = record {
+    early = subst (λ (some : List (List X)). All (λ x. when x ≤ℤ moment) (all_of some)) (sym halves.before) fits.early;
+    late = subst (λ (some : List (List X)). All (λ x. moment ≤ℤ when x) (all_of some)) (sym halves.after) fits.late;
   }
 
   -- what fits between two buckets fits into the one before
@@ -338,9 +411,10 @@ module _ {X : Type 0} (when : X → ℤ) where
       subst (λ (items : List X). LacksEqual when eq items item) (sym (cut buckets at))
       (lacks_both when eq (all_of (take at buckets)) (all_of (drop at buckets)) item (early_lacks when eq (all_of (take at buckets)) item early) rest)
 
-pub found_after : {X : Type 0} (eq : X → X → Bool) (buckets : List (List X)) (at : ℕ) (item : X) → HasEqual eq (all_of (drop at buckets)) item → HasEqual eq (all_of buckets) item
-found_after eq buckets at item has =
-    subst (λ items. HasEqual eq items item) (sym (cut buckets at)) (has_right eq (all_of (take at buckets)) (all_of (drop at buckets)) item has)
+pub found_after : {X : Type 0} (when : X → ℤ) (eq : X → X → Bool) (buckets : List (List X)) (at : ℕ) (item : X) → HasEqual when eq (all_of (drop at buckets)) item
+    → HasEqual when eq (all_of buckets) item
+found_after when eq buckets at item has =
+    subst (λ items. HasEqual when eq items item) (sym (cut buckets at)) (has_right when eq (all_of (take at buckets)) (all_of (drop at buckets)) item has)
 
 -- the first of the first bucket is the first of all
 pub head_of : {X : Type 0} (buckets : List (List X)) (here : List X) (first : X) → Some here ≡ slice_get buckets 0 → Contains here first → first ≡ get_or here 0 first
@@ -361,13 +435,14 @@ first_out old new bucket at item out first place =
     out.old_is ∙ (ap (λ before. before ++ item ∷ out.after) front ∙ ap (λ rest. item ∷ rest) (sym (out.new_is ∙ ap (λ before. before ++ out.after) front)))
 
 -- what is found in a bucket is one of all items
-pub found_in : {X : Type 0} (eq : X → X → Bool) (buckets : List (List X)) (at : ℕ) (item : X) → at < length buckets → HasEqual eq (get_or buckets at []) item
-    → HasEqual eq (all_of buckets) item
-found_in eq buckets at item within has =
-    subst (λ items. HasEqual eq items item) (sym (at_bucket buckets at within))
-    (has_right eq (all_of (take at buckets)) (get_or buckets at [] ++ all_of (drop (suc at) buckets)) item
+pub found_in : {X : Type 0} (when : X → ℤ) (eq : X → X → Bool) (buckets : List (List X)) (at : ℕ) (item : X) → at < length buckets → HasEqual when eq (get_or buckets at []) item
+    → HasEqual when eq (all_of buckets) item
+found_in when eq buckets at item within has =
+    subst (λ items. HasEqual when eq items item) (sym (at_bucket buckets at within))
+    (has_right when eq (all_of (take at buckets)) (get_or buckets at [] ++ all_of (drop (suc at) buckets)) item
     (record {
       one = has.one;
       there = Contains-append_left (get_or buckets at []) (all_of (drop (suc at) buckets)) has.one has.there;
+      same_time = has.same_time;
       equal = has.equal;
     }))

@@ -15,8 +15,9 @@ module _ {X : Type 0} (time : X → ℤ) where
   abbrev pub LacksEqual : (X → X → Bool) → List X → X → Type 0
   LacksEqual eq items item = All (λ one. time one ≡ time item → eq one item ≡ false) items
 
--- an item is equal to this one
-pub record HasEqual {X : Type 0} (eq : X → X → Bool) (items : List X) (item : X) : Type 0 where
-  pub one : X
-  pub there : Contains items one
-  pub equal : eq one item ≡ true
+  -- an item of the same time is equal to this one
+  pub record HasEqual (eq : X → X → Bool) (items : List X) (item : X) : Type 0 where
+    pub one : X
+    pub there : Contains items one
+    pub same_time : time one ≡ time item
+    pub equal : eq one item ≡ true

@@ -1,9 +1,9 @@
 //! Some of the items.
 
-ghost use Rattle.std.specs.Prelude.{◌≡◌, ◌≢◌, ◌↔◌, ◌≤◌, ◌<◌, ◌≤ℤ◌, ◌<ℤ◌, ◌∷◌, ℤ, [], All, Contains, IfOk, IsTrue, MatchOption, OnErr, OnOk, drop, false, length, slice_index_or, take};
+ghost use Rattle.std.specs.Prelude.{◌≡◌, ◌≢◌, ◌-◌, ◌↔◌, ◌≤◌, ◌<◌, ◌≤ℤ◌, ◌<ℤ◌, ◌∷◌, ℤ, pos, [], All, Contains, IfOk, IsTrue, MatchOption, OnErr, OnOk, drop, false, length, slice_index_or, take};
 ghost use Rattle.std.specs.List.{remove};
 ghost use Rattle.krb_tally.specs.Times.{HasEqual, LacksEqual, number_since};
-ghost use Rattle.krb_tally.specs.Inner.Buckets.{AddsIn, IsAt, IsRising};
+ghost use Rattle.krb_tally.specs.Inner.Buckets.{AddsIn, IsAt, IsRising, IsSorted, place_from};
 
 use crate::timed::Timed;
 use std::alloc::{AllocError, Global};
@@ -12,21 +12,23 @@ use std::marker::Model;
 // How many items a bucket holds at most.
 const MOST: usize = 512;
 
-/// From 1 to 512 items, in the order of their times.
+/// From 1 to 512 items, in order.
 #[derive(Debug, Drop)]
 pub(crate) struct Bucket<T: Timed> {
     items: Vec<T>,
 }
 
 impl<T: Timed> Model for Bucket<T> {
-    ghost use Rattle.std.specs.Prelude.{◌<◌, List, length};
-    ghost use Rattle.krb_tally.specs.Inner.Buckets.{IsRising};
+    ghost use Rattle.std.specs.Prelude.{◌<◌, ◌≤◌, List, length};
+    ghost use Rattle.krb_tally.specs.Inner.Buckets.{IsRising, IsSorted};
 
     ghost Value = { List T };
 
     ghost view = { λ bucket. bucket.items.items };
 
-    ghost invariant = { λ bucket. (0 < length bucket.items.items) × IsRising T.timestamp bucket.items.items };
+    ghost invariant = { λ bucket. (0 < length bucket.items.items)
+        × ((length bucket.items.items ≤ 512)
+        × (IsRising T.timestamp bucket.items.items × IsSorted T.cmp bucket.items.items)) };
 }
 
 impl<T: Timed + Drop> Bucket<T> {
@@ -42,12 +44,14 @@ impl<T: Timed + Drop> Bucket<T> {
     pub(crate) fn len(&self) -> usize
         ensures len { result ≡ length self.now }
         ensures some { 0 < result }
+        ensures most { result ≤ 512 }
     {
         self.items.len()
     }
 
     pub(crate) fn is_full(&self) -> bool
-        ensures { IsTrue result → 512 ≤ length self.now }
+        ensures full { IsTrue result → 512 ≤ length self.now }
+        ensures room { result ≡ false → length self.now < 512 }
     {
         self.items.len() >= MOST
     }
@@ -56,6 +60,7 @@ impl<T: Timed + Drop> Bucket<T> {
     pub(crate) fn first(&self) -> &T
         ensures there { Contains self.now result.now }
         ensures least { All (λ item. T.timestamp result.now ≤ℤ T.timestamp item) self.now }
+        ensures least_from { (one : T) → All (λ item. place_from T.cmp one result.now ≤ℤ place_from T.cmp one item) self.now }
         ensures place { result.now ≡ slice_index_or self.now 0 result.now }
     {
         &self.items[0]
@@ -65,6 +70,8 @@ impl<T: Timed + Drop> Bucket<T> {
     pub(crate) fn last(&self) -> &T
         ensures there { Contains self.now result.now }
         ensures greatest { All (λ item. T.timestamp item ≤ℤ T.timestamp result.now) self.now }
+        ensures greatest_from { (one : T) → All (λ item. place_from T.cmp one item ≤ℤ place_from T.cmp one result.now) self.now }
+        ensures place { result.now ≡ slice_index_or self.now (length self.now - 1) result.now }
     {
         &self.items[self.items.len() - 1]
     }
@@ -72,7 +79,8 @@ impl<T: Timed + Drop> Bucket<T> {
     /// Adds an item. Makes room for an eighth more if there is none, and not for twice as many, so that
     /// little room is unused.
     pub(crate) fn add(&mut self, item: T) -> Result<(), AllocError>
-        ensures ok { OnOk result (AddsIn T.timestamp self.old item self.new) }
+        requires { length self.old < 512 }
+        ensures ok { OnOk result (AddsIn (place_from T.cmp item) self.old item self.new) }
         ensures err { OnErr result (self.new ≡ self.old) }
     {
         self.make_room()?;
@@ -90,10 +98,11 @@ impl<T: Timed + Drop> Bucket<T> {
     }
 
     fn insert(&mut self, item: T) -> Result<(), AllocError>
-        ensures ok { OnOk result (AddsIn T.timestamp self.old item self.new) }
+        requires { length self.old < 512 }
+        ensures ok { OnOk result (AddsIn (place_from T.cmp item) self.old item self.new) }
         ensures err { OnErr result (self.new ≡ self.old) }
     {
-        let at = number_before(self.items.as_slice(), item.timestamp());
+        let at = number_below(self.items.as_slice(), &item);
         self.items.insert(at, item)?;
         Ok(())
     }
@@ -141,6 +150,8 @@ impl<T: Timed + Drop> Bucket<T> {
         requires { 512 ≤ length self.old }
         ensures lower { OnOk result (self.new ≡ take 256 self.old) }
         ensures upper { IfOk result (λ bucket. bucket ≡ drop 256 self.old) }
+        ensures lower_room { OnOk result (length self.new < 512) }
+        ensures upper_room { IfOk result (λ bucket. length bucket < 512) }
         ensures err { OnErr result (self.new ≡ self.old) }
     {
         let upper = self.halve()?;
@@ -152,6 +163,8 @@ impl<T: Timed + Drop> Bucket<T> {
         requires { 512 ≤ length self.old }
         ensures lower { OnOk result (self.new ≡ take 256 self.old) }
         ensures upper { IfOk result (λ bucket. bucket ≡ drop 256 self.old) }
+        ensures lower_room { OnOk result (length self.new < 512) }
+        ensures upper_room { IfOk result (λ bucket. length bucket < 512) }
         ensures err { OnErr result (self.new ≡ self.old) }
     {
         let items = self.items.split_off(MOST / 2)?;
@@ -165,35 +178,49 @@ impl<T: Timed + Drop> Bucket<T> {
     }
 }
 
-impl<T: Timed + PartialEq> Bucket<T> {
+impl<T: Timed> Bucket<T> {
     /// Returns whether there is an equal item of the same time.
     pub(crate) fn has(&self, item: &T) -> bool
-        ensures found { IsTrue result → HasEqual T.eq self.now item.now }
+        ensures found { IsTrue result → HasEqual T.timestamp T.eq self.now item.now }
         ensures lacks { result ≡ false → LacksEqual T.timestamp T.eq self.now item.now }
     {
-        let at = number_before(self.items.as_slice(), item.timestamp());
-        has_among(&self.items.as_slice()[at..], item)
-    }
-}
-
-// Whether some of the items, which are in order, has the same time and is equal.
-fn has_among<T: Timed + PartialEq>(items: &[T], item: &T) -> bool
-    requires { IsRising T.timestamp items.now }
-    ensures found { IsTrue result → HasEqual T.eq items.now item.now }
-    ensures lacks { result ≡ false → LacksEqual T.timestamp T.eq items.now item.now }
-{
-    for one in items {
-        if one.timestamp() > item.timestamp() {
+        let at = number_below(self.items.as_slice(), item);
+        if at == self.items.len() {
             return false;
         }
-        if one == item {
-            return true;
-        }
+        self.items[at].cmp(item).is_eq()
     }
-    false
 }
 
-// How many of the items, which are in order, are before `time`.
+/// Returns whether one item is before another in the order.
+pub(crate) fn is_before<T: Timed>(one: &T, other: &T) -> bool
+    ensures before { IsTrue result → place_from T.cmp other.now one.now <ℤ pos 1 }
+    ensures from { result ≡ false → pos 1 ≤ℤ place_from T.cmp other.now one.now }
+{
+    one.cmp(other).is_lt()
+}
+
+// How many of the items, which are in order, are before `item`.
+fn number_below<T: Timed>(items: &[T], item: &T) -> usize
+    requires { IsSorted T.cmp items.now }
+    ensures within { result ≤ length items.now }
+    ensures before { All (λ one. place_from T.cmp item.now one <ℤ pos 1) (take result items.now) }
+    ensures from { All (λ one. pos 1 ≤ℤ place_from T.cmp item.now one) (drop result items.now) }
+{
+    let mut low = 0;
+    let mut high = items.len();
+    while low < high {
+        let middle = low + (high - low) / 2;
+        if is_before(&items[middle], item) {
+            low = middle + 1;
+        } else {
+            high = middle;
+        }
+    }
+    low
+}
+
+// How many of the items, which are in order, have a time before `time`.
 fn number_before<T: Timed>(items: &[T], time: i64) -> usize
     requires { IsRising T.timestamp items.now }
     ensures within { result ≤ length items.now }

@@ -1,42 +1,42 @@
-//! Items in the order of their times.
+//! Items in order, by their times first.
 
-ghost use Rattle.std.specs.Prelude.{◌≡◌, ◌≢◌, ◌↔◌, ◌∷◌, ◌+◌, ◌≤◌, ◌<◌, ◌≤ℤ◌, ◌<ℤ◌, ◌^◌, ℤ, suc, [], All, Contains, IfOk, IsTrue, MatchOption, OnErr, OnOk, Some, drop, false, length, slice_get, slice_index_or, take, true};
+ghost use Rattle.std.specs.Prelude.{◌≡◌, ◌≢◌, ◌↔◌, ◌∷◌, ◌⊎◌, ◌+◌, ◌-◌, ◌≤◌, ◌<◌, ◌≤ℤ◌, ◌<ℤ◌, ◌^◌, ℤ, pos, suc, [], All, Contains, IfOk, IsTrue, MatchOption, OnErr, OnOk, Some, drop, false, length, slice_get, slice_index_or, take, true};
 ghost use Rattle.std.specs.List.Sorted.{IsPermutation};
 ghost use Rattle.krb_tally.specs.Times.{HasEqual, LacksEqual, number_since};
-ghost use Rattle.krb_tally.specs.Inner.Buckets.{Fits, IsIn, IsPlace, IsRising, Reaches, TakesOut, all_of};
+ghost use Rattle.krb_tally.specs.Inner.Buckets.{Fits, Halves, IsIn, IsPlace, IsRising, IsSorted, Reaches, TakesOut, all_of, place_from};
 
-use crate::bucket::Bucket;
+use crate::bucket::{Bucket, is_before};
 use crate::timed::Timed;
 use std::alloc::{AllocError, Global};
 use std::marker::Model;
 
-/// Items, each as often as it was added. A contract sees them as a list, in the order of their
-/// times.
+/// Items, each as often as it was added. A contract sees them as a list, in order.
 ///
 /// The items are in buckets of at most 512. A call finds its bucket by binary search, and its place
-/// in the bucket, too. `since` then adds up the lengths of the later buckets, and `has` goes through
-/// the items of the same time. Ten million items are in about 20,000 buckets if each was later than
-/// the one before, and in at most about 60,000 otherwise, if none is removed from the middle.
+/// in the bucket, too. `since` then adds up the lengths of the later buckets. Ten million items are
+/// in about 20,000 buckets if each was later than the one before, and in at most about 60,000
+/// otherwise, if none is removed from the middle.
 ///
 /// Each of many items takes its size and at most an eighth more. A bucket's memory is freed with its
 /// last item. (How long a call takes, and how much memory, isn't proved.)
 #[derive(Debug, Drop)]
 pub struct Tally<T: Timed> {
-    // They follow each other in time.
+    // They follow each other in order.
     buckets: Vec<Bucket<T>>,
     len: usize,
 }
 
 impl<T: Timed> Model for Tally<T> {
     ghost use Rattle.std.specs.Prelude.{◌≡◌, ◌<◌, ◌^◌, List, length};
-    ghost use Rattle.krb_tally.specs.Inner.Buckets.{IsRising, all_of};
+    ghost use Rattle.krb_tally.specs.Inner.Buckets.{IsRising, IsSorted, all_of};
 
     ghost Value = { List T };
 
     ghost view = { λ tally. all_of tally.buckets.items };
 
     ghost invariant = { λ tally. (tally.len ≡ length (all_of tally.buckets.items))
-        × ((length (all_of tally.buckets.items) < 2 ^ 63) × IsRising T.timestamp (all_of tally.buckets.items)) };
+        × ((length (all_of tally.buckets.items) < 2 ^ 63)
+        × (IsRising T.timestamp (all_of tally.buckets.items) × IsSorted T.cmp (all_of tally.buckets.items))) };
 }
 
 impl<T: Timed + Drop> Tally<T> {
@@ -69,6 +69,7 @@ impl<T: Timed + Drop> Tally<T> {
 
     /// Returns the last item, if there is any. No other is after it.
     pub fn last(&self) -> Option<&T>
+        ensures last { MatchOption result (self.now ≡ []) (λ last. slice_get self.now (length self.now - 1) ≡ Some last.now) }
         ensures there { MatchOption result (self.now ≡ []) (λ last. Contains self.now last.now) }
         ensures greatest { MatchOption result (self.now ≡ []) (λ last. All (λ item. T.timestamp item ≤ℤ T.timestamp last.now) self.now) }
     {
@@ -120,33 +121,48 @@ impl<T: Timed + Drop> Tally<T> {
     }
 }
 
-impl<T: Timed + PartialEq + Drop> Tally<T> {
+impl<T: Timed + Drop> Tally<T> {
     /// Returns whether there is an equal item of the same time.
     pub fn has(&self, item: &T) -> bool
-        ensures found { IsTrue result → HasEqual T.eq self.now item.now }
+        ensures found { IsTrue result → HasEqual T.timestamp T.eq self.now item.now }
         ensures lacks { result ≡ false → LacksEqual T.timestamp T.eq self.now item.now }
     {
-        let buckets = self.buckets.as_slice();
-        let bucket = bucket_for(buckets, item.timestamp());
-        has_in(&buckets[bucket..], item)
+        has_in(self.buckets.as_slice(), item)
     }
 }
 
 // Whether the buckets have an equal item of the same time.
-fn has_in<T: Timed + PartialEq + Drop>(buckets: &[Bucket<T>], item: &T) -> bool
-    requires { IsRising T.timestamp (all_of buckets.now) }
-    ensures found { IsTrue result → HasEqual T.eq (all_of buckets.now) item.now }
+fn has_in<T: Timed + Drop>(buckets: &[Bucket<T>], item: &T) -> bool
+    requires { IsSorted T.cmp (all_of buckets.now) }
+    ensures found { IsTrue result → HasEqual T.timestamp T.eq (all_of buckets.now) item.now }
     ensures lacks { result ≡ false → LacksEqual T.timestamp T.eq (all_of buckets.now) item.now }
 {
-    for bucket in buckets {
-        if bucket.first().timestamp() > item.timestamp() {
-            return false;
-        }
-        if bucket.has(item) {
-            return true;
+    let bucket = bucket_of(buckets, item);
+    if bucket == buckets.len() {
+        return false;
+    }
+    buckets[bucket].has(item)
+}
+
+// The first bucket whose last item isn't before an item. It is as many as there are if there is
+// none.
+fn bucket_of<T: Timed + Drop>(buckets: &[Bucket<T>], item: &T) -> usize
+    requires { IsSorted T.cmp (all_of buckets.now) }
+    ensures within { result ≤ length buckets.now }
+    ensures before { All (λ one. place_from T.cmp item.now one <ℤ pos 1) (all_of (take result buckets.now)) }
+    ensures reached { result < length buckets.now → Reaches (place_from T.cmp item.now) buckets.now result (pos 1) }
+{
+    let mut low = 0;
+    let mut high = buckets.len();
+    while low < high {
+        let middle = low + (high - low) / 2;
+        if is_before(buckets[middle].last(), item) {
+            low = middle + 1;
+        } else {
+            high = middle;
         }
     }
-    false
+    low
 }
 
 // The first of the items, which are in order.
@@ -164,6 +180,7 @@ fn first_of<T: Timed + Drop>(buckets: &[Bucket<T>]) -> Option<&T>
 // The last of the items, which are in order.
 fn last_of<T: Timed + Drop>(buckets: &[Bucket<T>]) -> Option<&T>
     requires { IsRising T.timestamp (all_of buckets.now) }
+    ensures last { MatchOption result (all_of buckets.now ≡ []) (λ last. slice_get (all_of buckets.now) (length (all_of buckets.now) - 1) ≡ Some last.now) }
     ensures there { MatchOption result (all_of buckets.now ≡ []) (λ last. Contains (all_of buckets.now) last.now) }
     ensures greatest { MatchOption result (all_of buckets.now ≡ []) (λ last. All (λ item. T.timestamp item ≤ℤ T.timestamp last.now) (all_of buckets.now)) }
 {
@@ -257,9 +274,11 @@ fn place_of_first<T: Timed + Drop>(buckets: &[Bucket<T>]) -> Option<Place>
 fn remove_at<T: Timed + Drop>(buckets: &mut Vec<Bucket<T>>, place: Place) -> T
     requires there { IsPlace buckets.old.items place.bucket place.at }
     requires rising { IsRising T.timestamp (all_of buckets.old.items) }
+    requires sorted { IsSorted T.cmp (all_of buckets.old.items) }
     ensures out { TakesOut buckets.old.items place.bucket place.at result buckets.new.items }
     ensures item { result ≡ slice_index_or (slice_index_or buckets.old.items place.bucket []) place.at result }
     ensures rising { IsRising T.timestamp (all_of buckets.new.items) }
+    ensures sorted { IsSorted T.cmp (all_of buckets.new.items) }
 {
     if buckets[place.bucket].len() > 1 {
         return buckets[place.bucket].take(place.at);
@@ -275,15 +294,15 @@ struct Room {
 }
 
 // Returns where a new item goes.
-fn room_for<T: Timed + Drop>(buckets: &[Bucket<T>], time: i64) -> Room
-    requires { IsRising T.timestamp (all_of buckets.now) }
+fn room_for<T: Timed + Drop>(buckets: &[Bucket<T>], item: &T) -> Room
+    requires { IsSorted T.cmp (all_of buckets.now) }
     ensures place { result.bucket ≤ length buckets.now }
-    ensures new { result.is_new ≡ true → Fits T.timestamp buckets.now time result.bucket result.bucket }
-    ensures old { result.is_new ≡ false → (result.bucket < length buckets.now) × Fits T.timestamp buckets.now time result.bucket (suc result.bucket) }
+    ensures new { result.is_new ≡ true → Fits (place_from T.cmp item.now) buckets.now (pos 1) result.bucket result.bucket }
+    ensures old { result.is_new ≡ false → (result.bucket < length buckets.now) × Fits (place_from T.cmp item.now) buckets.now (pos 1) result.bucket (suc result.bucket) }
 {
-    let bucket = bucket_for(buckets, time);
-    if bucket == buckets.len() || time <= buckets[bucket].first().timestamp() {
-        return room_between(buckets, bucket, time);
+    let bucket = bucket_of(buckets, item);
+    if bucket == buckets.len() || !is_before(buckets[bucket].first(), item) {
+        return room_between(buckets, bucket, item);
     }
     Room {
         bucket,
@@ -293,12 +312,12 @@ fn room_for<T: Timed + Drop>(buckets: &[Bucket<T>], time: i64) -> Room
 
 // Returns where an item goes that fits between two buckets: into the one before, or into the next,
 // or into a new one if both are full. So items that come in order fill the buckets.
-fn room_between<T: Timed + Drop>(buckets: &[Bucket<T>], next: usize, time: i64) -> Room
+fn room_between<T: Timed + Drop>(buckets: &[Bucket<T>], next: usize, item: &T) -> Room
     requires place { next ≤ length buckets.now }
-    requires fits { Fits T.timestamp buckets.now time next next }
+    requires fits { Fits (place_from T.cmp item.now) buckets.now (pos 1) next next }
     ensures place { result.bucket ≤ length buckets.now }
-    ensures new { result.is_new ≡ true → Fits T.timestamp buckets.now time result.bucket result.bucket }
-    ensures old { result.is_new ≡ false → (result.bucket < length buckets.now) × Fits T.timestamp buckets.now time result.bucket (suc result.bucket) }
+    ensures new { result.is_new ≡ true → Fits (place_from T.cmp item.now) buckets.now (pos 1) result.bucket result.bucket }
+    ensures old { result.is_new ≡ false → (result.bucket < length buckets.now) × Fits (place_from T.cmp item.now) buckets.now (pos 1) result.bucket (suc result.bucket) }
 {
     if next > 0 && !buckets[next - 1].is_full() {
         return Room {
@@ -313,29 +332,50 @@ fn room_between<T: Timed + Drop>(buckets: &[Bucket<T>], next: usize, time: i64) 
 }
 
 // Returns where a new item goes. Makes two buckets of its bucket first, if that is full.
-fn make_room<T: Timed + Drop>(buckets: &mut Vec<Bucket<T>>, time: i64) -> Result<Room, AllocError>
-    requires { IsRising T.timestamp (all_of buckets.old.items) }
+fn make_room<T: Timed + Drop>(buckets: &mut Vec<Bucket<T>>, item: &T) -> Result<Room, AllocError>
+    requires { IsSorted T.cmp (all_of buckets.old.items) }
     ensures same { all_of buckets.new.items ≡ all_of buckets.old.items }
     ensures place { IfOk result (λ room. room.bucket ≤ length buckets.new.items) }
-    ensures new { IfOk result (λ room. room.is_new ≡ true → Fits T.timestamp buckets.new.items time room.bucket room.bucket) }
-    ensures old { IfOk result (λ room. room.is_new ≡ false → (room.bucket < length buckets.new.items) × Fits T.timestamp buckets.new.items time room.bucket (suc room.bucket)) }
+    ensures new { IfOk result (λ room. room.is_new ≡ true → Fits (place_from T.cmp item.now) buckets.new.items (pos 1) room.bucket room.bucket) }
+    ensures old { IfOk result (λ room. room.is_new ≡ false → (room.bucket < length buckets.new.items) × Fits (place_from T.cmp item.now) buckets.new.items (pos 1) room.bucket (suc room.bucket)) }
+    ensures room { IfOk result (λ room. room.is_new ≡ false → length (slice_index_or buckets.new.items room.bucket []) < 512) }
 {
-    let room = room_for(buckets.as_slice(), time);
+    let room = room_for(buckets.as_slice(), item);
     if room.is_new || !buckets[room.bucket].is_full() {
         return Ok(room);
     }
     split(buckets, room.bucket)?;
-    Ok(room_for(buckets.as_slice(), time))
+    Ok(Room {
+        bucket: half_for(buckets.as_slice(), room.bucket, item),
+        is_new: false,
+    })
+}
+
+// Returns which of two buckets a new item goes into: into the one at `lower` or into the next.
+fn half_for<T: Timed + Drop>(buckets: &[Bucket<T>], lower: usize, item: &T) -> usize
+    requires within { suc lower < length buckets.now }
+    requires fits { Fits (place_from T.cmp item.now) buckets.now (pos 1) lower (suc (suc lower)) }
+    requires sorted { IsSorted T.cmp (all_of buckets.now) }
+    ensures either { (result ≡ lower) ⊎ (result ≡ suc lower) }
+    ensures fits { Fits (place_from T.cmp item.now) buckets.now (pos 1) result (suc result) }
+{
+    if is_before(buckets[lower + 1].first(), item) {
+        lower + 1
+    } else {
+        lower
+    }
 }
 
 // Adds an item.
 fn add_in<T: Timed + Drop>(buckets: &mut Vec<Bucket<T>>, item: T) -> Result<(), AllocError>
-    requires { IsRising T.timestamp (all_of buckets.old.items) }
+    requires rising { IsRising T.timestamp (all_of buckets.old.items) }
+    requires sorted { IsSorted T.cmp (all_of buckets.old.items) }
     ensures ok { OnOk result (IsPermutation (item ∷ all_of buckets.old.items) (all_of buckets.new.items)) }
     ensures err { OnErr result (all_of buckets.new.items ≡ all_of buckets.old.items) }
     ensures rising { IsRising T.timestamp (all_of buckets.new.items) }
+    ensures sorted { IsSorted T.cmp (all_of buckets.new.items) }
 {
-    let room = make_room(buckets, item.timestamp())?;
+    let room = make_room(buckets, &item)?;
     if room.is_new {
         return add_new(buckets, room.bucket, item);
     }
@@ -349,11 +389,14 @@ fn add_to<T: Timed + Drop>(
     item: T,
 ) -> Result<(), AllocError>
     requires within { bucket < length buckets.old.items }
-    requires fits { Fits T.timestamp buckets.old.items (T.timestamp item) bucket (suc bucket) }
+    requires fits { Fits (place_from T.cmp item) buckets.old.items (pos 1) bucket (suc bucket) }
     requires rising { IsRising T.timestamp (all_of buckets.old.items) }
+    requires sorted { IsSorted T.cmp (all_of buckets.old.items) }
+    requires room { length (slice_index_or buckets.old.items bucket []) < 512 }
     ensures ok { OnOk result (IsPermutation (item ∷ all_of buckets.old.items) (all_of buckets.new.items)) }
     ensures err { OnErr result (all_of buckets.new.items ≡ all_of buckets.old.items) }
     ensures rising { IsRising T.timestamp (all_of buckets.new.items) }
+    ensures sorted { IsSorted T.cmp (all_of buckets.new.items) }
 {
     buckets[bucket].add(item)?;
     Ok(())
@@ -366,11 +409,13 @@ fn add_new<T: Timed + Drop>(
     item: T,
 ) -> Result<(), AllocError>
     requires within { bucket ≤ length buckets.old.items }
-    requires fits { Fits T.timestamp buckets.old.items (T.timestamp item) bucket bucket }
+    requires fits { Fits (place_from T.cmp item) buckets.old.items (pos 1) bucket bucket }
     requires rising { IsRising T.timestamp (all_of buckets.old.items) }
+    requires sorted { IsSorted T.cmp (all_of buckets.old.items) }
     ensures ok { OnOk result (IsPermutation (item ∷ all_of buckets.old.items) (all_of buckets.new.items)) }
     ensures err { OnErr result (all_of buckets.new.items ≡ all_of buckets.old.items) }
     ensures rising { IsRising T.timestamp (all_of buckets.new.items) }
+    ensures sorted { IsSorted T.cmp (all_of buckets.new.items) }
 {
     begin(buckets)?;
     let one = Bucket::new(*buckets.allocator(), item)?;
@@ -392,7 +437,8 @@ fn begin<T: Timed + Drop>(buckets: &mut Vec<Bucket<T>>) -> Result<(), AllocError
 fn split<T: Timed + Drop>(buckets: &mut Vec<Bucket<T>>, bucket: usize) -> Result<(), AllocError>
     requires within { bucket < length buckets.old.items }
     requires full { 512 ≤ length (slice_index_or buckets.old.items bucket []) }
-    ensures { all_of buckets.new.items ≡ all_of buckets.old.items }
+    ensures same { all_of buckets.new.items ≡ all_of buckets.old.items }
+    ensures halves { OnOk result (Halves buckets.old.items bucket buckets.new.items) }
 {
     buckets.reserve(1)?;
     let upper = buckets[bucket].split()?;

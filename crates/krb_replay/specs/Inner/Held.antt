@@ -1,7 +1,7 @@
 -- What a timed memory holds: its tuples in the order of their times, the times of each client's, and
 -- how many of them each pair of names has. Tuples that are too old are dropped at once, and freed
 -- later.
-use Rattle.std.specs.Prelude.{◌≡◌, ◌⊎◌, ◌&&◌, ◌+◌, ◌≤◌, ◌≤ℤ◌, ℕ, ℤ, Bool, true, not, int_lt, Option, Some, None, List, [], length}
+use Rattle.std.specs.Prelude.{◌≡◌, ◌⊎◌, ◌&&◌, ◌+◌, ◌≤◌, ◌≤ℤ◌, ℕ, ℤ, Bool, true, not, int_lt, Option, Some, None, List, length}
 use Rattle.std.specs.List.{filter}
 use Rattle.std.specs.BTreeMap.{BTreeMap, is_at}
 use Rattle.std.specs.declared.cmp.Ordering.{Ordering}
@@ -35,14 +35,10 @@ number_of client stamps = length (filter (is_of client) stamps)
 abbrev pub number_before : Option RealmAndName → ℤ → List Stamp → ℕ
 number_before client oldest stamps = number_of client (filter (is_before oldest) stamps)
 
--- nothing of what is held is before a moment, and nothing is aside
-abbrev pub AreLive : ℤ → List Stamp → List Stamp → Type 0
-AreLive oldest held aside = (since oldest held ≡ held) × (aside ≡ [])
-
--- so many fewer are held and aside, or nothing is left to free and fewer are gone
-abbrev pub FreesAtMost : ℕ → ℤ → List Stamp → List Stamp → List Stamp → List Stamp → Type 0
-FreesAtMost some oldest old aside new left = (length new + length left + some ≡ length old + length aside)
-    ⊎ (AreLive oldest new left × ((length new + length left ≤ length old + length aside) × (length old + length aside ≤ length new + length left + some)))
+-- so many fewer are held, or nothing is left to free and fewer are gone
+abbrev pub FreesAtMost : ℕ → ℤ → List Stamp → List Stamp → Type 0
+FreesAtMost some oldest old new = (length new + some ≡ length old)
+    ⊎ ((since oldest new ≡ new) × ((length new ≤ length old) × (length old ≤ length new + some)))
 
 -- no stamp is there twice
 abbrev pub IsOnce : List Stamp → Type 0

@@ -1,10 +1,11 @@
 -- The order in which tuples are kept: by time first, and then by the names.
-use Rattle.std.specs.Prelude.{ℕ, List}
+use Rattle.std.specs.Prelude.{◌≡◌, ℕ, List, true, refl}
 use Rattle.std.specs.Cmp.{IsTotalOrder}
 use Rattle.std.specs.Cmp.Lexicographic.{slice_cmp}
 use Rattle.std.proofs.lemmas.Cmp.{then_total, on_total, lists_total, nat_cmp_total, int_cmp_total}
 use Rattle.std.specs.declared.cmp.Ordering.{Ordering}
-use Rattle.std.specs.Ordering.{int_cmp, nat_cmp, on, then_cmp}
+use Rattle.std.specs.declared.cmp.Ordering.TheVariants.{Less, Equal, Greater}
+use Rattle.std.specs.Ordering.{int_cmp, is_le, nat_cmp, on, ordering_then, then_cmp}
 use Rattle.krb_replay.specs.Bytes.{name_bytes}
 use Rattle.krb_replay.specs.Stamp.{RealmAndName, Stamp}
 
@@ -53,3 +54,13 @@ client_total = on_total (λ names. names.1) name_total
 
 pub stamp_total : IsTotalOrder stamp_cmp
 stamp_total = then_total (on_total (λ stamp. stamp.time) int_cmp_total) (on_total names_of pair_total)
+
+-- what isn't after another by two orders isn't by the first
+pub first_le : (one other : Ordering) → is_le (ordering_then one other) ≡ true → is_le one ≡ true
+first_le Less other le = refl
+first_le Equal other le = refl
+first_le Greater other le = le
+
+-- no stamp is in the order before one of an earlier time
+pub stamp_by_time : (one other : Stamp) → is_le (stamp_cmp one other) ≡ true → is_le (int_cmp one.time other.time) ≡ true
+stamp_by_time one other le = first_le (int_cmp one.time other.time) (pair_cmp (names_of one) (names_of other)) le

@@ -1,5 +1,7 @@
--- Items in buckets. A bucket's items are in the order of their times, and buckets follow each other in time.
-use Rattle.std.specs.Prelude.{◌≡◌, ◌<◌, ◌≤ℤ◌, ℕ, ℤ, suc, List, [], ◌∷◌, ◌++◌, All, Contains, length, take, drop, slice_index_or, ⊤}
+-- Items in buckets of at most 512. A bucket's items are in order, by their times first, and the buckets follow each other.
+use Rattle.std.specs.Ordering.{ordering_index}
+use Rattle.std.specs.declared.cmp.Ordering.{Ordering}
+use Rattle.std.specs.Prelude.{◌≡◌, ◌<◌, ◌≤ℤ◌, ℕ, ℤ, pos, suc, List, [], ◌∷◌, ◌++◌, All, Contains, length, take, drop, slice_index_or, ⊤}
 
 -- the items of all buckets
 abbrev pub all_of : {X : Type 0} → List (List X) → List X
@@ -15,6 +17,18 @@ pub record TakesOut {X : Type 0} (old : List (List X)) (bucket at : ℕ) (item :
   pub after : List X
   pub old_is : all_of old ≡ (all_of (take bucket old) ++ take at (slice_index_or old bucket [])) ++ item ∷ after
   pub new_is : all_of new ≡ (all_of (take bucket old) ++ take at (slice_index_or old bucket [])) ++ after
+
+-- a bucket has become two, each with room for more; the others are as they were
+pub record Halves {X : Type 0} (old : List (List X)) (bucket : ℕ) (new : List (List X)) : Type 0 where
+  pub within : suc bucket < length new
+  pub before : take bucket new ≡ take bucket old
+  pub lower : length (slice_index_or new bucket []) < 512
+  pub upper : length (slice_index_or new (suc bucket) []) < 512
+  pub after : drop (suc (suc bucket)) new ≡ drop (suc bucket) old
+
+-- where one stands in an order, seen from an item: 0 before it, 1 with it, 2 after it
+abbrev pub place_from : {X : Type 0} → (X → X → Ordering) → X → X → ℤ
+place_from cmp item one = pos (ordering_index (cmp one item))
 
 module _ {X : Type 0} (time : X → ℤ) where
   -- no item is after a later one
@@ -40,14 +54,18 @@ module _ {X : Type 0} (time : X → ℤ) where
   abbrev pub IsIn : List (List X) → ℕ → ℕ → ℤ → Type 0
   IsIn buckets bucket at moment = (bucket < length buckets) × IsAt (slice_index_or buckets bucket []) at moment
 
-  -- a bucket's last item isn't before a moment, and no later bucket has an item before that one
+  -- one of a bucket's items isn't before a moment, and no later bucket has an item before that one
   pub record Reaches (buckets : List (List X)) (bucket : ℕ) (moment : ℤ) : Type 0 where
-    pub last : X
-    pub there : Contains (slice_index_or buckets bucket []) last
-    pub not_before : moment ≤ℤ time last
-    pub later : All (λ one. time last ≤ℤ time one) (all_of (drop (suc bucket) buckets))
+    pub late : X
+    pub there : Contains (slice_index_or buckets bucket []) late
+    pub not_before : moment ≤ℤ time late
+    pub later : All (λ one. time late ≤ℤ time one) (all_of (drop (suc bucket) buckets))
 
   -- a time fits after the buckets before one place, and before those from another on
   pub record Fits (buckets : List (List X)) (moment : ℤ) (before from : ℕ) : Type 0 where
     pub early : All (λ other. time other ≤ℤ moment) (all_of (take before buckets))
     pub late : All (λ other. moment ≤ℤ time other) (all_of (drop from buckets))
+
+-- seen from any item, none is after a later one
+pub record IsSorted {X : Type 0} (cmp : X → X → Ordering) (items : List X) : Type 0 where
+  pub from : (item : X) → IsRising (place_from cmp item) items

@@ -1,22 +1,8 @@
-use Rattle.std.proofs.Common.{◌≡◌, ◌+◌, ◌-◌, ◌/◌, ◌<◌, ◌≤ℤ◌, ◌<ℤ◌, ℕ, ℤ, List, [], All, Contains, length, get_or, take, subst, arith, to_z, of_z}
+use Rattle.std.proofs.Common.{◌+◌, ◌-◌, ◌/◌, arith, to_z, of_z}
 use Rattle.std.specs.Int.{w64}
 use Rattle.std.proofs.lemmas.Int.{ints}
-use Rattle.std.proofs.lemmas.List.{get_or_read}
-use Rattle.krb_tally.specs.Inner.Buckets.{IsRising, Reaches, all_of}
-use Rattle.krb_tally.proofs.TallyLaws.{all_before, reaches}
+use Rattle.krb_tally.proofs.TallyLaws.{ends_by, goes_on}
 use Rattle.krb_tally.proofs.tally.bucket_for.Goals as goal
-
-on : {X : Type 0} (when : X → ℤ) (buckets : List (List X)) (at : ℕ) (here : List X) (last : X) (moment : ℤ) → at < length buckets → here ≡ get_or buckets at here → IsRising when (all_of buckets)
-    → Contains here last → All (λ x. when x ≤ℤ when last) here → when last <ℤ moment → All (λ x. when x <ℤ moment) (all_of (take (at + 1) buckets))
-on when buckets at here last moment within is rising there greatest early =
-    let stands = get_or_read buckets at here within is [] in
-    all_before when buckets at within rising last moment (subst (λ items. Contains items last) stands there)
-    (subst (λ items. All (λ x. when x ≤ℤ when last) items) stands greatest) early
-
-back : {X : Type 0} (when : X → ℤ) (buckets : List (List X)) (at : ℕ) (here : List X) (last : X) (moment : ℤ) → at < length buckets → here ≡ get_or buckets at here → IsRising when (all_of buckets)
-    → Contains here last → moment ≤ℤ when last → Reaches when buckets at moment
-back when buckets at here last moment within is rising there late =
-    reaches when buckets at within rising last moment (subst (λ items. Contains items last) (get_or_read buckets at here within is []) there) late
 
 pub loop-low-preserved-then-timestamp-moment : goal.loop-low-preserved-then-timestamp-moment
 loop-low-preserved-then-timestamp-moment g c =
@@ -25,7 +11,7 @@ loop-low-preserved-then-timestamp-moment g c =
     let said = c.timestamp.ensures in (
       omega arith,
       inv.1,
-      on g.T.Timed.timestamp c.args.buckets.now (c.loop-low.low + (c.loop-low.high - c.loop-low.low) / 2) c.index-buckets-middle.result c.last.result.now (to_z w64 (of_z w64 c.args.moment)) (omega arith) c.index-buckets-middle.is c.requires
+      goes_on g.T.Timed.timestamp c.args.buckets.now (c.loop-low.low + (c.loop-low.high - c.loop-low.low) / 2) c.index-buckets-middle.result c.last.result.now (to_z w64 (of_z w64 c.args.moment)) (omega arith) c.index-buckets-middle.is c.requires
           c.last.ensures.there c.last.ensures.greatest (omega (arith, ints)),
       inv.3,
     )
@@ -38,6 +24,6 @@ loop-low-preserved g c =
       omega arith,
       omega arith,
       inv.2,
-      λ within. back g.T.Timed.timestamp c.args.buckets.now (c.loop-low.low + (c.loop-low.high - c.loop-low.low) / 2) c.index-buckets-middle.result c.last.result.now (to_z w64 (of_z w64 c.args.moment)) within c.index-buckets-middle.is c.requires
+      λ within. ends_by g.T.Timed.timestamp c.args.buckets.now (c.loop-low.low + (c.loop-low.high - c.loop-low.low) / 2) c.index-buckets-middle.result c.last.result.now (to_z w64 (of_z w64 c.args.moment)) within c.index-buckets-middle.is c.requires
           c.last.ensures.there (omega (arith, ints)),
     )

@@ -9,8 +9,7 @@ returns-clause-least c = λ size is.
     let set = set_size c.self.inside.oldest c.self.inside.held size c.len.ensures.once
     (subst (λ (stamps : List Stamp). IsSizeOf (Contains stamps) size) (sym (ap (λ memory. memory.stamps) c.self.view_is)) is) in
     let len = c.len.ensures.len in
-    let aside = c.len-2.ensures.len in
-    let all = all_held c.self.inside.oldest c.self.inside.held c.self.inside.aside in
+    let all = all_held c.self.inside.oldest c.self.inside.held in
     omega arith
 
 pub returns-clause-size : goal.returns-clause-size
@@ -18,13 +17,11 @@ returns-clause-size c = λ size is.
     let set = set_size c.self.inside.oldest c.self.inside.held size c.len.ensures.once
     (subst (λ (stamps : List Stamp). IsSizeOf (Contains stamps) size) (sym (ap (λ memory. memory.stamps) c.self.view_is)) is) in
     let len = c.len.ensures.len in
-    let aside = c.len-2.ensures.len in
-    let all = all_held c.self.inside.oldest c.self.inside.held c.self.inside.aside in
-    subst (λ (memory : Memory). c.len.result + c.len-2.result ≡ size + memory.unfreed) c.self.view_is (omega arith)
+    let all = all_held c.self.inside.oldest c.self.inside.held in
+    subst (λ (memory : Memory). c.len.result ≡ size + memory.unfreed) c.self.view_is (omega arith)
 
 pub returns-clause-exact : goal.returns-clause-exact
 returns-clause-exact c =
     let len = c.len.ensures.len in
-    let aside = c.len-2.ensures.len in
-    let all = all_held c.self.inside.oldest c.self.inside.held c.self.inside.aside in
-    subst (λ (memory : Memory). c.len.result + c.len-2.result ≡ held_of memory) c.self.view_is (omega arith)
+    let all = all_held c.self.inside.oldest c.self.inside.held in
+    subst (λ (memory : Memory). c.len.result ≡ held_of memory) c.self.view_is (omega arith)

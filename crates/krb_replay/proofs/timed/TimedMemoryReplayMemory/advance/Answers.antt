@@ -30,7 +30,7 @@ left : (c : goal.After-self-2-1)
 left c =
     forgotten c.self.inside.oldest (later_of c.args.self.now.latest c.args.moment -ℤ pos c.args.skew) (to_z w64 (of_z w64 c.later_moment-oldest.result))
     c.self.inside.held c.free_some.new.held c.args.self.now.stamps (choice c)
-    (c.free_some.ensures.same ∙ c.put_aside.ensures.same) (ap (λ memory. memory.stamps) c.self.view_is)
+    c.free_some.ensures.same (ap (λ memory. memory.stamps) c.self.view_is)
 
 pub returns-clause-none_added : goal.returns-clause-none_added
 returns-clause-none_added c = (left c).none_added
@@ -52,13 +52,11 @@ returns-clause-oldest c =
 pub returns-clause-frees : goal.returns-clause-frees
 returns-clause-frees c =
     let later : ℤ = to_z w64 (of_z w64 c.later_moment-oldest.result) in
-    subst (λ (memory : Memory). number_before None later c.free_some.new.held + length c.free_some.new.aside ≡ held_of memory - length (since later c.free_some.new.held) - 16) c.self.view_is
-    (frees_dropped c.self.inside.oldest later c.self.inside.held c.put_aside.new.held c.free_some.new.held c.self.inside.aside c.put_aside.new.aside c.free_some.new.aside
-    c.put_aside.ensures.all c.free_some.ensures.same c.free_some.ensures.frees)
+    subst (λ (memory : Memory). number_before None later c.free_some.new.held ≡ held_of memory - length (since later c.free_some.new.held) - 16) c.self.view_is
+    (frees_dropped c.self.inside.oldest later c.self.inside.held c.free_some.new.held c.free_some.ensures.same c.free_some.ensures.frees)
 
 pub returns-clause-shrinks : goal.returns-clause-shrinks
 returns-clause-shrinks c =
     let later : ℤ = to_z w64 (of_z w64 c.later_moment-oldest.result) in
-    subst (λ (memory : Memory). length (since later c.free_some.new.held) + (number_before None later c.free_some.new.held + length c.free_some.new.aside) ≤ held_of memory) c.self.view_is
-    (shrinks c.self.inside.oldest later c.self.inside.held c.put_aside.new.held c.free_some.new.held c.self.inside.aside c.put_aside.new.aside c.free_some.new.aside
-    c.put_aside.ensures.all c.free_some.ensures.frees)
+    subst (λ (memory : Memory). length (since later c.free_some.new.held) + number_before None later c.free_some.new.held ≤ held_of memory) c.self.view_is
+    (shrinks c.self.inside.oldest later c.self.inside.held c.free_some.new.held c.free_some.ensures.frees)

@@ -5,7 +5,7 @@ use Rattle.krb_replay.specs.Stamp.{Stamp}
 use Rattle.std.specs.Int.{w64}
 use Rattle.std.proofs.lemmas.Int.{ints}
 use Rattle.krb_replay.specs.Inner.Held.{FreesAtMost, number_before, since}
-use Rattle.krb_replay.proofs.TimedLaws.{added_reached, frees_16_for, frees_some, grows_by_one, same_list, same_reached, stays_early}
+use Rattle.krb_replay.proofs.TimedLaws.{added_reached, frees_16_for, frees_all, frees_some, grows_by_one, same_list, same_reached, stays_early}
 use Rattle.krb_replay.proofs.timed.TimedMemoryReplayMemory.remember.Goals as goal
 
 pub returns-clause-ok : goal.returns-clause-ok
@@ -61,12 +61,12 @@ returns-clause-frees c =
     let time = c.time.ensures in
     let reached = c.reach_back-oldest.ensures.reached in
     let r : to_z w64 (of_z w64 c.reach_back-oldest.result) ≡ c.reach_back-oldest.result = omega (arith, ints) in
-    subst (λ (memory : Memory). FreesSome 16 memory.unfreed (number_before None (to_z w64 (of_z w64 c.reach_back-oldest.result)) c.add-added.new.self + length c.free_some.new.aside)) c.self.view_is
-    (subst (λ (z : ℤ). FreesSome 16 (number_before None c.self.inside.oldest c.self.inside.held + length c.self.inside.aside) (number_before None z c.add-added.new.self + length c.free_some.new.aside)) (sym r)
-    (frees_some c.self.inside.oldest c.reach_back-oldest.result c.self.inside.held c.reach_back-oldest.new.held c.free_some.new.held c.add-added.new.self c.self.inside.aside c.free_some.new.aside
+    subst (λ (memory : Memory). FreesSome 16 memory.unfreed (number_before None (to_z w64 (of_z w64 c.reach_back-oldest.result)) c.add-added.new.self)) c.self.view_is
+    (subst (λ (z : ℤ). FreesSome 16 (number_before None c.self.inside.oldest c.self.inside.held) (number_before None z c.add-added.new.self)) (sym r)
+    (frees_some c.self.inside.oldest c.reach_back-oldest.result c.self.inside.held c.reach_back-oldest.new.held c.free_some.new.held c.add-added.new.self
     (c.reach_back-oldest.ensures.same ∙ ap (λ (oldest : ℤ). since oldest c.self.inside.held) o) c.reach_back-oldest.ensures.shrinks
     (subst (λ (z : ℤ). since z c.free_some.new.held ≡ since z c.reach_back-oldest.new.held) r c.free_some.ensures.same)
-    (subst (λ (z : ℤ). FreesAtMost 16 z c.reach_back-oldest.new.held c.self.inside.aside c.free_some.new.held c.free_some.new.aside) r c.free_some.ensures.frees)
+    (subst (λ (z : ℤ). FreesAtMost 16 z c.reach_back-oldest.new.held c.free_some.new.held) r c.free_some.ensures.frees)
     (c.add-added.ensures.before c.reach_back-oldest.result (omega (arith, ints)))))
 
 pub returns-clause-frees_16 : goal.returns-clause-frees_16
@@ -83,18 +83,34 @@ returns-clause-frees_16 c = λ early.
     c.reach_back-oldest.ensures.value ∙ (ap (λ (z : ℤ). earlier_of z (to_z w64 (of_z w64 c.micros.result))) o
     ∙ (ap (λ (z : ℤ). earlier_of c.self.inside.oldest z) t ∙ sym (stays_early c.self.inside.oldest c.micros.result reaches))) in
     let all : to_z w64 (of_z w64 c.reach_back-oldest.result) ≡ c.self.inside.oldest = r ∙ stays in
-    subst (λ (memory : Memory). number_before None (to_z w64 (of_z w64 c.reach_back-oldest.result)) c.add-added.new.self + length c.free_some.new.aside ≡ memory.unfreed - 16) c.self.view_is
-    (subst (λ (z : ℤ). number_before None z c.add-added.new.self + length c.free_some.new.aside ≡ number_before None c.self.inside.oldest c.self.inside.held + length c.self.inside.aside - 16) (sym all)
-    (frees_16_for c.self.inside.oldest c.self.inside.held c.free_some.new.held c.add-added.new.self c.self.inside.aside c.free_some.new.aside
+    subst (λ (memory : Memory). number_before None (to_z w64 (of_z w64 c.reach_back-oldest.result)) c.add-added.new.self ≡ memory.unfreed - 16) c.self.view_is
+    (subst (λ (z : ℤ). number_before None z c.add-added.new.self ≡ number_before None c.self.inside.oldest c.self.inside.held - 16) (sym all)
+    (frees_16_for c.self.inside.oldest c.self.inside.held c.free_some.new.held c.add-added.new.self
     (subst (λ (z : ℤ). since z c.free_some.new.held ≡ since z c.self.inside.held) all
     (c.free_some.ensures.same ∙ ap (λ (stamps : List Stamp). since (to_z w64 (of_z w64 c.reach_back-oldest.result)) stamps) kept))
-    (subst (λ (z : ℤ). FreesAtMost 16 z c.self.inside.held c.self.inside.aside c.free_some.new.held c.free_some.new.aside) all
-    (subst (λ (stamps : List Stamp). FreesAtMost 16 (to_z w64 (of_z w64 c.reach_back-oldest.result)) stamps c.self.inside.aside c.free_some.new.held c.free_some.new.aside) kept c.free_some.ensures.frees))
+    (subst (λ (z : ℤ). FreesAtMost 16 z c.self.inside.held c.free_some.new.held) all
+    (subst (λ (stamps : List Stamp). FreesAtMost 16 (to_z w64 (of_z w64 c.reach_back-oldest.result)) stamps c.free_some.new.held) kept c.free_some.ensures.frees))
     (c.add-added.ensures.before c.self.inside.oldest (omega (arith, ints)))))
 
 pub returns-clause-grows : goal.returns-clause-grows
 returns-clause-grows c =
     subst (λ (memory : Memory). length (since (to_z w64 (of_z w64 c.reach_back-oldest.result)) c.add-added.new.self)
-    + (number_before None (to_z w64 (of_z w64 c.reach_back-oldest.result)) c.add-added.new.self + length c.free_some.new.aside) ≤ held_of memory + 1) c.self.view_is
-    (grows_by_one c.self.inside.oldest (to_z w64 (of_z w64 c.reach_back-oldest.result)) c.self.inside.held c.reach_back-oldest.new.held c.free_some.new.held c.add-added.new.self c.self.inside.aside c.free_some.new.aside
+    + number_before None (to_z w64 (of_z w64 c.reach_back-oldest.result)) c.add-added.new.self ≤ held_of memory + 1) c.self.view_is
+    (grows_by_one c.self.inside.oldest (to_z w64 (of_z w64 c.reach_back-oldest.result)) c.self.inside.held c.reach_back-oldest.new.held c.free_some.new.held c.add-added.new.self
     c.reach_back-oldest.ensures.shrinks c.free_some.ensures.frees c.add-added.ensures.grows)
+
+pub returns-clause-frees_all : goal.returns-clause-frees_all
+returns-clause-frees_all c = λ late.
+    let o : to_z w64 (of_z w64 c.self.inside.oldest) ≡ c.self.inside.oldest = omega (arith, ints) in
+    let at = c.micros.ensures in
+    let time = c.time.ensures in
+    let t : to_z w64 (of_z w64 c.micros.result) ≡ c.micros.result = omega (arith, ints) in
+    let reached = c.reach_back-oldest.ensures.reached in
+    let mine : c.self.inside.oldest ≡ c.args.self.now.oldest = ap (λ memory. memory.oldest) c.self.view_is in
+    let r : to_z w64 (of_z w64 c.reach_back-oldest.result) ≡ c.reach_back-oldest.result = omega (arith, ints) in
+    let live : since c.reach_back-oldest.result c.reach_back-oldest.new.held ≡ c.reach_back-oldest.new.held = c.reach_back-oldest.ensures.live (omega (arith, ints)) in
+    subst (λ (z : ℤ). number_before None z c.add-added.new.self ≡ 0) (sym r)
+    (frees_all c.reach_back-oldest.result c.reach_back-oldest.new.held c.free_some.new.held c.add-added.new.self live
+    (subst (λ (z : ℤ). since z c.free_some.new.held ≡ since z c.reach_back-oldest.new.held) r c.free_some.ensures.same)
+    (subst (λ (z : ℤ). FreesAtMost 16 z c.reach_back-oldest.new.held c.free_some.new.held) r c.free_some.ensures.frees)
+    (c.add-added.ensures.before c.reach_back-oldest.result (omega (arith, ints))))

@@ -22,7 +22,7 @@ returns-else-at-len g c =
     let t : to_z w64 (of_z w64 c.args.time) ≡ c.args.time = omega (arith, ints) in
     let len : c.len.result ≡ length c.self.inside.items.items = search rules in
     nowhere g.T.Timed.timestamp c.self.inside.items.items c.as_slice.result.now c.args.self.now c.number_before-at.result (to_z w64 (of_z w64 c.args.time)) c.args.time
-    c.as_slice.ensures.value c.self.view_is t c.self.invariant.1 c.number_before-at.ensures.before c.number_before-at.ensures.from
+    c.as_slice.ensures.value c.self.view_is t c.self.invariant.1.1.0 c.number_before-at.ensures.before c.number_before-at.ensures.from
     (λ d within is. elim c.else-at-len.branch [
       | else-at-len-via-then-at-len+else-timestamp-time w ↦
           let other = w.if-timestamp-time.false in

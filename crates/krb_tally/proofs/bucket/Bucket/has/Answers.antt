@@ -1,40 +1,52 @@
-use Rattle.std.proofs.Common.{◌≡◌, ◌<ℤ◌, ◌-◌, ◌∙◌, ℕ, ℤ, Bool, List, All, length, take, drop, arith, subst, sym, to_z, of_z}
-use Rattle.std.specs.Int.{w64}
-use Rattle.std.proofs.lemmas.Int.{ints}
-use Rattle.std.proofs.lemmas.List.{take-append-drop, take_rest}
+use Rattle.std.proofs.Common.{◌≡◌, ◌<◌, ◌≤ℤ◌, ◌<ℤ◌, ◌∙◌, ℕ, ℤ, Bool, true, true≢false, List, All, get_or, length, pos, take, drop, ap, arith, rules, subst, sym}
+use Rattle.std.specs.Cmp.{IsTotalOrder}
+use Rattle.std.specs.declared.cmp.Ordering.{Ordering}
+use Rattle.std.specs.Ordering.{int_cmp, is_eq, is_le}
+use Rattle.std.proofs.lemmas.List.{get_or_read}
 use Rattle.krb_tally.specs.Times.{HasEqual, LacksEqual}
-use Rattle.krb_tally.specs.Inner.Buckets.{IsRising}
-use Rattle.krb_tally.proofs.BucketLaws.{early_lacks, has_right, lacks_both, rising_drop}
+use Rattle.krb_tally.specs.Inner.Buckets.{IsRising, place_from}
+use Rattle.krb_tally.proofs.BucketLaws.{lacks}
+use Rattle.krb_tally.proofs.OrderLaws.{equal_there, lacks_equal, same_time}
 use Rattle.krb_tally.proofs.bucket.Bucket.has.Goals as goal
 
-found_here : {X : Type 0} (eq : X → X → Bool) (items slice shown : List X) (at : ℕ) (item : X) → slice ≡ items → items ≡ shown
-    → HasEqual eq (take (length slice - at) (drop at slice)) item → HasEqual eq shown item
-found_here eq items slice shown at item same seen has =
-    subst (λ all. HasEqual eq all item) (take-append-drop at slice ∙ (same ∙ seen))
-    (has_right eq (take at slice) (drop at slice) item (subst (λ all. HasEqual eq all item) (take_rest slice at) has))
+nowhere : {X : Type 0} (cmp : X → X → Ordering) (eq : X → X → Bool) (ties : (x y : X) → eq x y ≡ is_eq (cmp x y)) (when : X → ℤ) (items slice shown : List X) (at : ℕ) (item : X) → slice ≡ items → items ≡ shown
+    → IsRising (place_from cmp item) items → All (λ x. place_from cmp item x <ℤ pos 1) (take at slice) → All (λ x. pos 1 ≤ℤ place_from cmp item x) (drop at slice)
+    → ((d : X) → at < length items → place_from cmp item (get_or items at d) ≡ pos 1 → ⊥) → LacksEqual when eq shown item
+nowhere cmp eq ties when items slice shown at item same seen rising early late other =
+    subst (λ all. LacksEqual when eq all item) seen
+    (lacks_equal cmp eq ties when items item
+    (λ k d. lacks (place_from cmp item) items at (pos 1)
+    (subst (λ all. All (λ x. place_from cmp item x <ℤ pos 1) (take at all)) same early)
+    (subst (λ all. All (λ x. pos 1 ≤ℤ place_from cmp item x) (drop at all)) same late)
+    d rising (other d) k d))
 
-lacks_here : {X : Type 0} (when : X → ℤ) (eq : X → X → Bool) (items slice other shown : List X) (at : ℕ) (said : ℤ) (item : X) → slice ≡ items → other ≡ items → items ≡ shown
-    → said ≡ when item → All (λ x. when x <ℤ said) (take at slice) → LacksEqual when eq (take (length other - at) (drop at other)) item → LacksEqual when eq shown item
-lacks_here when eq items slice other shown at said item same also seen t early lacks =
-    subst (λ all. LacksEqual when eq all item) (take-append-drop at items ∙ seen)
-    (lacks_both when eq (take at items) (drop at items) item
-    (early_lacks when eq (take at items) item
-    (subst (λ (one : ℤ). All (λ x. when x <ℤ one) (take at items)) t (subst (λ all. All (λ x. when x <ℤ said) (take at all)) same early)))
-    (subst (λ all. LacksEqual when eq (drop at all) item) also (subst (λ all. LacksEqual when eq all item) (take_rest other at) lacks)))
+here : {X : Type 0} (cmp : X → X → Ordering) (eq : X → X → Bool) (ties : (x y : X) → eq x y ≡ is_eq (cmp x y)) (total : IsTotalOrder cmp) (when : X → ℤ)
+    (law : (one other : X) → is_le (cmp one other) ≡ true → is_le (int_cmp (when one) (when other)) ≡ true) (items shown : List X) (at : ℕ) (one item : X)
+    → at < length items → one ≡ get_or items at one → items ≡ shown → is_eq (cmp one item) ≡ true → HasEqual when eq shown item
+here cmp eq ties total when law items shown at one item within is seen same =
+    subst (λ all. HasEqual when eq all item) seen
+    (record { one = one; there = (at, within, sym is); same_time = same_time cmp total when law one item same; equal = ties one item ∙ same })
 
-pub has_among-requires : goal.has_among-requires
-has_among-requires g c =
-    subst (λ items. IsRising g.T.Timed.timestamp items) (sym (take_rest c.as_slice-2.result.now c.number_before-at.result))
-    (rising_drop g.T.Timed.timestamp c.number_before-at.result c.as_slice-2.result.now
-    (subst (λ items. IsRising g.T.Timed.timestamp items) (sym c.as_slice-2.ensures.value) c.self.invariant.1))
+pub returns-then-at-len-clause-lacks : goal.returns-then-at-len-clause-lacks
+returns-then-at-len-clause-lacks g c = λ _.
+    let len : c.len.result ≡ length c.self.inside.items.items = search rules in
+    let end = c.if-at-len.true in
+    nowhere g.T.Ord.cmp g.T.PartialEq.eq g.met.T.Ord.matches_eq g.T.Timed.timestamp c.self.inside.items.items c.as_slice.result.now c.args.self.now c.number_below-at.result c.args.item.now
+    c.as_slice.ensures.value c.self.view_is (c.self.invariant.1.1.1.from c.args.item.now) c.number_below-at.ensures.before c.number_below-at.ensures.from (λ d within _. omega arith)
 
 pub returns-clause-found : goal.returns-clause-found
-returns-clause-found g c = λ yes.
-    found_here g.T.PartialEq.eq c.self.inside.items.items c.as_slice-2.result.now c.args.self.now c.number_before-at.result c.args.item.now c.as_slice-2.ensures.value c.self.view_is
-    (c.has_among.ensures.found yes)
+returns-clause-found g c = λ same.
+    let len : c.len.result ≡ length c.self.inside.items.items = search rules in
+    let apart = c.if-at-len.false in
+    let slice = ap (λ all. length all) c.as_slice.ensures.value in
+    let upto = c.number_below-at.ensures.within in
+    here g.T.Ord.cmp g.T.PartialEq.eq g.met.T.Ord.matches_eq g.met.T.Ord.total g.T.Timed.timestamp g.met.T.Timed.by_time c.self.inside.items.items c.args.self.now c.number_below-at.result c.index.result.now c.args.item.now
+    (omega arith) c.index.ensures c.self.view_is (sym (ap is_eq c.cmp.ensures) ∙ (sym c.is_eq.ensures ∙ same))
 
 pub returns-clause-lacks : goal.returns-clause-lacks
-returns-clause-lacks g c = λ no.
-    lacks_here g.T.Timed.timestamp g.T.PartialEq.eq c.self.inside.items.items c.as_slice.result.now c.as_slice-2.result.now c.args.self.now c.number_before-at.result
-    (to_z w64 (of_z w64 c.timestamp.result)) c.args.item.now c.as_slice.ensures.value c.as_slice-2.ensures.value c.self.view_is
-    (let t = c.timestamp.ensures in omega (arith, ints)) c.number_before-at.ensures.before (c.has_among.ensures.lacks no)
+returns-clause-lacks g c = λ other.
+    nowhere g.T.Ord.cmp g.T.PartialEq.eq g.met.T.Ord.matches_eq g.T.Timed.timestamp c.self.inside.items.items c.as_slice.result.now c.args.self.now c.number_below-at.result c.args.item.now
+    c.as_slice.ensures.value c.self.view_is (c.self.invariant.1.1.1.from c.args.item.now) c.number_below-at.ensures.before c.number_below-at.ensures.from
+    (λ d within at. true≢false
+    (sym (equal_there (g.T.Ord.cmp c.index.result.now c.args.item.now) (ap (λ one. place_from g.T.Ord.cmp c.args.item.now one) (get_or_read c.self.inside.items.items c.number_below-at.result c.index.result.now within c.index.ensures d) ∙ at))
+    ∙ (sym (ap is_eq c.cmp.ensures) ∙ (sym c.is_eq.ensures ∙ other))))
