@@ -110,7 +110,7 @@ uninstall:
 	$(RUN_LDCONFIG)
 
 dist: all
-	packaging/dist $(VERSION) $(BUILD)
+	+packaging/dist $(VERSION) $(BUILD)
 
 dist-src:
 	packaging/dist-src $(VERSION) $(BUILD)
