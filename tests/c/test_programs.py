@@ -118,6 +118,21 @@ def test_what_requests_take(archive, tmp_path, checks):
     c_programs.counted(checks, run(program, KEYTAB, CACHE, other, 300_000, 1_000_000))
 
 
+def test_what_large_names_take(archive, tmp_path, checks):
+    """Requests of 1 MiB for a service whose name is larger than each of the keytab: no memory, and few instructions."""
+    requests = {"components": (b"EX", [b""] * 523_000), "component": (b"EX", [b"host", b"a" * 1_046_000]),
+                "realm": (b"E" * 1_046_000, [b"host", b"web"])}
+    for name, (realm, components) in requests.items():
+        ticket = der.ticket(realm, der.name(3, *components), der.encrypted(19, b"\x5a" * 200, 3))
+        (tmp_path / name).write_bytes(der.request(0, ticket, der.encrypted(19, b"\x5a" * 100)))
+    counting = ["valgrind", "-q", "--tool=callgrind", f"--callgrind-out-file={tmp_path}/counted"]
+    counting.append("--dump-before=counted")
+    program = linked(archive, tmp_path / "names", of_tests("names"), "-Wl,--wrap=malloc", "-Wl,--wrap=realloc")
+    c_programs.counted(checks, run(*counting, program, KEYTAB, *(tmp_path / name for name in requests)))
+    for place, name in enumerate(requests, 1):
+        checks.equal(f"instructions: {name}", instructions(tmp_path / f"counted.{2 * place}") < 20_000_000, True)
+
+
 def test_no_pause(archive, tmp_path, checks):
     """What has expired is freed in small portions: the instructions of requests after many have expired at once."""
     counting = ["valgrind", "-q", "--tool=callgrind", f"--callgrind-out-file={tmp_path}/counted"]

@@ -16,6 +16,7 @@ use Rattle.krb_der.specs.Flags.{HasBit}
 use Rattle.krb_msg.specs.Bits.{use_session_key}
 use Rattle.krb_keytab.specs.Entry.{KeytabEntry}
 use Rattle.krb_keytab.specs.Pick.{Choice, chosen, IsChoice}
+use Rattle.krb_keytab.specs.Size.{IsNoLarger}
 use Rattle.krb_replay.specs.Stamp.{Stamp, name_of}
 use Rattle.krb_ap.specs.Setup.{Setup}
 
@@ -64,6 +65,10 @@ IsOrdinary bytes = (request : ValueOf ap_req) × Asks bytes request
 -- and its ticket is for this service
 abbrev pub AsksFor : List ℕ → Principal → Type 0
 AsksFor bytes service = (request : ValueOf ap_req) × (Asks bytes request × (service ≡ service_of request))
+
+-- and the name of that service is no larger than the largest of the keytab
+abbrev pub AsksWithin : Setup → List ℕ → Type 0
+AsksWithin setup bytes = (request : ValueOf ap_req) × (Asks bytes request × IsNoLarger setup.entries (service_of request))
 
 -- and this entry of the keytab is chosen for its ticket
 pub record Keyed (setup : Setup) (bytes : List ℕ) (request : ValueOf ap_req) (entry : KeytabEntry) : Type 0 where

@@ -5,7 +5,7 @@ ghost use Rattle.krb_replay.specs.Limit.{CountsOne};
 ghost use Rattle.krb_replay.specs.Memory.{later_of, AddsStamp, IsRecent, SameStamps};
 ghost use Rattle.krb_replay.specs.Stamp.{Stamp};
 ghost use Rattle.krb_ap.specs.Setup.{Arrival, arrival};
-ghost use Rattle.krb_ap.specs.Opened.{AsksFor, IsOrdinary};
+ghost use Rattle.krb_ap.specs.Opened.{AsksFor, AsksWithin, IsOrdinary};
 ghost use Rattle.krb_ap.specs.History.{IsShown, IsShownLately};
 ghost use Rattle.krb_ap.specs.Service.{HeedsLimits, IsPastLimit, SameMemory, Stands};
 ghost use Rattle.krb_ap.specs.Taken.{Accept, Taken};
@@ -186,8 +186,10 @@ impl<M: ReplayMemory> Acceptor<M> {
             → M.refusals self.new.memory ≡ M.refusals self.old.memory }
         ensures limits { M.limits self.new.memory ≡ M.limits self.old.memory }
 
-        // Out of memory is answered for requests of the ordinary kind alone, and changes nothing.
+        // Out of memory is answered for requests of the ordinary kind alone, and changes nothing. Nor is it answered if the name
+        // of the service is larger than each name of the keytab.
         ensures memory { IsErrOf result OutOfMemory → IsOrdinary bytes.now }
+        ensures size { IsErrOf result OutOfMemory → AsksWithin self.old.setup bytes.now }
         ensures unchanged { IsErrOf result OutOfMemory → SameMemory M.has M.newest self.old.memory self.new.memory }
     {
         facts();
@@ -244,7 +246,7 @@ impl<M: ReplayMemory> Acceptor<M> {
         ensures moves { (IsErrOf result OutOfMemory → ⊥)
             → M.newest self.new.memory ≡ Some (later_of (M.newest self.old.memory) now) }
         ensures offset { IfErr result (TellsPlaceWithin bytes.now) }
-        ensures memory { IsErrOf result OutOfMemory → IsOrdinary bytes.now }
+        ensures memory { IsErrOf result OutOfMemory → AsksWithin self.old.setup bytes.now }
         ensures service { IfOk result (λ accepted. AsksFor bytes.now accepted.service) }
         ensures limit { (history : List Arrival)
             → Stands M.has M.newest self.old history
@@ -279,8 +281,8 @@ impl<M: ReplayMemory> Acceptor<M> {
         ensures judged { JudgedBy M.has M.newest self.old bytes.now now result }
         ensures named { IsNamed result }
         ensures placed { IsPlacedWithin bytes.now result }
-        ensures asks { IfOk result (λ _. IsOrdinary bytes.now) }
-        ensures memory { IsErrOf result OutOfMemory → IsOrdinary bytes.now }
+        ensures asks { IfOk result (λ _. AsksWithin self.old.setup bytes.now) }
+        ensures memory { IsErrOf result OutOfMemory → AsksWithin self.old.setup bytes.now }
         ensures service { IfOk result (λ j. IfOk j.answer (λ x. AsksFor bytes.now x.service)) }
     {
         self.judge.judge(alloc, bytes, now, &self.memory)

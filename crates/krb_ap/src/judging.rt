@@ -4,10 +4,11 @@ ghost use Rattle.std.specs.Prelude.{◌≡◌, ◌↔◌, ℕ, List, IfErr, IfOk
 ghost use Rattle.std.specs.Option.{option_map};
 ghost use Rattle.krb_enc.specs.Key.{IsUsable};
 ghost use Rattle.krb_keytab.specs.Pick.{chosen, IsChoice};
-ghost use Rattle.krb_msg.specs.Borrowed.{ap_req_of, authenticator_of, enc_ticket_part_of, encrypted_of, typed_of};
-ghost use Rattle.krb_msg.specs.Fields.{encrypted_fields, part_client};
+ghost use Rattle.krb_keytab.specs.Size.{IsNoLarger};
+ghost use Rattle.krb_msg.specs.Borrowed.{ap_req_of, authenticator_of, enc_ticket_part_of, encrypted_of, ticket_of, typed_of};
+ghost use Rattle.krb_msg.specs.Fields.{encrypted_fields, part_client, ticket_service};
 ghost use Rattle.krb_msg.specs.Owned.{owned_list_of, owned_typed_of};
-ghost use Rattle.krb_ap.specs.Opened.{Asks, AsksFor, IsOrdinary, OpenedAs, entry_key, sent_at, service_of, stamp_at};
+ghost use Rattle.krb_ap.specs.Opened.{Asks, AsksFor, AsksWithin, OpenedAs, entry_key, sent_at, service_of, stamp_at};
 ghost use Rattle.krb_ap.specs.Quiet.{Settled};
 ghost use Rattle.krb_ap.specs.Taken.{taken_from};
 ghost use Rattle.krb_ap.specs.Times.{Near};
@@ -20,7 +21,8 @@ use crate::accepted::Accepted;
 use crate::inner_laws::facts;
 use crate::keys::{owned_key, usable_key};
 use crate::opening::{
-    check_client, check_key, check_type, read_authenticator, read_request, read_ticket, service,
+    check_client, check_key, check_type, is_larger, read_authenticator, read_request, read_ticket,
+    service,
 };
 use crate::refusal::Refusal;
 use crate::session_keys::SessionKeys;
@@ -29,7 +31,7 @@ use crate::times::{is_near, is_past, refusal_of_times};
 use krb_keytab::{Entry, Keytab, Picked};
 use krb_msg::{
     ApReqRef, AuthenticatorRef, EncTicketRef, EncryptedRef, MUTUAL_REQUIRED, Moment, Principal,
-    Typed, TypedListRef, TypedRef,
+    TicketRef, Typed, TypedListRef, TypedRef,
 };
 use krb_replay::{ReplayMemory, Skew, Tuple};
 use std::alloc::{AllocError, Global};
@@ -94,13 +96,14 @@ impl Judge {
         ensures judged { Judges self.old.rules (M.has memory.now) (M.newest memory.now) bytes.now now result }
         ensures named { IsNamed result }
         ensures placed { IsPlacedWithin bytes.now result }
-        ensures asks { IfOk result (λ _. IsOrdinary bytes.now) }
-        ensures memory { IsErrOf result OutOfMemory → IsOrdinary bytes.now }
+        ensures asks { IfOk result (λ _. AsksWithin self.old.rules bytes.now) }
+        ensures memory { IsErrOf result OutOfMemory → AsksWithin self.old.rules bytes.now }
         ensures service { IfOk result (λ j. IfOk j.answer (λ x. AsksFor bytes.now x.service)) }
     {
         facts();
         krb_der::laws::within();
         let request = read_request(bytes)?;
+        self.rules.check_size(&request.ticket)?;
         let server = service(alloc, &request.ticket)?;
         let entry = self.rules.chosen_entry(&server, &request.ticket.enc_part)?;
         self.tickets
@@ -168,6 +171,19 @@ impl Rules {
                     answer: Ok(accepted),
                 })
             }
+        }
+    }
+
+    /// Refuses a ticket for a service whose name is larger than each of the keytab. It allocates no
+    /// memory.
+    fn check_size(&self, ticket: &TicketRef) -> Result<(), Refusal>
+        ensures size { OnOk result (IsNoLarger self.now.entries (ticket_service (ticket_of ticket.now))) }
+        ensures wanting { IfErr result (Wants self.now.entries (ticket_service (ticket_of ticket.now)) (encrypted_of ticket.now.enc_part)) }
+    {
+        if is_larger(ticket, self.keytab.largest_name()) {
+            Err(Refusal::NotUs)
+        } else {
+            Ok(())
         }
     }
 

@@ -8,6 +8,7 @@ ghost use Rattle.krb_enc.specs.Opens.{Opens};
 ghost use Rattle.krb_msg.specs.Borrowed.{ap_req_of, authenticator_of, enc_ticket_part_of, name_of};
 ghost use Rattle.krb_msg.specs.Fields.{ticket_service};
 ghost use Rattle.krb_msg.specs.Borrowed.{ticket_of};
+ghost use Rattle.krb_keytab.specs.Size.{name_size};
 ghost use Rattle.krb_msg.specs.Module.{ap_req, authenticator, enc_ticket_part};
 ghost use Rattle.krb_ap.specs.Causes.{BeginsOtherwise, place};
 ghost use Rattle.krb_ap.specs.Opened.{Asks, SameClient};
@@ -63,6 +64,24 @@ fn is_known(sealed: &EncryptedRef) -> bool
 {
     sealed.etype == etype::AES128_CTS_HMAC_SHA256_128
         || sealed.etype == etype::AES256_CTS_HMAC_SHA384_192
+}
+
+/// Whether the name of the service that a ticket is for is larger than `most`. It reads no more of
+/// the name than it must, and allocates no memory.
+pub(crate) fn is_larger(ticket: &TicketRef, most: usize) -> bool
+    ensures { IsTrue result ↔ (most < name_size (ticket_service (ticket_of ticket.now))) }
+{
+    if most < ticket.realm.len() {
+        return true;
+    }
+    let mut left = most - ticket.realm.len();
+    for component in ticket.sname.components.iter() {
+        if left <= component.len() {
+            return true;
+        }
+        left -= component.len() + 1;
+    }
+    false
 }
 
 /// The service that a ticket is for.

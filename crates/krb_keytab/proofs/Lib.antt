@@ -20,3 +20,4 @@ pub mod RoomLaws
 pub mod HoleLaws
 pub mod AdderLaws
 pub mod KeyLaws
+pub mod SizeLaws

@@ -6,6 +6,7 @@ pub mod Items
 pub mod Only
 pub mod Pick
 pub mod SameKey
+pub mod Size
 pub mod Usable
 pub mod Written
 pub mod Inner

@@ -3,6 +3,7 @@
 ghost use Rattle.std.specs.Prelude.{◌≡◌, ◌↔◌, ◌<◌, ◌≤◌, ◌*◌, ◌^◌, length, All, IsTrue, SomeIff, Some};
 ghost use Rattle.krb_keytab.specs.Entry.{KeytabEntry, LengthsFit, FitsEntry};
 ghost use Rattle.krb_keytab.specs.Inner.KeyHash.{key_hash};
+ghost use Rattle.krb_keytab.specs.Size.{name_size};
 ghost use Rattle.krb_keytab.specs.Written.{record_length};
 
 use crate::part::Part;
@@ -101,6 +102,17 @@ impl Entry {
         ensures { result.now ≡ self.now.principal }
     {
         &self.principal
+    }
+
+    // How large the principal's name is.
+    pub(crate) fn name_size(&self) -> usize
+        ensures { result ≡ name_size self.now.principal }
+    {
+        let mut size = self.principal.realm.len();
+        for component in self.principal.components.as_slice() {
+            size += component.len() + 1;
+        }
+        size
     }
 
     // The type of the principal's name.

@@ -6,6 +6,7 @@ ghost use Rattle.krb_keytab.specs.Entry.{KeytabEntry};
 ghost use Rattle.krb_keytab.specs.Fault.{offset_of, failed_reads};
 ghost use Rattle.krb_keytab.specs.Only.{KeepsOnly};
 ghost use Rattle.krb_keytab.specs.Pick.{IsPicked};
+ghost use Rattle.krb_keytab.specs.Size.{HasSizesWithin, IsLargestSize};
 ghost use Rattle.krb_name.specs.Name.{SameName};
 ghost use Rattle.krb_name.specs.File.{file_limit, ReadsFile};
 ghost use Rattle.krb_keytab.specs.Format.{IsKeytab, IsFaultOf, IsAnswerOf};
@@ -27,15 +28,20 @@ use std::marker::Model;
 #[derive(Drop)]
 pub struct Keytab {
     entries: NamedList<Entry>,
+    // The size of the largest name.
+    largest: usize,
 }
 
 impl Model for Keytab {
     ghost use Rattle.std.specs.Prelude.{List};
     ghost use Rattle.krb_keytab.specs.Entry.{KeytabEntry};
+    ghost use Rattle.krb_keytab.specs.Size.{IsLargestSize};
 
     ghost Value = { List KeytabEntry };
 
     ghost view = { λ k. k.entries };
+
+    ghost invariant = { λ k. IsLargestSize k.entries k.largest };
 }
 
 // As many entries have no index. They are looked at one by one.
@@ -131,7 +137,14 @@ impl Keytab {
         } else {
             entries.finish_plain()
         };
-        Ok(Keytab { entries })
+        Ok(Keytab::of_list(entries))
+    }
+
+    fn of_list(entries: NamedList<Entry>) -> Keytab
+        ensures { result ≡ entries }
+    {
+        let largest = largest_size(entries.as_slice());
+        Keytab { entries, largest }
     }
 
     /// Writes the entries as the bytes of a file: their records, without holes and without an end.
@@ -175,12 +188,24 @@ impl Keytab {
     /// another name of the same file. Names are compared as by `Principal::same_name`: realm and
     /// components, but not the name type. Allocates no memory. If no entry has the name, none is
     /// left.
-    pub fn only(mut self, name: &Principal) -> Keytab
+    pub fn only(self, name: &Principal) -> Keytab
         ensures only { KeepsOnly name.now self result }
         ensures named { All (λ entry. SameName entry.principal name.now) result }
     {
-        self.entries.retain_named(name);
-        self
+        let Keytab { mut entries, .. } = self;
+        entries.retain_named(name);
+        Keytab::of_list(entries)
+    }
+
+    /// Returns the size of the largest name of the entries: the bytes of the realm and of the
+    /// components, and one more for each component. Returns 0 if there are no entries.
+    ///
+    /// A larger name is that of no entry, so a caller can turn it away before it copies it.
+    pub fn largest_name(&self) -> usize
+        ensures within { HasSizesWithin result self.now }
+        ensures least { (most : ℕ) → HasSizesWithin most self.now → result ≤ most }
+    {
+        self.largest
     }
 
     /// Picks the entry for the principal `name`, the encryption type `etype` and the version number
@@ -199,6 +224,16 @@ impl Keytab {
     {
         pick_entry(&self.entries, name, etype, kvno)
     }
+}
+
+fn largest_size(entries: &[Entry]) -> usize
+    ensures { IsLargestSize entries.now result }
+{
+    let mut largest = 0;
+    for entry in entries {
+        largest = entry.name_size().max(largest);
+    }
+    largest
 }
 
 // Why bytes weren't read: their fault, or `OutOfMemory` if they have none.

@@ -28,6 +28,11 @@ returns-clause-forgets g c = λ forgetting history stands named stamp.
     (after history (arrival c.args.bytes.now c.args.now) c.decide.result)) c.decide.ensures.setup (c.decide.ensures.goes_on history stands).stands in
     (λ new. (on.only stamp new, (c.decide.ensures.goes_on history stands).forgets forgetting named stamp new), λ shown. on.all stamp shown.0 shown.1)
 
+pub returns-clause-memory : goal.returns-clause-memory
+returns-clause-memory g c = λ memory.
+    let asks = c.decide.ensures.memory memory in
+    (asks.0, asks.1.0)
+
 pub returns-clause-uncounted : goal.returns-clause-uncounted
 returns-clause-uncounted g c = λ history cause stands holds early.
     not_counted c.facts.ensures _ _ _ _ _ c.args.self.now.setup history (arrival c.args.bytes.now c.args.now) cause _ stands (c.decide.ensures.limit history stands) holds early

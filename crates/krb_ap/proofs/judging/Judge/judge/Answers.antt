@@ -21,6 +21,13 @@ returns-in_err-request-clause-placed g c =
     let p = err_from_is_err_and c.from_residual.result c.from_residual.ensures.1 in
     rw (p.1, p.2) (cause_within c.within.ensures c.args.self.now.rules [] (arrival c.args.bytes.now c.args.now) c.in_err-request.field-0.0 (c.in_err-request.ensures.refused _ [] c.args.now))
 
+pub returns-in_err-check_size-clause-judged : goal.returns-in_err-check_size-clause-judged
+returns-in_err-check_size-clause-judged g c =
+    let p = err_from_is_err_and c.from_residual-in_err-check_size.result c.from_residual-in_err-check_size.ensures.1 in
+    rw (p.1, p.2) (λ history moment stands eff named.
+    wanted c.facts.ensures c.args.self.now.rules history c.args.bytes.now moment _ (ap_req_of c.in_ok-request.request) c.in_ok-request.ensures.read c.in_err-check_size.field-0.0
+    c.in_err-check_size.ensures.wanting)
+
 pub returns-in_err-entry-clause-judged : goal.returns-in_err-entry-clause-judged
 returns-in_err-entry-clause-judged g c =
     let p = err_from_is_err_and c.from_residual-in_err-entry.result c.from_residual-in_err-entry.ensures.1 in
@@ -141,10 +148,10 @@ pub returns-clause-placed : goal.returns-clause-placed
 returns-clause-placed g c = c.judge_opened.ensures.placed c.args.bytes.now
 
 pub returns-clause-asks : goal.returns-clause-asks
-returns-clause-asks g c = if_ok c.judge_opened.result (ap_req_of c.in_ok-request.request, c.in_ok-request.ensures.read)
+returns-clause-asks g c = if_ok c.judge_opened.result (ap_req_of c.in_ok-request.request, (c.in_ok-request.ensures.read, c.in_ok-check_size.ensures.size))
 
 pub returns-clause-memory : goal.returns-clause-memory
-returns-clause-memory g c = λ memory. (ap_req_of c.in_ok-request.request, c.in_ok-request.ensures.read)
+returns-clause-memory g c = λ memory. (ap_req_of c.in_ok-request.request, (c.in_ok-request.ensures.read, c.in_ok-check_size.ensures.size))
 
 pub returns-clause-service : goal.returns-clause-service
 returns-clause-service g c = c.judge_opened.ensures.service c.args.bytes.now c.in_ok-request.ensures.read
