@@ -520,8 +520,8 @@ class Service(Serving):
 def _store_of(store: Store | str | os.PathLike[str], skew: int) -> Store:
     """The store that a service of this skew asks: a path stands for a file."""
     if isinstance(store, (str, os.PathLike)):
-        from .stores import SQLite
-        store = SQLite(store, skew if skew > _SKEW else None)
+        from .stores import File
+        store = File(store, skew if skew > _SKEW else None)
     if skew > store.largest_skew:
         raise ValueError(f"the store is made for a skew of up to {store.largest_skew} seconds, and the service's is {skew}")
     return store

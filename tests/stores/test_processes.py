@@ -36,8 +36,8 @@ SKEW = ("refused", "SKEW")
 WITH_BOOT = """
 import runpy, sys
 from pathlib import Path
-from fevstunik.stores import _sqlite
-_sqlite._BOOT = Path(sys.argv[1])
+from fevstunik.stores import _place
+_place.BOOT = Path(sys.argv[1])
 sys.argv = sys.argv[2:]
 runpy.run_path(sys.argv[0], run_name="__main__")
 """

@@ -9,12 +9,13 @@ and a service that is started again, or replaced, lets clients in at once.
 docs/OPERATING.md, "Several instances", says which store to take, and what it needs.
 """
 from .._errors import StoreFailed, UnsafeStore
+from ._file import File
 from ._postgresql import PostgreSQL
 from ._redis import Redis
 from ._sqlite import SQLite
 from ._store import Store
 
-__all__ = ["PostgreSQL", "Redis", "SQLite", "Store", "StoreFailed", "UnsafeStore"]
+__all__ = ["File", "PostgreSQL", "Redis", "SQLite", "Store", "StoreFailed", "UnsafeStore"]
 for _name in __all__:
     globals()[_name].__module__ = __name__
 del _name
