@@ -28,7 +28,7 @@ def requests(tmp_path_factory):
 
 @pytest.fixture
 def file(tmp_path):
-    with contextlib.closing(store_servers.File(tmp_path)) as store:
+    with contextlib.closing(store_servers.OfSQLite(tmp_path)) as store:
         store.start()
         yield store
 

@@ -23,8 +23,8 @@ class Store(Protocol):
     and the services that use it are started again.
 
     >>> import tempfile
-    >>> from fevstunik.stores import SQLite, Store
-    >>> isinstance(SQLite(tempfile.mkdtemp() + "/stamps"), Store)
+    >>> from fevstunik.stores import File, Store
+    >>> isinstance(File(tempfile.mkdtemp() + "/stamps"), Store)
     True
     """
 
