@@ -1,5 +1,5 @@
-"""The store in a file to which stamps are appended: what becomes of it when it has grown, and what is refused. What it has
-in common with the other store in a file is in test_files.py."""
+"""The store in a file to which stamps are appended: what becomes of it when it has grown, and what is refused. What it
+has in common with the store over SQLite is in test_files.py."""
 import os
 import random
 import resource
@@ -188,7 +188,7 @@ def test_a_file_that_was_removed_after_it_was_replaced(path, small):
 
 
 def test_another_kind_of_store(path):
-    """Of two services that have stores of different kinds at one place, as that of an earlier version, one doesn't start."""
+    """Of two services that have stores of different kinds at one place, as of two versions, one doesn't start."""
     for first, second in ((File, SQLite), (SQLite, File)):
         before = first(path)
         with pytest.raises(StoreFailed, match="not a database|no store of this kind"):
@@ -268,8 +268,9 @@ def test_another_thread_is_in_it(path):
 def test_another_process_replaces_it(path, small):
     """Nobody waits for it for longer than was said; what was added meanwhile is known."""
     store = File(path, seconds=0.5)
-    with _file.locked(path.parent, time.monotonic() + 1, RuntimeError), pytest.raises(StoreFailed, match="no answer in 0.5"):
-        all_added(store, stamps(b"a", 100))
+    with _file.locked(path.parent, time.monotonic() + 1, RuntimeError):
+        with pytest.raises(StoreFailed, match="no answer in 0.5"):
+            all_added(store, stamps(b"a", 100))
     assert not store.add(b"a 1", LATER) and store.add(b"b", LATER)
 
 

@@ -1,5 +1,5 @@
-"""The store over SQLite: what it forgets, and what is refused. What it has in common with the other store in a file is in
-test_files.py."""
+"""The store over SQLite: what it forgets, and what is refused. What it has in common with the other store in a file is
+in test_files.py."""
 import contextlib
 import sqlite3
 import time
