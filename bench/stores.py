@@ -26,7 +26,7 @@ sys.path += [str(TOP), str(TOP / "tests"), str(TOP / "python")]
 import builds  # noqa: E402
 from support import c_programs, instances, store_servers  # noqa: E402
 from fevstunik import Moment  # noqa: E402
-from fevstunik.stores import PostgreSQL, Redis, SQLite  # noqa: E402
+from fevstunik.stores import File, PostgreSQL, Redis, SQLite  # noqa: E402
 
 # How many processes; how many requests (a store that syncs gets a part); how often each is timed; and how many clients each process in C
 # has at a time.
@@ -44,17 +44,27 @@ class Rate(NamedTuple):
         return f"{self.logins:,.0f} ({self.micros:,.0f} µs)"
 
 
-class AFile(store_servers.File):
+class ThisBoot:
     """A file of this boot."""
 
     def boot(self):
         self.boot_file.write_text(Path("/proc/sys/kernel/random/boot_id").read_text())
 
 
+class OfRecords(ThisBoot, store_servers.OfRecords):
+    pass
+
+
+class OfSQLite(ThisBoot, store_servers.OfSQLite):
+    pass
+
+
 # What the stores are named in the tables, how one is made, how it is opened in Python, whether it syncs, and whether there is one in C. (/run is in
 # memory on most machines.)
-STORES = (("a file in memory", lambda: AFile("/dev/shm"), SQLite, False, True),
-          ("a file on disk", lambda: AFile(TOP / "build"), SQLite, False, True),
+STORES = (("a file in memory", lambda: OfRecords("/dev/shm"), File, False, False),
+          ("a file on disk", lambda: OfRecords(TOP / "build"), File, False, False),
+          ("SQLite in memory", lambda: OfSQLite("/dev/shm"), SQLite, False, True),
+          ("SQLite on disk", lambda: OfSQLite(TOP / "build"), SQLite, False, True),
           ("Redis", store_servers.Redis, Redis, True, True),
           ("PostgreSQL", store_servers.Postgres, PostgreSQL, True, False))
 
@@ -195,13 +205,8 @@ def table(folder, archive):
     row("Python, no store", lambda count, run: in_python([TOP / "examples/serve.py", *instances.SERVICE, "--first"], count, many[run]))
     for name, make, _, syncs, _ in STORES:
         words = [TOP / "examples/shared.py", *instances.SERVICE]
-        over_a_store(f"Python, {name}", make, few if syncs else many, lambda store, *it: in_python([*words, place_of(store), "--wait", 20], *it))
+        over_a_store(f"Python, {name}", make, few if syncs else many, lambda store, *it: in_python([*words, store.where, "--wait", 20], *it))
     row("MIT krb5 in C, a replay cache in a file", lambda count, run: with_file(folder, count))
-
-
-def place_of(store):
-    """As examples/shared.py and the stores in Python take it."""
-    return store.where if hasattr(store, "where") else store.path
 
 
 def added(folder):
@@ -211,7 +216,7 @@ def added(folder):
         with contextlib.closing(make()) as store:
             store.start()
             nanoseconds = must(c_programs.run(folder / "adds", store.in_c, SYNCED)) if is_in_c else None
-            print(f"| {name} | {f'{int(nanoseconds) / 1000:,.0f} µs' if nanoseconds else ''} | {micros_of(opened(place_of(store))):,.0f} µs |", flush=True)
+            print(f"| {name} | {f'{int(nanoseconds) / 1000:,.0f} µs' if nanoseconds else ''} | {micros_of(opened(store.where.removeprefix("sqlite:"))):,.0f} µs |", flush=True)
 
 
 def micros_of(store):
