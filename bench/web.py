@@ -38,10 +38,8 @@ WORKERS, LOGINS, ROUNDS, USERS = 4, 1_500, 5, (1, 1_000)
 WAYS = {"a connection for each login": (0, 16), "connections that stay": (1, WORKERS)}
 APP = '''
 import logging
-from fevstunik.web import Negotiate
-logging.basicConfig(filename={log!r}, level=logging.INFO, format="%(asctime)s %(message)s")
-# What the format doesn't show (Python's manual, logging, "Optimization").
-logging.logThreads = logging.logProcesses = logging.logMultiprocessing = logging.logAsyncioTasks = False
+from fevstunik.web import LogFile, Negotiate
+logging.basicConfig(handlers=[LogFile({log!r})], level=logging.INFO)
 
 def page(environ, start_response):
     start_response("200 OK", [("Content-Type", "text/plain"), ("Content-Length", "6")])
