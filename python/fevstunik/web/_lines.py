@@ -22,8 +22,8 @@ class LogFile(logging.Handler):
     >>> import logging, tempfile
     >>> from fevstunik.web import LogFile
     >>> path = tempfile.mkdtemp() + "/log"
-    >>> logging.getLogger("fevstunik.web").addHandler(LogFile(path))
-    >>> logging.getLogger("fevstunik.web").warning("a line", extra={"peer": "192.0.2.7"})
+    >>> logging.getLogger("example").addHandler(LogFile(path))
+    >>> logging.getLogger("example").warning("a line", extra={"peer": "192.0.2.7"})
     >>> open(path).read()[24:]
     'WARNING 192.0.2.7 a line\\n'
     """
@@ -60,11 +60,20 @@ class LogFile(logging.Handler):
             self.handleError(record)
 
     def takes(self, level: int) -> bool:
-        """Whether it writes each record of a level as `write` does."""
+        """Return whether it writes each record of a level as `write` does: without filters, and in this form.
+
+        >>> from fevstunik.web import LogFile
+        >>> LogFile("/dev/null").takes(20)
+        True
+        """
         return level >= self.level and not self.filters and self.formatter is _FORMATTER
 
     def write(self, level: int, peer: str, text: str) -> None:
-        """Write the line of a record, without the record."""
+        """Write the line that a record of a level, a peer and a text would have.
+
+        >>> from fevstunik.web import LogFile
+        >>> LogFile("/dev/null").write(20, "192.0.2.7", "a line")
+        """
         now = time.time()
         try:
             self._append(f"{self._second(int(now))},{int(now % 1 * 1000):03d} {logging.getLevelName(level)} {peer} {text}")
