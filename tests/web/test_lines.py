@@ -31,6 +31,7 @@ def logger():
     found = logging.getLogger("fevstunik.web")
     before = found.handlers[:], found.level, found.propagate, found.filters[:]
     found.propagate = False
+    found.setLevel(logging.INFO)
     yield found
     found.handlers[:], found.level, found.propagate, found.filters[:] = before
 
