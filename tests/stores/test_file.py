@@ -156,7 +156,7 @@ def test_a_process_that_was_killed_while_it_replaced_it(path, small):
     store, idle = File(path), File(path)
     assert all_added(store, stamps(b"a", 20)) == stamps(b"a", 20)
     with open(store.path, "ab") as file:
-        file.write(_file._CLOSED + bytes(16) + bytes(_file._SIZE - 16))
+        file.write(_file._CLOSED + bytes(2 * _file._SIZE))
     path.with_name(f"{store.path.name}.new").write_bytes(b"fevst")
 
     def child(number):
@@ -265,13 +265,19 @@ def test_another_thread_is_in_it(path):
     assert store.add(b"a", LATER)
 
 
-def test_another_process_replaces_it(path, small):
-    """Nobody waits for it for longer than was said; what was added meanwhile is known."""
+def test_another_process_has_locked_the_folder(path, small):
+    """Nobody waits for it while the file isn't closed, and for no longer than was said if it is."""
     store = File(path, seconds=0.5)
     with _file.locked(path.parent, time.monotonic() + 1, RuntimeError):
+        assert all_added(store, stamps(b"a", 100)) == stamps(b"a", 100)
+        assert store.path.stat().st_size == _file._HEAD.size + 100 * _file._SIZE
+        with open(store.path, "ab") as file:
+            file.write(_file._CLOSED)
+        began = time.monotonic()
         with pytest.raises(StoreFailed, match="no answer in 0.5"):
-            all_added(store, stamps(b"a", 100))
-    assert not store.add(b"a 1", LATER) and store.add(b"b", LATER)
+            store.add(b"b", LATER)
+        assert 0.4 < time.monotonic() - began < 5
+    assert store.add(b"b", LATER) and not all_added(File(path), stamps(b"a", 100) + [b"b"])
 
 
 def test_an_answer_that_comes_too_late(path, monkeypatch):

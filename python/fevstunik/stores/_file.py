@@ -13,6 +13,8 @@ import struct
 import threading
 import time
 from array import array
+from collections.abc import Callable
+from contextlib import suppress
 from hashlib import blake2b
 from pathlib import Path
 
@@ -153,6 +155,10 @@ def _identity(found: os.stat_result) -> tuple[int, int]:
     return found.st_dev, found.st_ino
 
 
+class _NotNow(Exception):
+    """Another process has locked the folder."""
+
+
 class _Reader:
     """The store as a process has it open. One call is in it at a time."""
 
@@ -173,19 +179,23 @@ class _Reader:
                 raise self._file.removed()
             self._follow(last)
         elif self._file.is_large:
-            self._follow(last)
+            with suppress(_NotNow):
+                self._follow(0.0, _NotNow)
         return is_new
 
-    def _follow(self, last: float) -> None:
+    def _follow(self, last: float, late: Callable[[], Exception] | None = None) -> None:
         """Go on with the next file, which is made now unless another process has done that."""
         if self._file.has_name():
-            with locked(self._place.folder, last, lambda: no_answer(self._seconds)):
+            with locked(self._place.folder, last, late or self._no_answer):
                 if self._file.has_name():
                     self._file.replace()
         found = _Opened(self._place)
         if found.made != self.made:
             raise made_again()
         self._file = found
+
+    def _no_answer(self) -> Exception:
+        return no_answer(self._seconds)
 
 
 class File(Secret):
