@@ -21,7 +21,7 @@ from ._messages import Messages, Side
 from ._service import Refused, Serving, options_of
 from ._shown import fit_for_a_line
 from ._tokens import GoOn, bindings_of
-from ._values import CONFOUNDER, LAST_SECOND, Key, Moment, When, clock
+from ._values import CONFOUNDER, LAST_SECOND, Key, Moment, When, clock, moment_of
 
 if TYPE_CHECKING:
     from .stores import Store
@@ -313,7 +313,7 @@ class _Waiting:
         last = seconds + 2 * (store.largest_skew - service._skew)
         if last > LAST_SECOND:
             raise Fault(Code.BAD_MOMENT)
-        return store.add(stamp, Moment(last, micros))
+        return store.add(stamp, moment_of(last, micros))
 
     def settled(self) -> Login | GoOn | Refused:
         """What comes of it."""
