@@ -15,7 +15,7 @@ import time
 from array import array
 from collections.abc import Callable
 from contextlib import suppress
-from hashlib import blake2b
+from hashlib import sha256
 from pathlib import Path
 
 from .._errors import StoreFailed
@@ -250,7 +250,7 @@ class File(Secret):
     def add(self, stamp: bytes, keep_until: Moment) -> bool:
         """Add a stamp in one step, and return whether it is new. Raises StoreFailed if that isn't known in time."""
         last = time.monotonic() + self._seconds
-        key, until = blake2b(stamp, digest_size=_KEY).digest(), micros(keep_until)
+        key, until = sha256(stamp).digest()[:_KEY], micros(keep_until)
         try:
             reader = self._reader()
             if not reader.lock.acquire(timeout=self._seconds):
