@@ -248,6 +248,59 @@ def test_no_room_for_the_next_file(path, small, monkeypatch):
     assert known == stamps(b"a", len(known)) and len(known) > 50 and store.add(b"b", LATER)
 
 
+class NoMemory(set):
+    """A set for which memory runs out, so many times."""
+    left = 0
+
+    def add(self, it):
+        self.check()
+        super().add(it)
+
+    def update(self, these):
+        self.check()
+        super().update(these)
+
+    def check(self):
+        if self.left:
+            self.left -= 1
+            raise MemoryError
+
+
+@pytest.mark.parametrize("others", [0, 1, 5])
+def test_memory_runs_out(path, others):
+    """While the file is read: then all of that is read again, and no stamp is new twice."""
+    store, other = File(path), File(path)
+    assert not all_added(store, []) and len(all_added(other, stamps(b"a", others))) == others
+    opened = store._own[1]._file
+    opened._seen = NoMemory(opened._seen)
+    for left in range(1, others + 2):
+        opened._seen.left = left
+        with pytest.raises(MemoryError):
+            store.add(b"own %d" % left, LATER)
+        opened._seen.left = 0
+        assert not store.add(b"own %d" % left, LATER)
+    assert not all_added(store, stamps(b"a", others)) and store.add(b"b", LATER) and not other.add(b"b", LATER)
+
+
+def test_memory_runs_out_while_it_is_replaced(path, small):
+    """Nothing that was added is lost."""
+    store, other = File(path), File(path)
+    assert len(all_added(other, stamps(b"a", 59))) == 59
+    opened = store._own[1]._file
+    opened._seen = NoMemory(opened._seen)
+    with open(store.path, "ab") as file:
+        file.write(_file._CLOSED)
+    for left in (1, 1, 2):
+        opened._seen.left = left
+        with pytest.raises(MemoryError):
+            opened.read_all()
+        with pytest.raises(MemoryError):
+            opened._seen.left = left
+            opened.replace()
+    opened._seen.left = 0
+    assert store.add(b"b", LATER) and not all_added(File(path), stamps(b"a", 59) + [b"b"])
+
+
 def no_room(*_):
     raise OSError(28, "No space left on device")
 

@@ -78,18 +78,20 @@ class _Opened:
         return self._read_up_to(own)
 
     def _read_up_to(self, own: bytes) -> bool | None:
+        # (a place is passed by once all before it is kept: memory may run out)
         seen = self._seen
         while part := self._part():
             for at in range(0, len(part), _SIZE):
                 record = part[at:at + _SIZE]
                 key = record[:_KEY]
                 if record == own:
-                    self._at += at + _SIZE
                     is_new = key not in seen
                     seen.add(key)
+                    self._at += at + _SIZE
                     return is_new
                 if record == _CLOSED:
-                    self._at, self.is_closed = self._at + at, True
+                    self._at += at
+                    self.is_closed = True
                     return None
                 seen.add(key)
             self._at += len(part)
@@ -99,10 +101,10 @@ class _Opened:
         """Read all that there is now, or all up to where the file was closed."""
         while not self.is_closed and (part := self._part()):
             records = [part[at:at + _SIZE] for at in range(0, len(part), _SIZE)]
-            if _CLOSED in records:
-                records, self.is_closed = records[:records.index(_CLOSED)], True
-            self._seen.update(it[:_KEY] for it in records)
-            self._at += len(records) * _SIZE
+            end = records.index(_CLOSED) if _CLOSED in records else len(records)
+            self._seen.update(it[:_KEY] for it in records[:end])
+            self._at += end * _SIZE
+            self.is_closed = end < len(records)
 
     def _part(self) -> bytes:
         """The next records, or none if there are no more."""
