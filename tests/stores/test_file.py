@@ -85,17 +85,14 @@ def test_numbers_of_records_differ(path):
 # ---------------------------------------------------------------- a file that has grown
 
 
-def test_it_is_replaced(path, small):
+def test_it_is_replaced(path, small, monkeypatch):
     """What is kept is known as before, to all who have it open, and who open it."""
     store, idle, these = File(path), File(path), stamps(b"a", 500)
-    files, sizes = set(), []
-    assert all_added(idle, these[:1]) == these[:1]
-    for it in these[1:]:
-        assert store.add(it, LATER)
-        files.add(store.path.stat().st_ino)
-        sizes.append(store.path.stat().st_size)
+    replaced, replace = [], _file._Opened.replace
+    monkeypatch.setattr(_file._Opened, "replace", lambda it: replaced.append(it._at) or replace(it))
+    assert all_added(idle, these[:1]) == these[:1] and all_added(store, these[1:]) == these[1:]
     # (each is twice as large as the one before)
-    assert 3 <= len(files) <= 5 and max(sizes) < 2 * (_file._HEAD.size + 500 * _file._SIZE)
+    assert replaced == [2048, 4096, 8192]
     for it in (store, idle, File(path)):
         assert not all_added(it, these) and it.add(b"new for %d" % id(it), LATER)
     assert {it.name for it in path.parent.iterdir()} == {store.path.name}
@@ -182,6 +179,18 @@ def test_a_file_that_was_removed_after_it_was_replaced(path, small):
         with pytest.raises(StoreFailed, match="made again|was removed"):
             it.add(b"c", LATER)
     assert made.add(b"c", LATER)
+
+
+def test_a_copy_in_its_place(path):
+    """It may lack what was added since."""
+    store, copy = File(path), path.with_name("copy")
+    assert store.add(b"a", LATER)
+    copy.write_bytes(store.path.read_bytes())
+    copy.chmod(0o600)
+    copy.rename(store.path)
+    for _ in range(2):
+        with pytest.raises(StoreFailed, match="was removed"):
+            store.add(b"b", LATER)
 
 
 # ---------------------------------------------------------------- what is refused
@@ -282,7 +291,7 @@ def test_memory_runs_out(path, others):
     assert not all_added(store, stamps(b"a", others)) and store.add(b"b", LATER) and not other.add(b"b", LATER)
 
 
-def test_memory_runs_out_while_it_is_replaced(path, small):
+def test_memory_runs_out_while_it_is_replaced(path):
     """Nothing that was added is lost."""
     store, other = File(path), File(path)
     assert len(all_added(other, stamps(b"a", 59))) == 59
