@@ -3,11 +3,13 @@
 to one login.
 
     bench/stores.py [FOLDER]     FOLDER has libfevstunik.a and the shared library, as build/x86-64-v2 of `make`; else they are built
+      --write                    writes the tables into bench/README.md, too
 
 Each process is sent a part of the requests: examples/service/service in C over TCP, some at a time, and examples/shared.py by lines, one at a time.
 Beside them are processes without a store, each of which remembers for itself, and MIT krb5's krb5_rd_req with its replay cache in a file, which its
 processes share. Needs what tests/stores and bench/from_c.py need; takes about two minutes. Nothing here is a test, but each request has to be accepted.
 """
+import argparse
 import contextlib
 import os
 import statistics
@@ -20,13 +22,14 @@ from pathlib import Path
 from typing import NamedTuple
 
 import exchange
+import written
 
 TOP = Path(__file__).resolve().parent.parent
 sys.path += [str(TOP), str(TOP / "tests"), str(TOP / "python")]
 import builds  # noqa: E402
 from support import c_programs, instances, store_servers  # noqa: E402
 from fevstunik import Moment  # noqa: E402
-from fevstunik.stores import PostgreSQL, Redis, SQLite  # noqa: E402
+from fevstunik.stores import File, PostgreSQL, Redis, SQLite  # noqa: E402
 
 # How many processes; how many requests (a store that syncs gets a part); how often each is timed; and how many clients each process in C
 # has at a time.
@@ -44,17 +47,27 @@ class Rate(NamedTuple):
         return f"{self.logins:,.0f} ({self.micros:,.0f} µs)"
 
 
-class AFile(store_servers.File):
+class ThisBoot:
     """A file of this boot."""
 
     def boot(self):
         self.boot_file.write_text(Path("/proc/sys/kernel/random/boot_id").read_text())
 
 
+class OfRecords(ThisBoot, store_servers.OfRecords):
+    pass
+
+
+class OfSQLite(ThisBoot, store_servers.OfSQLite):
+    pass
+
+
 # What the stores are named in the tables, how one is made, how it is opened in Python, whether it syncs, and whether there is one in C. (/run is in
 # memory on most machines.)
-STORES = (("a file in memory", lambda: AFile("/dev/shm"), SQLite, False, True),
-          ("a file on disk", lambda: AFile(TOP / "build"), SQLite, False, True),
+STORES = (("a file in memory", lambda: OfRecords("/dev/shm"), File, False, False),
+          ("a file on disk", lambda: OfRecords(TOP / "build"), File, False, False),
+          ("SQLite in memory", lambda: OfSQLite("/dev/shm"), SQLite, False, True),
+          ("SQLite on disk", lambda: OfSQLite(TOP / "build"), SQLite, False, True),
           ("Redis", store_servers.Redis, Redis, True, True),
           ("PostgreSQL", store_servers.Postgres, PostgreSQL, True, False))
 
@@ -161,10 +174,19 @@ def used_by_children():
 # ---------------------------------------------------------------- tables
 
 
+# The lines that were printed.
+LINES = []
+
+
+def show(line):
+    LINES.append(line)
+    print(line, flush=True)
+
+
 def row(name, measured):
     """A row of the table; `measured` takes a number of processes, and which run of how many it is."""
     best = [max(measured(count, index * RUNS + run) for run in range(RUNS)) for index, count in enumerate(COUNTS)]
-    print(f"| {name} | " + " | ".join(map(str, best)) + " |", flush=True)
+    show(f"| {name} | " + " | ".join(map(str, best)) + " |")
 
 
 def requests_of(cache, library):
@@ -187,7 +209,7 @@ def table(folder, archive):
     os.environ["FEVSTUNIK_LIBRARY"] = str(library)
     many = requests_of(cache, library)
     few = [it[:SYNCED] for it in many]
-    print("\n| logins a second (processor time of each) | " + " | ".join(f"{it} process{'es' * (it > 1)}" for it in COUNTS) + " |\n|---|---|---|---|")
+    show("\n| logins a second (processor time of each) | " + " | ".join(f"{it} process{'es' * (it > 1)}" for it in COUNTS) + " |\n|---|---|---|---|")
     row("C, no store", lambda count, run: in_c(folder, ["first"], count, many[run]))
     for name, make, _, syncs, is_in_c in STORES:
         if is_in_c:
@@ -195,23 +217,19 @@ def table(folder, archive):
     row("Python, no store", lambda count, run: in_python([TOP / "examples/serve.py", *instances.SERVICE, "--first"], count, many[run]))
     for name, make, _, syncs, _ in STORES:
         words = [TOP / "examples/shared.py", *instances.SERVICE]
-        over_a_store(f"Python, {name}", make, few if syncs else many, lambda store, *it: in_python([*words, place_of(store), "--wait", 20], *it))
+        over_a_store(f"Python, {name}", make, few if syncs else many, lambda store, *it: in_python([*words, store.where, "--wait", 20], *it))
     row("MIT krb5 in C, a replay cache in a file", lambda count, run: with_file(folder, count))
-
-
-def place_of(store):
-    """As examples/shared.py and the stores in Python take it."""
-    return store.where if hasattr(store, "where") else store.path
 
 
 def added(folder):
     """How long it takes in the median to add a stamp of a usual length, by one process."""
-    print("\n| a store adds to one login | C | Python |\n|---|---|---|")
+    show("\n| a store adds to one login | C | Python |\n|---|---|---|")
     for name, make, opened, _, is_in_c in STORES:
         with contextlib.closing(make()) as store:
             store.start()
             nanoseconds = must(c_programs.run(folder / "adds", store.in_c, SYNCED)) if is_in_c else None
-            print(f"| {name} | {f'{int(nanoseconds) / 1000:,.0f} µs' if nanoseconds else ''} | {micros_of(opened(place_of(store))):,.0f} µs |", flush=True)
+            in_c, where = f"{int(nanoseconds) / 1000:,.0f} µs" if nanoseconds else "", store.where.removeprefix("sqlite:")
+            show(f"| {name} | {in_c} | {micros_of(opened(where)):,.0f} µs |")
 
 
 def micros_of(store):
@@ -234,8 +252,14 @@ def tables(folder, archive=None):
 
 
 def main():
+    parser = argparse.ArgumentParser()
+    parser.add_argument("folder", nargs="?", type=Path)
+    parser.add_argument("--write", action="store_true")
+    given = parser.parse_args()
     with tempfile.TemporaryDirectory() as name:
-        tables(Path(name), *(Path(it).resolve() / "libfevstunik.a" for it in sys.argv[1:2]))
+        tables(Path(name), given.folder and given.folder.resolve() / "libfevstunik.a")
+    if given.write:
+        written.replaced(TOP / "bench/README.md", "stores", "\n".join([written.setting(True), *LINES]))
 
 
 if __name__ == "__main__":

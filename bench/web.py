@@ -2,6 +2,7 @@
 """Times web logins by fevstunik.web beside Apache's mod_auth_gssapi, and prints a table: logins a second, and processor time for one.
 
     bench/web.py [WORD..]       servers whose names have one of these words, or all
+      --write                   writes the tables of all servers into bench/README.md, and those of 1,000 users into docs/WEB.md
 
 Each server has four workers, and answers a page to who has logged in. In each round all get the same tokens, in turn: each has a new
 authenticator, of one user or of 1,000 users with a ticket each. A program in C sends them (bench/web_load.c). The servers log who was let in.
@@ -9,8 +10,10 @@ Needs a C compiler and Debian's packages apache2, libapache2-mod-auth-gssapi, uw
 (so run it by /usr/bin/python3, as ./test does). It takes one or two minutes, once the library is proved and built. Nothing here is a test: it
 asserts nothing but that each login is let in.
 """
+import argparse
 import base64
 import contextlib
+import itertools
 import os
 import shutil
 import statistics
@@ -22,6 +25,7 @@ from pathlib import Path
 
 import builds
 import exchange
+import written
 
 HERE = Path(__file__).resolve().parent
 TOP = HERE.parent
@@ -34,10 +38,8 @@ WORKERS, LOGINS, ROUNDS, USERS = 4, 1_500, 5, (1, 1_000)
 WAYS = {"a connection for each login": (0, 16), "connections that stay": (1, WORKERS)}
 APP = '''
 import logging
-from fevstunik.web import Negotiate
-logging.basicConfig(filename={log!r}, level=logging.INFO, format="%(asctime)s %(message)s")
-# What the format doesn't show (Python's manual, logging, "Optimization").
-logging.logThreads = logging.logProcesses = logging.logMultiprocessing = logging.logAsyncioTasks = False
+from fevstunik.web import LogFile, Negotiate
+logging.basicConfig(handlers=[LogFile({log!r})], level=logging.INFO)
 
 def page(environ, start_response):
     start_response("200 OK", [("Content-Type", "text/plain"), ("Content-Length", "6")])
@@ -287,20 +289,48 @@ def shown(ratios):
     return f"{statistics.median(ratios):.2f} ({min(ratios):.2f} to {max(ratios):.2f})"
 
 
-def print_table(title, found):
-    """Each row has the ratios of its rounds to those of the first server that is Apache's alone."""
+def table_of(title, found):
+    """Each row has the ratios of its rounds to those of the first server, which is Apache's alone."""
     first = next(iter(found))
-    print(f"\n| {title} | logins a second | beside the first row | processor time for one | the first row's beside it |\n|---|---|---|---|---|")
+    rows = [f"| {title} | logins a second | beside the first row | processor time for one | the first row's beside it |", "|---|---|---|---|---|"]
     for name, pairs in found.items():
         faster = [ours / theirs for (ours, _), (theirs, _) in zip(pairs, found[first])]
         less = [theirs / ours for (_, ours), (_, theirs) in zip(pairs, found[first])]
-        print(f"| {name} | {median_of(pairs, 0):,.0f} | {shown(faster)} | {median_of(pairs, 1):,.0f} µs | {shown(less)} |", flush=True)
+        rows.append(f"| {name} | {median_of(pairs, 0):,.0f} | {shown(faster)} | {median_of(pairs, 1):,.0f} µs | {shown(less)} |")
+    return "\n".join(rows)
+
+
+def overview(found):
+    """The table of docs/WEB.md: `found` has what the servers did, by the way in which connections are used."""
+    rows = [f"| | {' | '.join(WAYS)} | processor time for one |", f"|---|{'---|' * len(WAYS)}---|"]
+    for name in next(iter(found.values())):
+        rates = [f"{median_of(it[name], 0):,.0f} a second" for it in found.values()]
+        times = sorted(median_of(it[name], 1) for it in found.values())
+        rows.append(f"| {name} | {' | '.join(rates)} | {times[0]:,.0f} to {times[-1]:,.0f} µs |")
+    return "\n".join(rows)
+
+
+def write(found):
+    """Writes what was found, by the number of users and the way, into the documents."""
+    tables = "\n\n".join(table_of(title_of(*it), what) for it, what in found.items())
+    written.replaced(TOP / "bench/README.md", "web logins", f"{written.setting(True)}\n\n{tables}")
+    many = {way: what for (users, way), what in found.items() if users == max(USERS)}
+    written.replaced(TOP / "docs/WEB.md", "speed", overview(many))
+
+
+def title_of(users, way):
+    return f"{'one user' if users == 1 else f'{users:,} users'}, {way}"
 
 
 def main():
-    words = sys.argv[1:]
+    parser = argparse.ArgumentParser()
+    parser.add_argument("words", nargs="*")
+    parser.add_argument("--write", action="store_true")
+    given = parser.parse_args()
+    if given.write and given.words:
+        parser.error("only the tables of all servers are written")
     os.environ["FEVSTUNIK_LIBRARY"] = library()
-    chosen = {name: kind for name, kind in SERVERS.items() if not words or any(it in name for it in words)}
+    chosen = {name: kind for name, kind in SERVERS.items() if not given.words or any(it in name for it in given.words)}
     with contextlib.ExitStack() as stack:
         folder, memory = (Path(stack.enter_context(tempfile.TemporaryDirectory(dir=it))) for it in (None, MEMORY))
         for it in (folder, memory):
@@ -314,10 +344,13 @@ def main():
             servers[server] = Server(folder, memory, server, kind)
             stack.callback(servers[server].stop)
         print(f"{WORKERS} workers, {ROUNDS} rounds of {LOGINS:,} logins; the machine's load is {os.getloadavg()[0]:.1f} on {os.cpu_count()} processors")
-        for users in USERS:
-            for way in WAYS:
-                who = "one user" if users == 1 else f"{users:,} users"
-                print_table(f"{who}, {way}", rounds(folder / "web_load", servers, way, Tokens(folder, users)))
+        found = {}
+        for it in itertools.product(USERS, WAYS):
+            users, way = it
+            found[it] = rounds(folder / "web_load", servers, way, Tokens(folder, users))
+            print(f"\n{table_of(title_of(*it), found[it])}", flush=True)
+    if given.write:
+        write(found)
 
 
 if __name__ == "__main__":

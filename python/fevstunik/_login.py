@@ -21,7 +21,7 @@ from ._messages import Messages, Side
 from ._service import Refused, Serving, options_of
 from ._shown import fit_for_a_line
 from ._tokens import GoOn, bindings_of
-from ._values import CONFOUNDER, LAST_SECOND, Key, Moment, When, clock
+from ._values import CONFOUNDER, LAST_SECOND, Key, Moment, When, clock, moment_of
 
 if TYPE_CHECKING:
     from .stores import Store
@@ -313,7 +313,7 @@ class _Waiting:
         last = seconds + 2 * (store.largest_skew - service._skew)
         if last > LAST_SECOND:
             raise Fault(Code.BAD_MOMENT)
-        return store.add(stamp, Moment(last, micros))
+        return store.add(stamp, moment_of(last, micros))
 
     def settled(self) -> Login | GoOn | Refused:
         """What comes of it."""
@@ -520,8 +520,8 @@ class Service(Serving):
 def _store_of(store: Store | str | os.PathLike[str], skew: int) -> Store:
     """The store that a service of this skew asks: a path stands for a file."""
     if isinstance(store, (str, os.PathLike)):
-        from .stores import SQLite
-        store = SQLite(store, skew if skew > _SKEW else None)
+        from .stores import File
+        store = File(store, skew if skew > _SKEW else None)
     if skew > store.largest_skew:
         raise ValueError(f"the store is made for a skew of up to {store.largest_skew} seconds, and the service's is {skew}")
     return store

@@ -26,7 +26,7 @@ REQUESTS, PORTION, MORE, TIMES, THREADS, KILLS = int(os.environ.get("STORES_REQU
 APPLICATION = """
 import os
 from fevstunik import Keytab, Service
-from fevstunik.stores import PostgreSQL, Redis, SQLite
+from fevstunik.stores import File, PostgreSQL, Redis, SQLite
 
 service = Service(Keytab.read("{top}/examples/service.keytab"), "host/web@EX", store={store})
 
@@ -76,8 +76,8 @@ def gunicorn(folder, store):
 
 def named(store):
     """The store, as the application makes it."""
-    if store.name == "SQLite":
-        return f"SQLite({str(store.path)!r}, boot=open({str(store.boot_file)!r}).read().strip(), seconds=20)"
+    if isinstance(store, store_servers.InAFile):
+        return f"{store.name}({str(store.path)!r}, boot=open({str(store.boot_file)!r}).read().strip(), seconds=20)"
     return f"{store.name}({store.where!r}, seconds=20)"
 
 
@@ -155,8 +155,8 @@ def after_another_boot(sender, folder, store, old, cache):
         sender.each_once(path, real_requests(cache, MORE))
 
 
-@pytest.mark.parametrize("kind", [store_servers.File, store_servers.Redis, store_servers.Postgres],
-                         ids=lambda it: it.name)
+@pytest.mark.parametrize("kind", [store_servers.OfRecords, store_servers.OfSQLite, store_servers.Redis,
+                                  store_servers.Postgres], ids=lambda it: it.name)
 def test_workers(at_the_top, tmp_path, kind):
     cache = tmp_path / "cache"
     cache.write_bytes(c_programs.current_cache(int(time.time()) - 60))
@@ -166,8 +166,8 @@ def test_workers(at_the_top, tmp_path, kind):
         store.age()
         with gunicorn(tmp_path, named(store)) as path:
             last = while_workers_are_killed(sender, path, cache)
-            if kind is not store_servers.File:
+            if not issubclass(kind, store_servers.InAFile):
                 while_the_store_is_killed(sender, path, real_requests(cache, MORE), store)
-        if kind is store_servers.File:
+        if issubclass(kind, store_servers.InAFile):
             after_another_boot(sender, tmp_path, store, last, cache)
     assert max(sender.let_in.values()) == 1, "a request was let in twice"

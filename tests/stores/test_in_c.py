@@ -9,7 +9,7 @@ import time
 import pytest
 
 from fevstunik import Moment
-from fevstunik.stores import SQLite
+from fevstunik.stores import File, SQLite
 
 from support import c_programs, store_servers
 from support.instances import ACCEPTED, REPEAT, SERVICE, STORE, Served, real_requests
@@ -28,7 +28,7 @@ def requests(tmp_path_factory):
 
 @pytest.fixture
 def file(tmp_path):
-    with contextlib.closing(store_servers.File(tmp_path)) as store:
+    with contextlib.closing(store_servers.OfSQLite(tmp_path)) as store:
         store.start()
         yield store
 
@@ -69,6 +69,13 @@ def test_what_is_made(service_in_c, file):
         made = SQLite(file.folder / "other", boot="boot-1")
         squeezed = [[(*it[:2], " ".join(it[2].split())) for it in tables(path)] for path in (store.path, made.path)]
         assert squeezed[0] == squeezed[1]
+
+
+def test_the_other_kind_of_file(service_in_c, file):
+    """Which a service in Python has at the same path: this one doesn't start, and the other goes on."""
+    other = File(file.path, boot="boot-1")
+    assert other.add(b"a", LATER) and "not a database" in refused(service_in_c, file)
+    assert not other.add(b"a", LATER) and other.add(b"b", LATER)
 
 
 def test_a_larger_skew_of_the_store(service_in_c, file, requests):

@@ -13,7 +13,7 @@ import fevstunik
 from fevstunik import (
     Client, Code, CredentialCache, Fault, GoOn, Keytab, Login, Moment, Refused, Service, _interface, _library, _login,
     make_request, stores, wrap_request)
-from fevstunik.stores import SQLite, StoreFailed
+from fevstunik.stores import File, StoreFailed
 
 from support import c_programs, fixture, gss_rules
 
@@ -101,7 +101,7 @@ def test_a_real_client(tmp_path):
     token = client.first()
     login = service.answer(token)
     assert client.finish(login.reply).service_subkey == login.service_subkey
-    other = serving(SQLite(tmp_path / "stamps"), first_life=True)
+    other = serving(File(tmp_path / "stamps"), first_life=True)
     assert [it.answer(token).cause for it in (service, other, other)] == [Code.REPEAT] * 3
 
 
@@ -323,7 +323,7 @@ def test_a_store_that_is_new(cache, tmp_path):
     path = tmp_path / "stamps"
     service = serving(path)
     assert service.answer(request(cache), NOW).cause == Code.JUST_STARTED
-    store, at = SQLite(path), Moment.now().seconds
+    store, at = File(path), Moment.now().seconds
     assert serving(path).answer(make_request(cache, NAME, now=NOW)[0], NOW).cause == Code.JUST_STARTED
     assert serving(str(path), first_life=True).answer(request(cache), NOW).client == "alice@EX"
     assert at - 60 < store.remembers_from.seconds <= at
@@ -350,7 +350,7 @@ def test_what_a_service_is_made_with(tmp_path):
 # ---------------------------------------------------------------- examples
 
 
-@pytest.mark.parametrize("thing", [stores.SQLite, stores.Store, stores.StoreFailed, stores.UnsafeStore],
+@pytest.mark.parametrize("thing", [stores.File, stores.SQLite, stores.Store, stores.StoreFailed, stores.UnsafeStore],
                          ids=lambda it: it.__name__)
 def test_example(thing):
     found, = doctest.DocTestFinder(recurse=False).find(thing, thing.__name__, globs=vars(stores) | vars(fevstunik))

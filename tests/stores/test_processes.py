@@ -36,8 +36,8 @@ SKEW = ("refused", "SKEW")
 WITH_BOOT = """
 import runpy, sys
 from pathlib import Path
-from fevstunik.stores import _sqlite
-_sqlite._BOOT = Path(sys.argv[1])
+from fevstunik.stores import _place
+_place.BOOT = Path(sys.argv[1])
 sys.argv = sys.argv[2:]
 runpy.run_path(sys.argv[0], run_name="__main__")
 """
@@ -266,13 +266,14 @@ def over(store, kinds, folder, library):
 
     try:
         phases = Phases(store, [instance(it, PATIENT) for it in kinds], folder / "cache")
-        more = [phases.another_boot] if store.name == "SQLite" else [phases.store_killed, phases.all_again]
+        is_a_file = isinstance(store, store_servers.InAFile)
+        more = [phases.another_boot] if is_a_file else [phases.store_killed, phases.all_again]
         for checks in (phases.once, phases.instances_killed, *more):
             yield from checks()
         for kind in dict.fromkeys(kinds):
             given = iter(real_requests(folder / "cache", MORE))
             yield from started_again(instance(kind, PATIENT), next(given))
-            if store.name == "SQLite":
+            if is_a_file:
                 continue
             yield from in_time(store, instance(kind, IMPATIENT), given)
             ahead.write_text("0")
@@ -300,10 +301,8 @@ def folder(library, service_in_c, tmp_path_factory):
 
 
 def in_python(folder, store, wait, **more):
-    if store.name != "SQLite":
-        return Instance([PYTHON, "-B", TOP / "examples/shared.py", *SERVICE, store.where, "--wait", wait], **more)
-    words = PYTHON, "-B", "-c", WITH_BOOT, store.boot_file, TOP / "examples/shared.py"
-    return Instance([*words, *SERVICE, store.path, "--wait", wait], **more)
+    boot = ["-c", WITH_BOOT, store.boot_file] if isinstance(store, store_servers.InAFile) else []
+    return Instance([PYTHON, "-B", *boot, TOP / "examples/shared.py", *SERVICE, store.where, "--wait", wait], **more)
 
 
 def in_c(folder, store, wait, **more):
@@ -314,9 +313,10 @@ ALL_IN_PYTHON, ALL_IN_C, OF_BOTH = [in_python] * 4, [in_c] * 4, [in_c, in_c, in_
 
 
 @pytest.mark.parametrize("kind, kinds", [
-    (store_servers.File, ALL_IN_PYTHON), (store_servers.File, ALL_IN_C), (store_servers.File, OF_BOTH),
+    (store_servers.OfRecords, ALL_IN_PYTHON),
+    (store_servers.OfSQLite, ALL_IN_PYTHON), (store_servers.OfSQLite, ALL_IN_C), (store_servers.OfSQLite, OF_BOTH),
     (store_servers.Redis, ALL_IN_C), (store_servers.Redis, OF_BOTH), (store_servers.Postgres, ALL_IN_PYTHON)],
-    ids=["SQLite-Python", "SQLite-C", "SQLite-both", "Redis-C", "Redis-both", "PostgreSQL-Python"])
+    ids=["File-Python", "SQLite-Python", "SQLite-C", "SQLite-both", "Redis-C", "Redis-both", "PostgreSQL-Python"])
 def test_four_processes(folder, library, checks, kind, kinds):
     with contextlib.closing(kind()) as store:
         checks.all(over(store, kinds, folder, library))

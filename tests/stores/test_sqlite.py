@@ -1,21 +1,18 @@
-"""The store in a file: who makes it and when it may be used, what it forgets, and what is refused."""
+"""The store over SQLite: what it forgets, and what is refused. What it has in common with the other store in a file is
+in test_files.py."""
 import contextlib
-import multiprocessing
-import os
-import pickle
 import sqlite3
 import time
-from concurrent.futures import ThreadPoolExecutor
-from pathlib import Path
 
 import pytest
 
 from fevstunik import Moment
-from fevstunik.stores import SQLite, Store, StoreFailed, UnsafeStore, _folder
+from fevstunik.stores import SQLite, StoreFailed
+
+from support.forked import in_processes
 
 NOW = int(time.time())
 LATER, PAST = Moment(NOW + 3600, 7), Moment(1_700_000_000)
-FORK = multiprocessing.get_context("fork")
 
 
 @pytest.fixture
@@ -26,49 +23,6 @@ def path(tmp_path):
 def rows(store, statement="SELECT count(*) FROM stamps"):
     with contextlib.closing(sqlite3.connect(store.path)) as base:
         return base.execute(statement).fetchone()
-
-
-def in_processes(count, work):
-    """What the work returns in so many processes at once."""
-    found = FORK.Queue()
-    started = [FORK.Process(target=lambda number=number: found.put(work(number))) for number in range(count)]
-    for it in started:
-        it.start()
-    return [found.get(timeout=60) for _ in started]
-
-
-# ---------------------------------------------------------------- what is new
-
-
-def test_a_stamp_is_new_once(path):
-    store = SQLite(path)
-    assert isinstance(store, Store) and store.largest_skew == 300
-    found = [store.add(it, LATER) for it in (b"a", b"b", b"a", b"", b"a\0", b"")]
-    assert found == [True, True, False, True, True, False]
-    assert not SQLite(path).add(b"b", LATER)
-    with pytest.raises(TypeError):
-        pickle.dumps(store)
-    store.close()
-    assert not store.add(b"a", LATER) and store.add(b"x" * 100_000, LATER)
-
-
-def test_threads_share_a_store(path):
-    store, stamps = SQLite(path), [b"%d" % it for it in range(200)]
-    with ThreadPoolExecutor(8) as pool:
-        found = list(pool.map(lambda it: store.add(it, LATER), stamps * 8))
-    assert sum(found) == 200 == rows(store)[0]
-
-
-def test_a_store_after_a_fork(path):
-    store = SQLite(path)
-    assert store.add(b"before", LATER)
-
-    def child(number):
-        return [store.add(it, LATER) for it in (b"before", b"both", b"%d" % number)]
-
-    found = in_processes(4, child)
-    assert sorted(it[1] for it in found) == [False] * 3 + [True] and all(it[0::2] == [False, True] for it in found)
-    assert not store.add(b"both", LATER)
 
 
 def test_a_fork_while_a_store_is_asked(path):
@@ -85,64 +39,6 @@ def test_a_fork_while_a_store_is_asked(path):
     assert in_processes(1, child) == [True] and store.add(b"a", LATER)
     store._shut(busy)
     assert in_processes(2, lambda number: store.add(b"%d" % number, LATER)) == [True, True]
-
-
-# ---------------------------------------------------------------- who makes it, and when
-
-
-def test_one_of_many_makes_it(path):
-    found = in_processes(16, lambda _: SQLite(path, boot="a").remembers_from)
-    assert len(set(found)) == 1 and abs(found[0].seconds - NOW) < 600
-    assert {it.name for it in path.parent.iterdir()} <= {f"stamps.boot-a{it}" for it in ("", "-wal", "-shm")}
-
-
-def test_another_boot(path):
-    """What an earlier boot has left isn't used, whatever it holds; other files stay."""
-    before = SQLite(path, boot="a")
-    assert before.add(b"a", LATER)
-    for name in ("stamps.boot-c", "stamps.boot-d-wal", "stamps.boot-b.new", "stamps.boot-b-wal"):
-        path.with_name(name).write_bytes(os.urandom(9000))
-    names = "stamps", "stamps.bak", "stamps.boot-a.txt", "other.boot-a", "xstamps.boot-a"
-    others = {path.with_name(name) for name in names}
-    for it in others:
-        it.write_text("")
-    found = in_processes(8, lambda _: SQLite(path, boot="b").remembers_from)
-    assert len(set(found)) == 1 and found[0] > before.remembers_from
-    left = set(path.parent.iterdir()) - {Path(f"{path}.boot-b{it}") for it in ("-wal", "-shm")}
-    assert left == others | {Path(f"{path}.boot-b")}
-    assert SQLite(path, boot="b").add(b"a", LATER)
-    with pytest.raises(StoreFailed, match="was removed"):
-        before.add(b"b", LATER)
-
-
-def test_a_file_that_was_removed(path):
-    store = SQLite(path)
-    store.add(b"a", LATER)
-    store.path.unlink()
-    for _ in range(2):
-        with pytest.raises(StoreFailed, match="was removed|No such file|unable to open"):
-            store.add(b"b", LATER)
-    made = SQLite(path)
-    assert made.remembers_from > store.remembers_from and made.add(b"a", LATER)
-    with pytest.raises(StoreFailed, match="made again|was removed"):
-        store.add(b"c", LATER)
-    assert not made.add(b"a", LATER)
-
-
-@pytest.mark.parametrize("content", [b"", b"text", bytes(8192)])
-def test_a_file_that_is_no_store(path, content):
-    file = path.with_name("stamps.boot-a")
-    file.write_bytes(content)
-    file.chmod(0o600)
-    with pytest.raises(StoreFailed, match="stamps.boot-a"):
-        SQLite(path, boot="a")
-
-
-def test_the_boot_of_this_machine(path):
-    assert SQLite(path).path.name == f"stamps.boot-{Path('/proc/sys/kernel/random/boot_id').read_text().strip()}"
-    for boot in ("", "../a", "a b", "a" * 65):
-        with pytest.raises(ValueError, match="boot"):
-            SQLite(path, boot=boot)
 
 
 # ---------------------------------------------------------------- what it forgets
@@ -191,75 +87,6 @@ def test_a_stamp_that_may_have_been_forgotten(path):
     assert store.add(b"newer", Moment(PAST.seconds, 1))
 
 
-# ---------------------------------------------------------------- what is refused
-
-
-def test_another_skew(path):
-    assert SQLite(path, 600, boot="a").largest_skew == SQLite(path, boot="a").largest_skew == 600
-    for skew in (300, 599, 601):
-        with pytest.raises(UnsafeStore, match="made with 600") as raised:
-            SQLite(path, skew, boot="a")
-        assert raised.value.name == "largest_skew"
-    assert SQLite(path, 60, boot="b").largest_skew == 60
-    for skew, fault in ((-1, OverflowError), (True, TypeError), (2**31, OverflowError)):
-        with pytest.raises(fault):
-            SQLite(path, skew)
-
-
-def refused(path, name):
-    with pytest.raises(UnsafeStore) as raised:
-        SQLite(path)
-    assert raised.value.name == name and str(raised.value).startswith(f"{name}: ")
-    return SQLite(path, unchecked=True)
-
-
-@pytest.mark.parametrize("mode", [0o770, 0o702, 0o1777])
-def test_a_folder_of_others(path, mode):
-    path.parent.chmod(mode)
-    assert refused(path, "folder").add(b"a", LATER)
-
-
-def test_a_folder_in_one_of_others(tmp_path):
-    """Who may write to the outer folder may rename the inner one, unless its sticky bit is set, as that of /tmp."""
-    inner = tmp_path / "outer" / "inner"
-    inner.mkdir(parents=True)
-    inner.parent.chmod(0o1777)
-    SQLite(inner / "stamps")
-    inner.parent.chmod(0o777)
-    refused(inner / "stamps", "folder")
-
-
-@pytest.mark.root
-def test_a_folder_of_another_user(path):
-    os.chown(path.parent, 1, -1)
-    refused(path, "folder")
-
-
-@pytest.mark.parametrize("mode", [0o640, 0o604, 0o700])
-def test_a_file_of_others(path, mode):
-    store = SQLite(path)
-    store.path.chmod(mode)
-    refused(path, "mode")
-    store.path.rename(path.with_name("other"))
-    store.path.symlink_to(path.with_name("other"))
-    refused(path, "mode")
-
-
-def test_what_it_makes_is_its_users_alone(path):
-    before = os.umask(0)
-    try:
-        SQLite(path).add(b"a", LATER)
-    finally:
-        os.umask(before)
-    assert {it.stat().st_mode & 0o777 for it in path.parent.iterdir()} == {0o600}
-
-
-def test_another_machines_files(path, monkeypatch):
-    monkeypatch.setattr(_folder, "_LOCAL", set())
-    refused(path, "file system")
-    assert _folder._file_system(Path("/proc/self")) == "proc" and _folder._file_system(Path("/sys")) == "sysfs"
-
-
 # ---------------------------------------------------------------- in time
 
 
@@ -277,12 +104,6 @@ def test_another_process_writes(path):
     for seconds in (0, -1, 3600, float("nan")):
         with pytest.raises(ValueError, match="seconds"):
             SQLite(path, seconds=seconds)
-
-
-def test_another_process_makes_it(path):
-    with _folder.locked(path.parent, time.monotonic() + 1, RuntimeError), pytest.raises(StoreFailed, match="no answer"):
-        SQLite(path, seconds=0.3)
-    assert SQLite(path, seconds=0.3).add(b"a", LATER)
 
 
 def test_a_full_disk(path):

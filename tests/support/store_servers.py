@@ -1,4 +1,4 @@
-"""Stores for tests: a file, and servers of Redis and PostgreSQL (Debian's redis-server and postgresql), each in a
+"""Stores for tests: files, and servers of Redis and PostgreSQL (Debian's redis-server and postgresql), each in a
 folder of its own, on a socket there, with no port; and a proxy that delays what a server says.
 
 They keep what they were told, also when they are killed, as docs/OPERATING.md configures it. `age` makes a store one
@@ -20,7 +20,7 @@ import threading
 import time
 from pathlib import Path
 
-from fevstunik.stores import PostgreSQL, SQLite
+from fevstunik.stores import File, PostgreSQL, SQLite, _file
 
 from support import TOP
 
@@ -45,15 +45,14 @@ def said(words, **more):
     return subprocess.run([str(it) for it in words], capture_output=True, text=True, timeout=SECONDS, **more)
 
 
-class File:
+class InAFile:
     """A store in a file, and the name of a boot in another one."""
-    name = "SQLite"
 
     def __init__(self, place=None):
-        self.folder = Path(tempfile.mkdtemp(prefix="sqlite-", dir=place))
+        self.folder = Path(tempfile.mkdtemp(prefix=f"{self.name.lower()}-", dir=place))
         self.path, self.boot_file, self.boots = self.folder / "stamps", self.folder / "boot", 0
-        # (for examples/service/service)
-        self.in_c, self.env = f"sqlite:{self.path}", {"BOOT_FILE": str(self.boot_file)}
+        # (for examples/shared.py)
+        self.where = str(self.path)
 
     def start(self):
         self.boot()
@@ -63,16 +62,38 @@ class File:
         self.boot_file.write_text(f"boot-{self.boots}\n")
 
     def opened(self):
-        return SQLite(self.path, boot=self.boot_file.read_text().strip())
+        return self.kind(self.path, boot=self.boot_file.read_text().strip())
+
+    def close(self):
+        shutil.rmtree(self.folder)
+
+
+class OfRecords(InAFile):
+    """A File of fevstunik.stores."""
+    name, kind = "File", File
+
+    def age(self):
+        path = self.opened().path
+        what, made, *rest = _file._HEAD.unpack(path.read_bytes()[:_file._HEAD.size])
+        with open(path, "r+b") as file:
+            file.write(_file._HEAD.pack(what, made - AGE * 1_000_000, *rest))
+
+
+class OfSQLite(InAFile):
+    """An SQLite of fevstunik.stores."""
+    name, kind = "SQLite", SQLite
+
+    def __init__(self, place=None):
+        super().__init__(place)
+        # (for examples/service/service)
+        self.where = self.in_c = f"sqlite:{self.path}"
+        self.env = {"BOOT_FILE": str(self.boot_file)}
 
     def age(self):
         store = self.opened()
         with contextlib.closing(sqlite3.connect(store.path)) as base, base:
             base.execute("UPDATE store SET made = made - ?", (AGE * 1_000_000,))
         store.close()
-
-    def close(self):
-        shutil.rmtree(self.folder)
 
 
 class Server:

@@ -3,7 +3,6 @@ from __future__ import annotations
 
 import os
 import random
-import re
 import sqlite3
 import time
 import urllib.parse
@@ -15,12 +14,9 @@ from pathlib import Path
 from .._errors import StoreFailed
 from .._library import here
 from .._values import Moment
-from ._folder import check_file, check_folder, locked
+from ._place import Place
 from ._store import SECONDS, Connected, Made, clock, micros, skew_of
 
-_BOOT = Path("/proc/sys/kernel/random/boot_id")
-# Names of a boot, and what SQLite puts after a file's name.
-_NAME, _BESIDE = re.compile(r"[0-9A-Za-z-]{1,64}"), ("", "-wal", "-shm", "-journal")
 # What was written before a process was killed is in the page cache: so nothing is synced, and a file is used within one boot alone.
 _TABLES = """
 PRAGMA journal_mode = WAL;
@@ -112,16 +108,11 @@ class SQLite(Connected[_File]):
     def __init__(self, path: str | os.PathLike[str], largest_skew: int | None = None, *, seconds: float = SECONDS, boot: str | None = None,
                  unchecked: bool = False) -> None:
         super().__init__(seconds)
-        self._boot = _BOOT.read_text().strip() if boot is None else boot
-        if not _NAME.fullmatch(self._boot):
-            raise ValueError(f"a boot is named by letters, digits and hyphens, not {self._boot!r}")
-        given = Path(os.path.abspath(path))
-        self._checked, self._folder, self._name = not unchecked, given.parent.resolve(), given.name
-        self.path = self._folder / f"{self._name}.boot-{self._boot}"
+        self._place = Place(path, boot, not unchecked)
+        self.path, skew = self._place.path, skew_of(largest_skew)
         try:
-            if self._checked:
-                check_folder(self._folder)
-            self._make_if_lacking(skew_of(largest_skew))
+            self._place.check_folder()
+            self._place.make_if_lacking(lambda new: self._make(new, skew), self._seconds)
             connection, made = self._open(self._last())
         except (OSError, sqlite3.Error) as fault:
             raise StoreFailed(f"{self.path}: {fault}") from fault
@@ -131,39 +122,19 @@ class SQLite(Connected[_File]):
         made.for_skew(largest_skew)
         _stores.add(self)
 
-    def _make_if_lacking(self, largest_skew: int) -> None:
-        if self.path.exists():
-            return
-        with locked(self._folder, self._last(), self._no_answer):
-            if not self.path.exists():
-                self._remove_others()
-                self._make(largest_skew)
-
-    def _remove_others(self) -> None:
-        """Remove what earlier boots have left, and what is left of a file that was removed."""
-        names = re.compile(rf"{re.escape(self._name)}\.boot-{_NAME.pattern}(\.new)?(-wal|-shm|-journal)?")
-        for it in self._folder.iterdir():
-            if names.fullmatch(it.name):
-                it.unlink()
-
-    def _make(self, largest_skew: int) -> None:
-        """Make the file under another name, and rename it. The clock is read after it was seen that there is none."""
-        new = self.path.with_name(f"{self.path.name}.new")
-        os.close(os.open(new, os.O_CREAT | os.O_EXCL | os.O_RDWR | os.O_CLOEXEC, 0o600))
-        os.chmod(new, 0o600)
+    def _make(self, new: Path, largest_skew: int) -> None:
+        """Make a file. The clock is read after it was seen that there is none."""
         base = sqlite3.connect(new, isolation_level=None)
         try:
             base.execute("PRAGMA synchronous = OFF")
             base.executescript(_TABLES)
-            base.execute("INSERT INTO store VALUES (?, ?, ?, 0, x'')", (self._boot, clock(), largest_skew))
+            base.execute("INSERT INTO store VALUES (?, ?, ?, 0, x'')", (self._place.boot, clock(), largest_skew))
         finally:
             base.close()
-        new.rename(self.path)
 
     def _open(self, last: float) -> tuple[_File, Made]:
         try:
-            if self._checked:
-                check_file(self.path)
+            self._place.check_file()
             _look_for_a_fork()
             file = _File(self.path, self._no_answer)
             _open_now.add(file)
@@ -171,7 +142,7 @@ class SQLite(Connected[_File]):
                 boot, *made = file.run(last, "SELECT boot, made, largest_skew FROM store").fetchone()
                 file.base.execute("PRAGMA synchronous = OFF")
                 self._is_there(file)
-                if boot != self._boot:
+                if boot != self._place.boot:
                     raise StoreFailed(f"{self.path} is of another boot")
             except BaseException:
                 self._shut(file)

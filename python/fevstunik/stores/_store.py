@@ -23,8 +23,8 @@ class Store(Protocol):
     and the services that use it are started again.
 
     >>> import tempfile
-    >>> from fevstunik.stores import SQLite, Store
-    >>> isinstance(SQLite(tempfile.mkdtemp() + "/stamps"), Store)
+    >>> from fevstunik.stores import File, Store
+    >>> isinstance(File(tempfile.mkdtemp() + "/stamps"), Store)
     True
     """
 
@@ -63,6 +63,26 @@ def clock() -> int:
     return time.time_ns() // 1000
 
 
+def moment_of(at: int) -> Moment:
+    """The moment of so many microseconds."""
+    return Moment(*divmod(at, _MICROS))
+
+
+def seconds_of(wanted: float) -> float:
+    """How long a store has to answer."""
+    if not 0 < wanted < 3600:
+        raise ValueError(f"a store has more than 0 and less than 3600 seconds to answer, not {wanted}")
+    return float(wanted)
+
+
+def no_answer(seconds: float) -> StoreFailed:
+    return StoreFailed(f"no answer in {seconds:g} seconds")
+
+
+def made_again() -> StoreFailed:
+    return StoreFailed("the store was made again, so it may have lost stamps: start the services that use it again")
+
+
 def skew_of(wanted: int | None) -> int:
     """The skew of a store that is new."""
     return SKEW if wanted is None else fitting(wanted, 31)
@@ -81,16 +101,14 @@ class Connected(Secret, ABC, Generic[_Connection]):
     _made: Made
 
     def __init__(self, seconds: float) -> None:
-        if not 0 < seconds < 3600:
-            raise ValueError(f"a store has more than 0 and less than 3600 seconds to answer, not {seconds}")
-        self._seconds = float(seconds)
+        self._seconds = seconds_of(seconds)
         self._own: tuple[object, list[_Connection]] = here(), []
         self._inherited: list[list[_Connection]] = []
 
     @property
     def remembers_from(self) -> Moment:
         """The moment at which the store was made."""
-        return Moment(*divmod(self._made.at, _MICROS))
+        return moment_of(self._made.at)
 
     @property
     def largest_skew(self) -> int:
@@ -144,7 +162,7 @@ class Connected(Secret, ABC, Generic[_Connection]):
         try:
             self._in_time(last)
             if made != self._made:
-                raise StoreFailed("the store was made again, so it may have lost stamps: start the services that use it again")
+                raise made_again()
         except BaseException:
             self._shut(connection)
             raise
@@ -158,7 +176,7 @@ class Connected(Secret, ABC, Generic[_Connection]):
             raise self._no_answer()
 
     def _no_answer(self) -> StoreFailed:
-        return StoreFailed(f"no answer in {self._seconds:g} seconds")
+        return no_answer(self._seconds)
 
     @abstractmethod
     def _open(self, last: float) -> tuple[_Connection, Made]:

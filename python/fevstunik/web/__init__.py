@@ -11,13 +11,15 @@
 `store` in production, or each start of a process refuses everybody for five minutes. docs/WEB.md has the rest.
 
 Logging: each decision is one record of the logger ``fevstunik.web``, with the fields `cause`, `user`, `peer`, `asked`, `etype` and `kvno`.
+LogFile writes them to a file.
 """
+from ._lines import LogFile
 from ._negotiate import Negotiate
 from ._server import serve
 from ._sessions import Sessions
 from ._users import NotAllowed, User, Users
 
-__all__ = ["Negotiate", "NotAllowed", "Sessions", "User", "Users", "serve"]
+__all__ = ["LogFile", "Negotiate", "NotAllowed", "Sessions", "User", "Users", "serve"]
 for _name in __all__:
     globals()[_name].__module__ = __name__
 del _name

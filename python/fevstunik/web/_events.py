@@ -12,6 +12,7 @@ from typing import Any, NamedTuple
 
 from .._login import Asked
 from .._shown import fit_for_a_line
+from ._lines import only_handler
 from ._users import User
 
 _log = logging.getLogger("fevstunik.web")
@@ -67,7 +68,12 @@ class Events:
         if self._counter is not None:
             (self._counters.get(cause) or self._counter_of(cause)).inc()
         level = _LEVELS.get(cause, logging.INFO)
-        if _log.isEnabledFor(level):
+        if not _log.isEnabledFor(level):
+            return
+        file = only_handler(_log)
+        if file is not None and file.takes(level):
+            file.write(level, fit_for_a_line(peer), _line(event))
+        else:
             # (Logger.log would look for the line of the source, which takes as long as the rest)
             record = _log.makeRecord(_log.name, level, __file__, 0, _line(event), (), None)
             record.__dict__.update(_fields(event, peer))

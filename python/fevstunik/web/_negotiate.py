@@ -5,7 +5,7 @@ import os
 from collections.abc import Iterable
 from typing import Any
 
-from ..stores import SQLite, Store
+from ..stores import File, Store
 from . import _asgi, _wsgi
 from ._events import networks_of
 from ._files import Certificates, Path, content, keytab_for, realms_of
@@ -118,7 +118,7 @@ class Negotiate:
 def _opened(store: Store | Path | None, skew: int) -> Store | None:
     """The store. A file is made here, and not at the first request: nobody is let in for a while after that."""
     if isinstance(store, (str, os.PathLike)):
-        return SQLite(store, skew if skew > _SKEW else None)
+        return File(store, skew if skew > _SKEW else None)
     return store
 
 

@@ -16,24 +16,22 @@ from collections.abc import Callable, Iterable
 from typing import Any
 from urllib.parse import quote
 
-from ..stores import PostgreSQL, Redis, Store
+from ..stores import PostgreSQL, Redis, SQLite, Store
 from ._files import Path
+from ._lines import LogFile
 from ._negotiate import Negotiate
 from ._sessions import Sessions
 from ._users import Users
 from ._wsgi import App
 
-_STORES: dict[str, Callable[[str], Store]] = {"redis": Redis, "postgresql": PostgreSQL}
+_STORES: dict[str, Callable[[str], Store]] = {"redis": Redis, "postgresql": PostgreSQL, "sqlite": SQLite}
 # The proxy is on this machine, and says who asks it.
 _PROXIES = ("127.0.0.0/8", "::1/128")
 
 
 def log(level: int) -> None:
     """Write records of this level and above to standard error, with their times and peers, unless the process logs in another way."""
-    handler = logging.StreamHandler()
-    # (not every record is about a request)
-    handler.setFormatter(logging.Formatter("%(asctime)s %(levelname)s %(peer)s %(message)s", defaults={"peer": "-"}))
-    logging.basicConfig(handlers=[handler], level=level)
+    logging.basicConfig(handlers=[LogFile()], level=level)
 
 
 def app(config: Path) -> App:
