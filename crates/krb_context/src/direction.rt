@@ -5,7 +5,7 @@ ghost use Rattle.krb_enc.specs.Key.{KeyValue, profile_of};
 ghost use Rattle.krb_enc.specs.Written.{IsWritten};
 ghost use Rattle.krb_context.specs.Side.{Sender, HasFlags, flags_of, sender_flag};
 ghost use Rattle.krb_context.specs.Mic.{IsMic, mic_token};
-ghost use Rattle.krb_context.specs.Wrap.{IsWrap, plain_token, rotated, rotated_token, sealed_token, wrap_checksum, wrap_header, wrap_overhead, wrap_token};
+ghost use Rattle.krb_context.specs.Wrap.{IsWrap, plain_token, rotated, rotated_token, sealed_token, wrap_checksum, wrap_header, wrap_token};
 ghost use Rattle.krb_context.specs.Faults.{HasRoom, IsMicFault, IsWrapFault, sender_bit, subkey_bit};
 ghost use Rattle.krb_context.specs.Inner.Forms.{Holds, IsFlagFault, IsFormed, OpensTo};
 ghost use Rattle.krb_context.specs.Inner.Prepared.{IsPrepared, sender_of};
@@ -16,7 +16,7 @@ use crate::role::Role;
 use krb_enc::{ChecksumKey, Key, ShortSlice, Tag, UsageKey};
 use std::marker::Model;
 
-const CONFOUNDER_LEN: usize = 16;
+pub(crate) const CONFOUNDER_LEN: usize = 16;
 
 const SEALED: u8 = 2;
 
@@ -70,6 +70,7 @@ impl Direction {
     /// tokens' flags say it.
     ///
     /// Source: RFC 4121, section 2.
+    #[inline(never)]
     pub fn new(key: &Key, side: Role, is_acceptor_subkey: bool) -> Direction
         ensures { result ≡ record { key = key.now; side = side; acceptor_subkey = is_acceptor_subkey } }
     {
@@ -232,19 +233,6 @@ impl Direction {
         } else {
             self.wrap_in_plain_to(number, text, token)
         }
-    }
-
-    // How much longer than its text a Wrap token is.
-    pub(crate) fn wrap_overhead(&self, is_sealed: bool) -> usize
-        ensures value { result ≡ wrap_overhead self.now is_sealed }
-        ensures most { result ≤ 72 }
-    {
-        let beside_tag = if is_sealed {
-            HEADER_LEN + CONFOUNDER_LEN + HEADER_LEN
-        } else {
-            HEADER_LEN
-        };
-        beside_tag + self.sealing.tag_len()
     }
 
     /// Opens a Wrap token of this side in place, and returns where its text is in `token`.
