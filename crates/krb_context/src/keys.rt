@@ -13,6 +13,7 @@ ghost use Rattle.krb_context.specs.Inner.Unwraps.{Unwraps};
 use crate::direction::{CONFOUNDER_LEN, Direction, Unwrapped};
 use crate::fault::MessageFault;
 use crate::header::HEADER_LEN;
+use crate::mic_keys::Mics;
 use crate::role::Role;
 use krb_enc::etype::AES256_CTS_HMAC_SHA384_192;
 use krb_enc::{Key, ShortSlice};
@@ -85,6 +86,20 @@ impl Keys {
         Direction::new(&self.key, self.side.peer(), self.is_acceptor_subkey)
     }
 
+    // The key of the own side's MIC tokens, prepared anew.
+    fn own_mics(&self) -> Mics
+        ensures { result ≡ self.now }
+    {
+        Mics::new(&self.key, self.side, self.is_acceptor_subkey)
+    }
+
+    // The key of the other side's MIC tokens, prepared anew.
+    fn other_mics(&self) -> Mics
+        ensures { result ≡ peer_sender self.now }
+    {
+        Mics::new(&self.key, self.side.peer(), self.is_acceptor_subkey)
+    }
+
     // Writes a MIC token of the own side (`Direction::mic_to`).
     pub(crate) fn mic_to(
         &self,
@@ -97,7 +112,7 @@ impl Keys {
     {
         match &self.sending {
             Some(own) => own.mic_to(number, text, token),
-            None => self.own().mic_to(number, text, token),
+            None => self.own_mics().mic_to(number, text, token),
         }
     }
 
@@ -143,7 +158,7 @@ impl Keys {
     {
         match &self.receiving {
             Some(other) => other.verify_mic(text, token),
-            None => self.other().verify_mic(text, token),
+            None => self.other_mics().verify_mic(text, token),
         }
     }
 

@@ -33,6 +33,7 @@ mod fault;
 mod header;
 mod keys;
 pub mod laws;
+mod mic_keys;
 mod order;
 mod role;
 

@@ -14,4 +14,4 @@ returns-in-Some c =
 pub returns-in-None : goal.returns-in-None
 returns-in-None c =
     subst (λ (s : Sender). IsWritten ShortSlice (λ needed. record { needed = needed }) (mic_token s c.args.number c.args.text.now) c.args.token.now c.mic_to-in-None.new.token c.mic_to-in-None.result)
-    c.own.ensures c.mic_to-in-None.ensures
+    c.own_mics.ensures c.mic_to-in-None.ensures

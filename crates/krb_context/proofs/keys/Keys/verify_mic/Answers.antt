@@ -18,8 +18,8 @@ returns-in-Some-clause-fault c =
 
 pub returns-in-None-clause-found : goal.returns-in-None-clause-found
 returns-in-None-clause-found c number mic =
-    c.verify_mic-in-None.ensures.found number (subst (λ (s : Sender). IsMic s number c.args.text.now c.args.token.now) (sym c.other.ensures) mic)
+    c.verify_mic-in-None.ensures.found number (subst (λ (s : Sender). IsMic s number c.args.text.now c.args.token.now) (sym c.other_mics.ensures) mic)
 
 pub returns-in-None-clause-fault : goal.returns-in-None-clause-fault
 returns-in-None-clause-fault c =
-    subst (λ (s : Sender). IfErr c.verify_mic-in-None.result (IsMicFault s c.args.text.now c.args.token.now)) c.other.ensures c.verify_mic-in-None.ensures.fault
+    subst (λ (s : Sender). IfErr c.verify_mic-in-None.result (IsMicFault s c.args.text.now c.args.token.now)) c.other_mics.ensures c.verify_mic-in-None.ensures.fault
