@@ -164,6 +164,7 @@ fn waits(made: Result<(Pending, Vec<u8>), ListFault>) -> Result<Checking, ListFa
 }
 
 /// The name of Kerberos and the MIC in a client's later message.
+#[inline(never)]
 fn held<'a>(bytes: &'a [u8]) -> Result<(Mechanism, Option<&'a [u8]>), TokenFault>
     ensures found { IfOk result (λ it. HoldsBoth it.0 (bytes_if it.1) bytes.entry.now) }
     ensures faulty { IfErr result (λ fault. IsLaterFault bytes.entry.now fault ⊎ IsMicFault bytes.entry.now fault) }

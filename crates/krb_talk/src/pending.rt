@@ -160,6 +160,7 @@ impl Pending {
     /// - `Token`: the bytes aren't a client's later message.
     /// - `Missing`: it has no mechListMIC.
     /// - `Wrong`: the mechListMIC isn't the client's MIC of the list, or the context doesn't take it.
+    #[inline(never)]
     pub fn finish(self, bytes: &[u8]) -> Result<Admitted, ListFault>
         ensures { Finishes self bytes.now result }
     {
