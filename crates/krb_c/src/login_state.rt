@@ -1,10 +1,11 @@
 //! What a login's handle holds.
 
-ghost use Rattle.std.specs.Prelude.{IfOk, None, Some, ◌≡◌};
+ghost use Rattle.std.specs.Prelude.{IfOk, IsTrue, None, Some, ◌≡◌, ◌↔◌};
 ghost use Rattle.krb_c.specs.Inner.{SettlesAt};
 ghost use Rattle.krb_c.specs.Login.{HandsOutcome, IsAsked, IsDecided, IsKept, IsServed, IsStepped, StepsTo, TellsAskedIf, TellsOutcome, TellsProgress, asked_in, asked_of, begun_talk, breach_answer, cause_answer, decided_in, kept_of, list_answer, outcome_of, sent, undecided};
 ghost use Rattle.krb_c.specs.Service.{nothing_kept};
-ghost use Rattle.krb_c.specs.Store.{IsSettled, TellsQuestion};
+ghost use Rattle.krb_c.specs.Store.{IsSettled, TellsQuestion, Waits};
+ghost use Rattle.krb_c.specs.declared.question.Question.{Question as QuestionValue};
 ghost use Rattle.krb_name.specs.Text.{text_of};
 ghost use Rattle.std.specs.Option.{MatchOption, option_copied};
 
@@ -97,6 +98,7 @@ impl LoginState {
         }
     }
 
+    #[inline(never)]
     fn step(
         &mut self,
         alloc: Global,
@@ -117,6 +119,7 @@ impl LoginState {
     }
 
     // Asks the service, which lets nobody in before the store is asked.
+    #[inline(never)]
     fn ask(
         &mut self,
         alloc: Global,
@@ -147,6 +150,7 @@ impl LoginState {
     }
 
     // Goes on by what the service said: it is decided, or the login waits for the store.
+    #[inline(never)]
     fn follow(
         &mut self,
         alloc: Global,
@@ -188,6 +192,7 @@ impl LoginState {
         }
     }
 
+    #[inline(never)]
     fn decide(
         &mut self,
         alloc: Global,
@@ -204,6 +209,7 @@ impl LoginState {
     }
 
     // Concludes by what the service decides.
+    #[inline(never)]
     fn serve(
         &mut self,
         alloc: Global,
@@ -238,6 +244,7 @@ impl LoginState {
     }
 
     // Keeps a decision, and in `kept` what is known of a client that is let in.
+    #[inline(never)]
     fn keep(&mut self, kept: &mut AcceptedState, decision: Decision, is_full: bool)
         ensures talk { self.new.talk ≡ self.old.talk }
         ensures is_kept { IsKept is_full decision self.new kept.new }
@@ -266,20 +273,40 @@ impl LoginState {
     ) -> Answer
         ensures { SettlesAt self.old self.new accepted.old.value accepted.new.value said now out.old out.new result }
     {
-        let question = match replace(&mut self.progress, Progress::Nothing) {
-            Progress::Waiting(question) => question,
-            other => {
-                self.set(other);
-                return Answer::plain(code::NOT_WAITING);
-            }
-        };
-        let Ok(mut kept) = Box::new(alloc, AcceptedState::nothing()) else {
-            self.set(Progress::Waiting(question));
+        if !self.waits() {
+            return Answer::plain(code::NOT_WAITING);
+        }
+        let Some(mut kept) = AcceptedState::boxed(alloc) else {
             return Answer::plain(code::OUT_OF_MEMORY);
         };
-        self.settle_by(alloc, &mut kept, question, said, now);
+        self.settle_waiting(alloc, &mut kept, said, now);
         put(accepted, kept);
         self.answer(out)
+    }
+
+    // Whether the login waits for a store.
+    fn waits(&self) -> bool
+        ensures { IsTrue result ↔ Waits self.now.progress }
+    {
+        matches!(self.progress, Progress::Waiting(_))
+    }
+
+    // Decides by what a store said, if the login waits for one.
+    #[inline(never)]
+    fn settle_waiting(
+        &mut self,
+        alloc: Global,
+        kept: &mut AcceptedState,
+        said: StoreSays,
+        now: Moment,
+    )
+        ensures { (question : QuestionValue) → self.old.progress ≡ Progress.Waiting question
+            → IsSettled question said now self.new kept.new }
+    {
+        match replace(&mut self.progress, Progress::Nothing) {
+            Progress::Waiting(question) => self.settle_by(alloc, kept, question, said, now),
+            _ => {}
+        }
     }
 
     fn settle_by(
