@@ -119,7 +119,6 @@ impl LoginState {
     }
 
     // Asks the service, which lets nobody in before the store is asked.
-    #[inline(never)]
     fn ask(
         &mut self,
         alloc: Global,
@@ -150,7 +149,6 @@ impl LoginState {
     }
 
     // Goes on by what the service said: it is decided, or the login waits for the store.
-    #[inline(never)]
     fn follow(
         &mut self,
         alloc: Global,
@@ -192,7 +190,6 @@ impl LoginState {
         }
     }
 
-    #[inline(never)]
     fn decide(
         &mut self,
         alloc: Global,

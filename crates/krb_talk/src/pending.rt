@@ -46,6 +46,7 @@ impl Begun {
     }
 
     /// Lets the client in by a MIC that came with its token.
+    #[inline(never)]
     pub(crate) fn let_in(
         self,
         alloc: Global,
@@ -87,6 +88,7 @@ impl Begun {
     }
 
     /// Asks the client for its MIC, if it awaits a reply.
+    #[inline(never)]
     pub(crate) fn ask(
         self,
         alloc: Global,

@@ -16,6 +16,9 @@ pub ask-requires : goal.ask-requires
 ask-requires c =
     subst HasNext (sym c.new-pending.ensures.context) (record { number = _; next = c.in-Some.ensures.begun.next_is })
 
+pub returns-in_default : goal.returns-in_default
+returns-in_default c = (c.in-Ok.held.0, bytes_if c.in-Ok.held.1, c.in-Ok.ensures.found, c.in_default.ensures)
+
 pub returns-in-Some-mic : goal.returns-in-Some-mic
 returns-in-Some-mic c =
     let check : Check = record {
