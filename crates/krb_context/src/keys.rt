@@ -201,8 +201,5 @@ fn boxed(
 ) -> Result<Box<Direction>, AllocError>
     ensures { IfOk result (λ it. it.value ≡ sender_of key.now side is_acceptor_subkey) }
 {
-    Ok(Box::new(
-        alloc,
-        Direction::new(key, side, is_acceptor_subkey),
-    )?)
+    Ok(Box::new(alloc, Direction::new(key, side, is_acceptor_subkey))?)
 }
