@@ -172,7 +172,6 @@ impl LoginState {
         }
     }
 
-    #[inline(never)]
     fn conclude(
         &mut self,
         alloc: Global,
@@ -268,7 +267,6 @@ impl LoginState {
     }
 
     // Concludes by what a service decided, and keeps that.
-    #[inline(never)]
     fn conclude_kept(
         &mut self,
         alloc: Global,
@@ -356,7 +354,6 @@ impl LoginState {
         }
     }
 
-    #[inline(never)]
     fn settle_by(
         &mut self,
         alloc: Global,

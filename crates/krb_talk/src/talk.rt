@@ -209,6 +209,7 @@ fn conclude_at(
     }
 }
 
+#[inline(never)]
 fn conclude_login(
     alloc: Global,
     stage: &mut Stage,
