@@ -107,7 +107,6 @@ pub extern "C" fn fevstunik_messages_of_accepted(
     with_held!(accepted, alloc, kept => begin_for(messages, alloc, &kept, choice, subkey, any_order))
 }
 
-#[inline(never)]
 fn begin_for(
     messages: &mut MessagesHandle,
     alloc: Global,
