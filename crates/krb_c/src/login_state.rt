@@ -172,6 +172,7 @@ impl LoginState {
         }
     }
 
+    // Concludes by what the service decided before a store is asked: what is known of a client is not kept.
     fn conclude(
         &mut self,
         alloc: Global,
