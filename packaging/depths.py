@@ -7,7 +7,7 @@
                                                 bytes, those down to the end of the chain, and its name
 
 Follows the stack pointer through each function, and the calls between functions. Ends with an error if it meets what it can't bound: a stack
-pointer that is computed, a call by a pointer, or a recursion that it doesn't know.
+pointer that is computed, a call by a pointer, or a recursion that it doesn't know; and if one function has a frame of more than 24 KiB.
 """
 import re
 import subprocess
@@ -19,6 +19,8 @@ OF_C_LIBRARY = 512
 # Functions that call themselves: they walk the trees of what was seen, which have names, times and counts, but no keys. So what they leave
 # deeper down isn't overwritten.
 WALKS = ("std_collections::btree::node::Node::",)
+# No frame may be larger. For a large one LLVM makes code that touches each of its pages first, which has overwritten a register in use.
+LARGEST_FRAME = 24 * 1024
 # For the frame of the caller, which may take back the arguments that lie on the stack before it overwrites what is below.
 ARGUMENTS = 128
 SECTION = re.compile(r"Disassembly of section (\S+):")
@@ -28,6 +30,8 @@ MOVED = re.compile(r"\s+([0-9a-f]+): (R_X86_64_\w+)\s+(\S+?)([+-]0x[0-9a-f]+)?$"
 TARGET = re.compile(r"([0-9a-f]+)(?: <(.+?)(?:\+0x[0-9a-f]+)?>)?$")
 BY = re.compile(r"\$(-?0x[0-9a-f]+),%rsp$")
 NUMBER = re.compile(r"(-?0x[0-9a-f]+)\(%rsp\),%rsp$")
+# where a loop ends that touches the pages of a large frame
+BELOW = re.compile(r"-(0x[0-9a-f]+)\(%rsp\),%r\w+$")
 
 
 class Unbounded(Exception):
@@ -90,6 +94,12 @@ def moved_by(step, depth):
     raise Unbounded(f"{name} {words}")
 
 
+def below(step):
+    """How far below the stack pointer an address is that an instruction takes."""
+    found = BELOW.search(step.words) if step.name.startswith("lea") else None
+    return int(found[1], 16) if found else 0
+
+
 class Depths:
     """The depths of functions, each found once."""
 
@@ -118,7 +128,7 @@ class Depths:
 
     def frame(self, function):
         places = {step.at: at for at, step in enumerate(function.steps)}
-        depths, deepest, left, body = {}, (0, ""), [(0, 0)], 0
+        depths, deepest, left, body, own = {}, (0, ""), [(0, 0)], 0, 0
         while left or len(depths) < len(function.steps):
             if not left:
                 # What only a table of jumps leads to: the frame is set up there.
@@ -130,6 +140,7 @@ class Depths:
                 after = moved_by(step, depth)
                 depth = body if after is None else after
                 deepest = max(deepest, (depth, ""))
+                own = max(own, depth, depths[at] + below(step))
                 if step.name.startswith("ret") or step.name in ("ud2", "hlt"):
                     break
                 if step.name.startswith("call"):
@@ -152,6 +163,8 @@ class Depths:
                     elif inner is not None:
                         left.append((inner, depth))
                 at += 1
+        if own > LARGEST_FRAME:
+            raise Unbounded(f"a frame of {own} bytes")
         self.next[function.name] = deepest[1]
         return deepest[0]
 

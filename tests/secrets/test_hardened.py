@@ -100,9 +100,34 @@ def test_the_archive_asks_for_no_executable_stack(built, cpu):
     assert "X" not in flags
 
 
+# The calls that decide on a login by one function after another. Each other call uses less of the stack.
+DECIDING = {"SERVICE_ANSWER", "LOGIN_SETTLE"}
+
+
 @pytest.mark.parametrize("cpu", CPUS)
 def test_stack_that_a_call_uses(built, cpu):
-    """The header asks for 64 KiB."""
+    """The header asks for 40 KiB, which is more than any call uses."""
     text = (built[cpu].folder / "depths.h").read_text()
-    depths = [int(it) for it in re.findall(r"^#define DEPTH_OF_\w+ (\d+)$", text, re.M)]
-    assert len(depths) == len(header_functions()) and max(depths) < 48 * 1024
+    depths = {name: int(it) for name, it in re.findall(r"^#define DEPTH_OF_(\w+) (\d+)$", text, re.M)}
+    assert len(depths) == len(header_functions())
+    assert max(depths[name] for name in DECIDING) <= 28 * 1024
+    assert max(depth for name, depth in depths.items() if name not in DECIDING) <= 16 * 1024
+
+
+# The bytes of an array in a function, flags of the compiler, and whether the function's frame is too large.
+FRAMES = {
+    "of 23 KiB": (23 * 1024, (), False),
+    "of 25 KiB": (25 * 1024, (), True),
+    "that a loop touches": (48 * 1024, ("-fstack-clash-protection",), True),
+}
+
+
+@pytest.mark.parametrize("size, flags, is_refused", FRAMES.values(), ids=FRAMES)
+def test_a_large_frame_is_an_error(tmp_path, size, flags, is_refused):
+    """packaging/depths.py finds the frame of each function that a call may reach."""
+    source = tmp_path / "frame.c"
+    source.write_text(f"void fevstunik_frame(void) {{ volatile char room[{size}]; room[0] = 1; }}\n")
+    well(run("cc", "-O2", "-fno-stack-protector", *flags, "-c", source, "-o", tmp_path / "frame.o"))
+    found = run("packaging/depths.py", tmp_path / "frame.o")
+    assert (found.returncode != 0) == is_refused
+    assert ("fevstunik_frame: a frame of " in found.stderr) == is_refused

@@ -1,6 +1,6 @@
 //! What the handle of an accepted request holds.
 
-ghost use Rattle.std.specs.Prelude.{IfErr, IfOk, ◌≡◌};
+ghost use Rattle.std.specs.Prelude.{IfErr, IfOk, IfSome, ◌≡◌};
 ghost use Rattle.krb_c.specs.Choice.{IsReplyFault, Replied, TellsReply};
 ghost use Rattle.krb_c.specs.Known.{TellsKnown, known_of, told_bytes};
 ghost use Rattle.krb_c.specs.Messages.{CountsSent};
@@ -30,6 +30,17 @@ impl AcceptedState {
         AcceptedState {
             accepted: None,
             has_sent: false,
+        }
+    }
+
+    /// Keeps nothing, in a box; none if there is no memory for it. It has a stack frame of its own.
+    #[inline(never)]
+    pub(crate) fn boxed(alloc: Global) -> Option<Box<AcceptedState>>
+        ensures { IfSome result (λ it. it.value ≡ nothing_kept) }
+    {
+        match Box::new(alloc, AcceptedState::nothing()) {
+            Ok(it) => Some(it),
+            Err(_) => None,
         }
     }
 

@@ -55,6 +55,7 @@ pub extern "C" fn fevstunik_service_answer(
 
 impl Login {
     // Nothing of an earlier call is kept.
+    #[inline(never)]
     fn clear(&mut self, alloc: Global)
         ensures accepted { self.new.accepted.value ≡ None }
         ensures held { self.new.held.value ≡ option_map undecided self.old.held.value }
@@ -67,6 +68,7 @@ impl Login {
     }
 
     // Decides, or waits for a store, unless memory or random bytes are lacking.
+    #[inline(never)]
     fn answer(
         &mut self,
         alloc: Global,
@@ -82,7 +84,7 @@ impl Login {
             Ok(drawn) => drawn,
             Err(answer) => return answer,
         };
-        let Ok(mut kept) = Box::new(alloc, AcceptedState::nothing()) else {
+        let Some(mut kept) = AcceptedState::boxed(alloc) else {
             return Answer::plain(code::OUT_OF_MEMORY);
         };
         let Ok(message) = message_if(alloc, service.is_shared, input) else {
@@ -106,6 +108,7 @@ impl Login {
 }
 
 // What a login's handle holds, or a login that begins; or none if there is no memory for it.
+#[inline(never)]
 fn held_by(handle: &mut LoginHandle, alloc: Global) -> Option<Box<LoginState>>
     ensures { MatchOption result ((handle.old.value ≡ None) × (handle.new.value ≡ None))
         (λ held. talk_of handle.old.value ≡ held.value.talk) }

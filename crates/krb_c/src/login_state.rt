@@ -1,10 +1,12 @@
 //! What a login's handle holds.
 
-ghost use Rattle.std.specs.Prelude.{IfOk, None, Some, ◌≡◌};
+ghost use Rattle.std.specs.Prelude.{IfOk, IsTrue, None, Some, ◌≡◌, ◌↔◌};
 ghost use Rattle.krb_c.specs.Inner.{SettlesAt};
-ghost use Rattle.krb_c.specs.Login.{HandsOutcome, IsAsked, IsDecided, IsKept, IsServed, IsStepped, StepsTo, TellsAskedIf, TellsOutcome, TellsProgress, asked_in, asked_of, begun_talk, breach_answer, cause_answer, decided_in, kept_of, list_answer, outcome_of, sent, undecided};
+ghost use Rattle.krb_c.specs.Login.{HandsOutcome, IsAsked, IsConcluded, IsDecided, IsHeld, IsKept, IsServed, IsStepped, StepsTo, TellsAskedIf, TellsOutcome, TellsProgress, asked_in, asked_of, begun_talk, breach_answer, cause_answer, decided_in, kept_of, list_answer, outcome_of, sent, undecided};
 ghost use Rattle.krb_c.specs.Service.{nothing_kept};
-ghost use Rattle.krb_c.specs.Store.{IsSettled, TellsQuestion};
+ghost use Rattle.krb_c.specs.Store.{IsSettled, TellsQuestion, Waits};
+ghost use Rattle.krb_c.specs.declared.question.Question.{Question as QuestionValue};
+ghost use Rattle.krb_talk.specs.declared.decision.Decision.{Decision as DecisionValue};
 ghost use Rattle.krb_name.specs.Text.{text_of};
 ghost use Rattle.std.specs.Option.{MatchOption, option_copied};
 
@@ -21,7 +23,10 @@ use crate::token::token_told;
 use krb_ap::{Accepted, ReplyOptions};
 use krb_context::{MessageFault, Options, ReceiveFault};
 use krb_gss::Negotiation;
-use krb_login::{Asked as AskedFor, Breach, Cause, Given, Refused, Step, StoreSays};
+use krb_login::{
+    Asked as AskedFor, Asking, Breach, Cause, Decision as LoginDecision, Given, Refused, Step,
+    StoreSays,
+};
 use krb_msg::{Moment, error_code};
 use krb_replay::ReplayMemory;
 use krb_talk::{Decision, ListFault, Talk, Turn};
@@ -97,6 +102,7 @@ impl LoginState {
         }
     }
 
+    #[inline(never)]
     fn step(
         &mut self,
         alloc: Global,
@@ -158,34 +164,57 @@ impl LoginState {
     )
         ensures { StepsTo is_full self.old.talk next message.items drawn.confounder drawn.choice step self.new }
     {
-        let Drawn { confounder, choice } = drawn;
         match step {
             Step::Decided(decided) => {
-                let decision = self.talk.conclude(
-                    alloc,
-                    message.as_slice(),
-                    &confounder,
-                    &choice,
-                    next,
-                    decided,
-                );
-                let (outcome, _) = outcome_of(decision, is_full);
-                self.set(Progress::Decided(outcome));
+                self.conclude(alloc, message.as_slice(), &drawn, next, decided, is_full);
             }
-            Step::Ask(asking) => {
-                let mut over = Talk::new(IN_ORDER);
-                over.end();
-                let talk = replace(&mut self.talk, over);
-                self.set(Progress::Waiting(Question {
-                    asking,
-                    confounder,
-                    choice,
-                    message,
-                    negotiation: next,
-                    talk,
-                }));
-            }
+            Step::Ask(asking) => self.wait(asking, drawn, next, message),
         }
+    }
+
+    // Concludes by what the service decided before a store is asked: what is known of a client is not kept.
+    fn conclude(
+        &mut self,
+        alloc: Global,
+        message: &[u8],
+        drawn: &Drawn,
+        next: Negotiation,
+        decided: LoginDecision,
+        is_full: bool,
+    )
+        ensures { (decision : DecisionValue)
+            × (IsConcluded message.now drawn.now.confounder drawn.now.choice self.old.talk next decided decision self.new.talk
+            × (self.new.progress ≡ Progress.Decided (outcome_of is_full decision))) }
+    {
+        let decision = self.talk.conclude(
+            alloc,
+            message,
+            &drawn.confounder,
+            &drawn.choice,
+            next,
+            decided,
+        );
+        let (outcome, _) = outcome_of(decision, is_full);
+        self.set(Progress::Decided(outcome));
+    }
+
+    // Keeps all that a decision needs until the store has spoken.
+    #[inline(never)]
+    fn wait(&mut self, asking: Asking, drawn: Drawn, next: Negotiation, message: Vec<u8>)
+        ensures { IsHeld self.old.talk next message.items drawn.confounder drawn.choice asking self.new }
+    {
+        let Drawn { confounder, choice } = drawn;
+        let mut over = Talk::new(IN_ORDER);
+        over.end();
+        let talk = replace(&mut self.talk, over);
+        self.set(Progress::Waiting(Question {
+            asking,
+            confounder,
+            choice,
+            message,
+            negotiation: next,
+            talk,
+        }));
     }
 
     fn decide(
@@ -204,6 +233,7 @@ impl LoginState {
     }
 
     // Concludes by what the service decides.
+    #[inline(never)]
     fn serve(
         &mut self,
         alloc: Global,
@@ -237,7 +267,30 @@ impl LoginState {
         self.keep(kept, decision, is_full);
     }
 
+    // Concludes by what a service decided, and keeps that.
+    fn conclude_kept(
+        &mut self,
+        alloc: Global,
+        kept: &mut AcceptedState,
+        message: &[u8],
+        confounder: &[u8; 16],
+        choice: &ReplyOptions,
+        next: Negotiation,
+        decided: LoginDecision,
+        is_full: bool,
+    )
+        ensures { (decision : DecisionValue)
+            × (IsConcluded message.now confounder.now choice.now self.old.talk next decided decision self.new.talk
+            × IsKept is_full decision self.new kept.new) }
+    {
+        let decision = self
+            .talk
+            .conclude(alloc, message, confounder, choice, next, decided);
+        self.keep(kept, decision, is_full);
+    }
+
     // Keeps a decision, and in `kept` what is known of a client that is let in.
+    #[inline(never)]
     fn keep(&mut self, kept: &mut AcceptedState, decision: Decision, is_full: bool)
         ensures talk { self.new.talk ≡ self.old.talk }
         ensures is_kept { IsKept is_full decision self.new kept.new }
@@ -266,20 +319,40 @@ impl LoginState {
     ) -> Answer
         ensures { SettlesAt self.old self.new accepted.old.value accepted.new.value said now out.old out.new result }
     {
-        let question = match replace(&mut self.progress, Progress::Nothing) {
-            Progress::Waiting(question) => question,
-            other => {
-                self.set(other);
-                return Answer::plain(code::NOT_WAITING);
-            }
-        };
-        let Ok(mut kept) = Box::new(alloc, AcceptedState::nothing()) else {
-            self.set(Progress::Waiting(question));
+        if !self.waits() {
+            return Answer::plain(code::NOT_WAITING);
+        }
+        let Some(mut kept) = AcceptedState::boxed(alloc) else {
             return Answer::plain(code::OUT_OF_MEMORY);
         };
-        self.settle_by(alloc, &mut kept, question, said, now);
+        self.settle_waiting(alloc, &mut kept, said, now);
         put(accepted, kept);
         self.answer(out)
+    }
+
+    // Whether the login waits for a store.
+    fn waits(&self) -> bool
+        ensures { IsTrue result ↔ Waits self.now.progress }
+    {
+        matches!(self.progress, Progress::Waiting(_))
+    }
+
+    // Decides by what a store said, if the login waits for one.
+    #[inline(never)]
+    fn settle_waiting(
+        &mut self,
+        alloc: Global,
+        kept: &mut AcceptedState,
+        said: StoreSays,
+        now: Moment,
+    )
+        ensures { (question : QuestionValue) → self.old.progress ≡ Progress.Waiting question
+            → IsSettled question said now self.new kept.new }
+    {
+        match replace(&mut self.progress, Progress::Nothing) {
+            Progress::Waiting(question) => self.settle_by(alloc, kept, question, said, now),
+            _ => {}
+        }
     }
 
     fn settle_by(
@@ -303,15 +376,16 @@ impl LoginState {
         let again = choice_again(&choice);
         let decided = asking.settle(alloc, said, now, &confounder, again);
         self.talk = talk;
-        let decision = self.talk.conclude(
+        self.conclude_kept(
             alloc,
+            kept,
             message.as_slice(),
             &confounder,
             &choice,
             negotiation,
             decided,
+            false,
         );
-        self.keep(kept, decision, false);
     }
 
     /// Discards what was decided, or waited for.

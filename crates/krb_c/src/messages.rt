@@ -151,19 +151,22 @@ fn options_for(accepted: &Accepted, choice: &Choice, any_order: bool) -> Message
     }
 }
 
+#[inline(never)]
 fn keep(messages: &mut MessagesHandle, alloc: Global, context: Context) -> Answer
     ensures { ((result ≡ plain ok) × (messages.new.value ≡ Some context)) ⊎ ((result ≡ plain out_of_memory) × (messages.new.value ≡ messages.old.value)) }
 {
-    match Box::new(alloc, context) {
-        Ok(kept) => {
-            put(messages, kept);
-            Answer::plain(code::OK)
-        }
-        Err(_) => Answer::plain(code::OUT_OF_MEMORY),
+    let Ok(mut kept) = Box::new(alloc, context) else {
+        return Answer::plain(code::OUT_OF_MEMORY);
+    };
+    if kept.prepare(alloc).is_err() {
+        return Answer::plain(code::OUT_OF_MEMORY);
     }
+    put(messages, kept);
+    Answer::plain(code::OK)
 }
 
 impl MessageOptions {
+    #[inline(never)]
     fn begin(&self, has_sent: bool, keys: Keys<'_>) -> Result<Context, Answer>
         ensures begins { IfOk result (Begins has_sent self.now keys.entry.session_key.now keys.entry.client_subkey.now keys.entry.service_subkey.now) }
         ensures fault { IfErr result (IsUnbegun self.now keys.entry.session_key.now keys.entry.client_subkey.now keys.entry.service_subkey.now) }

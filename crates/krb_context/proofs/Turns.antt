@@ -1,12 +1,12 @@
 -- The next token that one side sends and the other takes.
-use Rattle.std.proofs.Common.{◌≡◌, ◌∙◌, ◌⊎◌, ◌<◌, ◌+◌, ◌^◌, ℕ, List, ◌∷◌, Bool, length, Some, None, inl, inr, ⊎_elim, sym, ap, subst, add-one, arith}
+use Rattle.std.proofs.Common.{◌≡◌, ◌∙◌, ◌⊎◌, ◌<◌, ◌+◌, ◌^◌, ℕ, List, [], ◌∷◌, Bool, length, Some, None, inl, inr, ⊎_elim, sym, ap, subst, add-one, arith}
 use Rattle.std.specs.Prelude.{All, Contains, IsTrue, if◌then◌else◌}
 use Rattle.std.proofs.lemmas.Bool.{lt-ltb}
 use Rattle.krb_context.specs.Side.{Sender, peer_of, peer_sender}
 use Rattle.krb_context.specs.Mic.{IsMic, mic_token}
 use Rattle.krb_context.specs.Wrap.{IsWrap, wrap_token}
 use Rattle.krb_context.specs.Sequence.{IsNew, Stands, sent_numbers}
-use Rattle.krb_context.specs.Context.{State, HasOrder, IsBegun, IsNextFor, IsOutOfOrder, IsRefusedBy, Takes, first_of, number_after}
+use Rattle.krb_context.specs.Context.{State, HasOrder, HasSentFirst, IsBegun, IsNextFor, IsOutOfOrder, IsRefusedBy, Takes, first_of, number_after}
 use Rattle.krb_context.specs.declared.agreed.Agreed.{Agreed}
 use Rattle.krb_context.specs.declared.agreed.Options.{Options}
 use Rattle.krb_context.specs.declared.role.Role.{Role}
@@ -86,6 +86,24 @@ begin_in_step agreed Acceptor from to one other = record {
   fits = subst (λ (n : ℕ). n < 2 ^ 64) (sym (none_more (first_of agreed Acceptor))) one.fits;
   rotation_fits = one.rotation_fits;
   took = other.took;
+}
+
+-- each has sent its first token, and taken that of the other
+pub go_on_in_step : (agreed : Agreed) (side : Role) (from to : State) → HasSentFirst agreed side from → HasSentFirst agreed (peer_of side) to
+    → first_of agreed side + 1 < 2 ^ 64 → IsNextFor from to (first_of agreed side) 1
+go_on_in_step agreed Initiator from to one other fits = record {
+  sender_is = one.sender_is ∙ sym (ap peer_sender other.sender_is);
+  next_is = one.next_is ∙ one_more (first_of agreed Initiator) fits;
+  fits = fits;
+  rotation_fits = one.rotation_fits;
+  took = subst (λ (n : ℕ). Stands to.window (first_of agreed Initiator) (n ∷ [])) (sym (none_more (first_of agreed Initiator))) other.took;
+}
+go_on_in_step agreed Acceptor from to one other fits = record {
+  sender_is = one.sender_is ∙ sym (ap peer_sender other.sender_is);
+  next_is = one.next_is ∙ one_more (first_of agreed Acceptor) fits;
+  fits = fits;
+  rotation_fits = one.rotation_fits;
+  took = subst (λ (n : ℕ). Stands to.window (first_of agreed Acceptor) (n ∷ [])) (sym (none_more (first_of agreed Acceptor))) other.took;
 }
 
 -- ---- a side that refuses repeats

@@ -2,3 +2,4 @@ pub mod Headers
 pub mod Prepared
 pub mod Forms
 pub mod Ring
+pub mod Unwraps

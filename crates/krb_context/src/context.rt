@@ -8,12 +8,14 @@ ghost use Rattle.krb_context.specs.Sequence.{Stands};
 ghost use Rattle.krb_context.specs.Context.{HasSentFirst, IsBegun, IsMicRefusal, IsOutOfOrder, IsSent, IsWrapRefusal, LeavesToken, Takes, first_of, number_after, sender_in};
 
 use crate::agreed::{Agreed, Options};
-use crate::direction::{Direction, Unwrapped};
+use crate::direction::Unwrapped;
 use crate::fault::{ReceiveFault, SendFault};
 use crate::header::HEADER_LEN;
+use crate::keys::Keys;
 use crate::order::{Order, Window};
 use crate::role::Role;
 use krb_enc::ShortSlice;
+use std::alloc::{AllocError, Global};
 use std::marker::Model;
 
 /// One side of a context: it counts the tokens that it sends, and knows which ones it took.
@@ -21,24 +23,22 @@ use std::marker::Model;
 /// The type has no `Debug`, so no log shows a key.
 #[derive(Drop)]
 pub struct Context {
-    sending: Direction,
-    receiving: Direction,
+    keys: Keys,
     options: Options,
     next: Option<u64>,
     window: Window,
 }
 
 impl Model for Context {
-    ghost use Rattle.std.specs.Prelude.{◌≡◌};
-    ghost use Rattle.krb_context.specs.Side.{peer_sender};
+    ghost use Rattle.std.specs.Prelude.{◌<◌, ◌^◌};
     ghost use Rattle.krb_context.specs.Context.{State};
     ghost use Rattle.krb_context.specs.Inner.Prepared.{state_of};
 
     ghost Value = { State };
 
-    ghost view = { λ c. state_of c.sending c.options c.next c.window };
+    ghost view = { λ c. state_of c.keys c.options c.next c.window };
 
-    ghost invariant = { λ c. c.receiving ≡ peer_sender c.sending };
+    ghost invariant = { λ c. c.options.rotation < 2 ^ 16 };
 }
 
 /// What a Wrap token that was taken says.
@@ -62,6 +62,8 @@ pub struct Verified {
 impl Context {
     /// Makes the side `role` of the context that both sides agreed on. It has sent and taken nothing.
     ///
+    /// Each call derives the keys that it needs, until `prepare` has derived them for all calls.
+    ///
     /// Source: RFC 4121, section 2.
     pub fn new(role: Role, agreed: &Agreed, options: Options) -> Context
         ensures sender { result.sender ≡ sender_in agreed.now role }
@@ -70,11 +72,9 @@ impl Context {
         ensures window { Stands result.window (first_of agreed.now (peer_of role)) [] }
         ensures begun { IsBegun agreed.now role result }
     {
-        let key = agreed.key();
         let is_acceptor_subkey = agreed.acceptor_subkey.is_some();
         Context {
-            sending: Direction::new(key, role, is_acceptor_subkey),
-            receiving: Direction::new(key, role.peer(), is_acceptor_subkey),
+            keys: Keys::new(agreed.key(), role, is_acceptor_subkey),
             options,
             next: Some(agreed.first_number(role)),
             window: Window::new(agreed.first_number(role.peer())),
@@ -95,6 +95,17 @@ impl Context {
         context
     }
 
+    /// Derives the keys of both sides, once for many messages: about 5 KiB of memory. No call answers
+    /// otherwise after it, but each takes less time.
+    ///
+    /// # Errors
+    /// `AllocError`: out of memory.
+    pub fn prepare(&mut self, alloc: Global) -> Result<(), AllocError>
+        ensures { self.new ≡ self.old }
+    {
+        self.keys.prepare(alloc)
+    }
+
     /// Writes the MIC token of `text` with the next number to the start of `token`, and returns its
     /// length: 32 bytes (type 19) or 40 (type 20). The rest of `token` is unchanged.
     ///
@@ -111,7 +122,7 @@ impl Context {
         let Some(number) = self.next else {
             return Err(SendFault::NumbersUsedUp);
         };
-        let written = self.sending.mic_to(number, text, token);
+        let written = self.keys.mic_to(number, text, token);
         self.counted(number, written)
     }
 
@@ -141,7 +152,7 @@ impl Context {
         let Some(number) = self.next else {
             return Err(SendFault::NumbersUsedUp);
         };
-        let written = self.sending.wrap_to(
+        let written = self.keys.wrap_to(
             is_sealed,
             self.options.rotation,
             number,
@@ -163,7 +174,7 @@ impl Context {
         ensures none { IsNone result → (confounder text : List ℕ) (number : ℕ) → length confounder ≡ 16
             → size < length (wrap_token self.now.sender is_sealed self.now.options.rotation confounder number text) }
     {
-        size.checked_sub(self.sending.wrap_overhead(is_sealed))
+        size.checked_sub(self.keys.wrap_overhead(is_sealed))
     }
 
     /// Checks that `token` is a MIC token of `text` from the other side and takes it. Returns its
@@ -185,7 +196,7 @@ impl Context {
         ensures fault { IfErr result (λ fault. IsMicRefusal self.old text.now token.now fault) }
         ensures unchanged { IfErr result (λ _. self.new ≡ self.old) }
     {
-        let number = self.receiving.verify_mic(text, token)?;
+        let number = self.keys.verify_mic(text, token)?;
         let order = self.take(number)?;
         Ok(Verified { number, order })
     }
@@ -218,7 +229,7 @@ impl Context {
         ensures header { take 16 token.new ≡ take 16 token.old }
         ensures token { IfErr result (λ fault. LeavesToken fault token.old token.new) }
     {
-        let text = self.receiving.unwrap(token)?;
+        let text = self.keys.unwrap(token)?;
         match self.take(text.number) {
             Ok(order) => Ok(Opened { text, order }),
             Err(fault) => {

@@ -5,22 +5,19 @@ ghost use Rattle.krb_enc.specs.Key.{KeyValue, profile_of};
 ghost use Rattle.krb_enc.specs.Written.{IsWritten};
 ghost use Rattle.krb_context.specs.Side.{Sender, HasFlags, flags_of, sender_flag};
 ghost use Rattle.krb_context.specs.Mic.{IsMic, mic_token};
-ghost use Rattle.krb_context.specs.Wrap.{IsWrap, plain_token, rotated, rotated_token, sealed_token, wrap_checksum, wrap_header, wrap_overhead, wrap_token};
+ghost use Rattle.krb_context.specs.Wrap.{IsWrap, plain_token, rotated, rotated_token, sealed_token, wrap_checksum, wrap_header, wrap_token};
 ghost use Rattle.krb_context.specs.Faults.{HasRoom, IsMicFault, IsWrapFault, sender_bit, subkey_bit};
 ghost use Rattle.krb_context.specs.Inner.Forms.{Holds, IsFlagFault, IsFormed, OpensTo};
 ghost use Rattle.krb_context.specs.Inner.Prepared.{IsPrepared, sender_of};
 
 use crate::fault::MessageFault;
-use crate::header::{HEADER_LEN, MicHeader, WrapHeader};
+use crate::header::{HEADER_LEN, WrapHeader};
+use crate::mic_keys::Mics;
 use crate::role::Role;
 use krb_enc::{ChecksumKey, Key, ShortSlice, Tag, UsageKey};
 use std::marker::Model;
 
-const CONFOUNDER_LEN: usize = 16;
-
-const SEALED: u8 = 2;
-
-const ACCEPTOR_SUBKEY: u8 = 4;
+pub(crate) const CONFOUNDER_LEN: usize = 16;
 
 /// What makes and checks the tokens that one side sends, prepared once for many texts.
 ///
@@ -30,7 +27,7 @@ const ACCEPTOR_SUBKEY: u8 = 4;
 pub struct Direction {
     side: Role,
     is_acceptor_subkey: bool,
-    mics: ChecksumKey,
+    mics: Mics,
     checksums: ChecksumKey,
     sealing: UsageKey,
 }
@@ -40,7 +37,7 @@ impl Model for Direction {
 
     ghost view = { λ d. sender_of d.sealing.key d.side d.is_acceptor_subkey };
 
-    ghost invariant = { λ d. IsPrepared d.side d.mics d.checksums d.sealing };
+    ghost invariant = { λ d. IsPrepared d.side d.is_acceptor_subkey d.mics d.checksums d.sealing };
 }
 
 /// Where the text of a Wrap token is, after the token was opened in place.
@@ -70,13 +67,14 @@ impl Direction {
     /// tokens' flags say it.
     ///
     /// Source: RFC 4121, section 2.
+    #[inline(never)]
     pub fn new(key: &Key, side: Role, is_acceptor_subkey: bool) -> Direction
         ensures { result ≡ record { key = key.now; side = side; acceptor_subkey = is_acceptor_subkey } }
     {
         Direction {
             side,
             is_acceptor_subkey,
-            mics: key.for_checksums(side.sign_usage()),
+            mics: Mics::new(key, side, is_acceptor_subkey),
             checksums: key.for_checksums(side.seal_usage()),
             sealing: key.for_usage(side.seal_usage()),
         }
@@ -93,12 +91,7 @@ impl Direction {
         ensures { IsWritten ShortSlice (λ needed. record { needed = needed })
             (mic_token self.now number text.now) token.old token.new result }
     {
-        let header = MicHeader {
-            flags: self.flags(false),
-            number,
-        }
-        .bytes();
-        put(&header, &[], &self.mics.checksum(&[text, &header]), token)
+        self.mics.mic_to(number, text, token)
     }
 
     /// Checks that `token` is a MIC token of `text` from this side, and returns its sequence number.
@@ -119,22 +112,7 @@ impl Direction {
         ensures found { (number : ℕ) → IsMic self.now number text.now token.now → result ≡ Ok number }
         ensures fault { IfErr result (IsMicFault self.now text.now token.now) }
     {
-        if token.len() < HEADER_LEN {
-            return Err(MessageFault::Defective);
-        }
-        let (front, tag) = token.split_at(HEADER_LEN);
-        let Some(header) = MicHeader::read(front) else {
-            return Err(MessageFault::Defective);
-        };
-        if header.flags / 2 % 2 != 0 {
-            return Err(MessageFault::Defective);
-        }
-        self.check_flags(header.flags)?;
-        if self.mics.verify(&[text, front], tag) {
-            Ok(header.number)
-        } else {
-            Err(MessageFault::Integrity)
-        }
+        self.mics.verify_mic(text, token)
     }
 
     /// Writes the sealed Wrap token of `text` with the sequence number `number` to the start of
@@ -234,19 +212,6 @@ impl Direction {
         }
     }
 
-    // How much longer than its text a Wrap token is.
-    pub(crate) fn wrap_overhead(&self, is_sealed: bool) -> usize
-        ensures value { result ≡ wrap_overhead self.now is_sealed }
-        ensures most { result ≤ 72 }
-    {
-        let beside_tag = if is_sealed {
-            HEADER_LEN + CONFOUNDER_LEN + HEADER_LEN
-        } else {
-            HEADER_LEN
-        };
-        beside_tag + self.sealing.tag_len()
-    }
-
     /// Opens a Wrap token of this side in place, and returns where its text is in `token`.
     ///
     /// A sealed text was encrypted, and one in plain has a checksum. A token that was rotated is
@@ -321,13 +286,7 @@ impl Direction {
         ensures value { result ≡ flags_of self.now is_sealed }
         ensures most { result ≤ 7 }
     {
-        self.side.sender_flag()
-            + if is_sealed { SEALED } else { 0 }
-            + if self.is_acceptor_subkey {
-                ACCEPTOR_SUBKEY
-            } else {
-                0
-            }
+        self.mics.flags(is_sealed)
     }
 
     // The header of a token that has the form of a Wrap token of this side.
@@ -436,18 +395,12 @@ impl Direction {
             × (subkey_bit flags ≡ (if self.now.acceptor_subkey then 1 else 0)) }
         ensures fault { IfErr result (IsFlagFault self.now flags) }
     {
-        if flags % 2 != self.side.sender_flag() {
-            return Err(MessageFault::Direction);
-        }
-        if (flags / 4 % 2 == 1) != self.is_acceptor_subkey {
-            return Err(MessageFault::OtherKey);
-        }
-        Ok(())
+        self.mics.check_flags(flags)
     }
 }
 
 // Writes a header, a text and a checksum one after another to the start of `token`.
-fn put(
+pub(crate) fn put(
     header: &[u8; HEADER_LEN],
     text: &[u8],
     checksum: &Tag,

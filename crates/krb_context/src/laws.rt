@@ -8,7 +8,7 @@ ghost use Rattle.krb_context.specs.Mic.{IsMic, mic_token};
 ghost use Rattle.krb_context.specs.Wrap.{IsInPlain, IsSealed, IsWrap, rotated_token, sealed_token, wrap_overhead, wrap_token};
 ghost use Rattle.krb_context.specs.Faults.{IsMicFault, IsWrapFault};
 ghost use Rattle.krb_context.specs.Sequence.{IsOrder, Stands, sent_numbers};
-ghost use Rattle.krb_context.specs.Context.{HasOrder, IsBegun, IsNextFor, IsOutOfOrder, State, Takes, first_of, number_after, sender_in};
+ghost use Rattle.krb_context.specs.Context.{HasOrder, HasSentFirst, IsBegun, IsNextFor, IsOutOfOrder, State, Takes, first_of, number_after, sender_in};
 ghost use Rattle.krb_context.specs.declared.agreed.Agreed.{Agreed};
 ghost use Rattle.krb_context.specs.declared.fault.MessageFault.{MessageFault};
 ghost use Rattle.krb_context.specs.declared.fault.ReceiveFault.{ReceiveFault};
@@ -28,6 +28,14 @@ pub fn both_begin_in_step()
     ensures { (agreed : Agreed) (side : Role) (from to : State)
         → IsBegun agreed side from → IsBegun agreed (peer_of side) to
         → IsNextFor from to (first_of agreed side) 0 }
+{}
+
+/// Two such sides are still in step after each has sent its first token and taken that of the other, as
+/// after the MICs of a list of mechanisms: the second token of each is the next one for the other.
+pub fn both_go_on_in_step()
+    ensures { (agreed : Agreed) (side : Role) (from to : State)
+        → HasSentFirst agreed side from → HasSentFirst agreed (peer_of side) to
+        → first_of agreed side + 1 < 2 ^ 64 → IsNextFor from to (first_of agreed side) 1 }
 {}
 
 /// What a side writes is a token of it, of that text and with that number. So the other side takes

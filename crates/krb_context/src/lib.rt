@@ -15,7 +15,8 @@
 //! ```
 //!
 //! A MIC token shows that a text is unchanged. A Wrap token has the text inside, sealed or in plain
-//! with a checksum. Both are of one side, and of one sequence number. No call allocates memory.
+//! with a checksum. Both are of one side, and of one sequence number. No call allocates memory but
+//! [`Context::prepare`].
 //!
 //! A [`Context`] chooses the key and counts. [`Direction`] has the tokens of one side alone, with
 //! numbers that the caller gives, and [`Window`] the order of numbers.
@@ -30,7 +31,9 @@ mod context;
 mod direction;
 mod fault;
 mod header;
+mod keys;
 pub mod laws;
+mod mic_keys;
 mod order;
 mod role;
 

@@ -1,5 +1,5 @@
 -- The check of a client's list of mechanisms, after its request is accepted (RFC 4178, section 5).
-use Rattle.std.specs.Prelude.{◌≡◌, ◌⊎◌, ℕ, List, true, false, Some, None, Result, Ok, Err}
+use Rattle.std.specs.Prelude.{◌≡◌, ◌⊎◌, ℕ, List, true, false, Option, Some, None, Result, Ok, Err}
 use Rattle.krb_ap.specs.declared.accepted.Accepted.{Accepted}
 use Rattle.krb_ap.specs.declared.reply.ReplyOptions.{ReplyOptions}
 use Rattle.krb_context.specs.Context.{State, IsMicRefusal}
@@ -59,10 +59,11 @@ pub data MayRunOut (check : Check) : Type 0 where
   may_ask : (mechanism : Mechanism) (begun : State) → HoldsBoth mechanism None check.bytes → IsBegunFor check begun → check.accepted.mutual ≡ true
       → MayRunOut check
 
--- why the client isn't let in
+-- why the client isn't let in: the first that applies
 abbrev pub IsCheckFault : Check → ListFault → Type 0
 IsCheckFault check (Token fault) = IsLaterFault check.bytes fault ⊎ IsMicFault check.bytes fault
-IsCheckFault check OtherKey = HasOtherKey check.accepted.subkey
+IsCheckFault check OtherKey =
+    (mechanism : Mechanism) × (mic : Option (List ℕ)) × HoldsBoth mechanism mic check.bytes × HasOtherKey check.accepted.subkey
 IsCheckFault check Missing =
     (mechanism : Mechanism) × (begun : State) × HoldsBoth mechanism None check.bytes × IsBegunFor check begun × (check.accepted.mutual ≡ false)
 IsCheckFault check (Wrong fault) =

@@ -1,5 +1,6 @@
 pub mod Agreeing
 pub mod ListMic
+pub mod Beginning
 pub mod States
 pub mod Pending
 pub mod Checking

@@ -31,18 +31,6 @@ pub record IsAskedFor (pending : Pending) (mechanism : Mechanism) (confounder : 
   pub accepted_is : after.accepted ≡ pending.accepted
   pub list_is : after.list ≡ pending.list
 
--- the context refuses the MIC; or it takes it, and memory runs out for the answer
-abbrev pub Refuses : Pending → List ℕ → ListFault → Type 0
-Refuses pending mic (Wrong fault) = IsMicRefusal pending.context pending.list mic fault
-Refuses pending mic OutOfMemory = (taken : State) × Shows pending.list mic pending.context taken
-Refuses pending mic _ = ⊥
-
--- it awaits no reply; or it does, and memory runs out for the answer
-abbrev pub IsUnasked : Pending → ListFault → Type 0
-IsUnasked pending Missing = pending.accepted.mutual ≡ false
-IsUnasked pending OutOfMemory = pending.accepted.mutual ≡ true
-IsUnasked pending _ = ⊥
-
 -- ---- the last message
 -- It has the client's MIC, and that is right. Nothing goes back, since the service has sent its own.
 pub record IsFinished (pending : Pending) (bytes : List ℕ) (login : Admitted) : Type 0 where

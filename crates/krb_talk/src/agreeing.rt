@@ -10,6 +10,7 @@ use krb_enc::{Key, KeyFault};
 use krb_msg::RawKey;
 
 /// Makes the service's side of the context. There is none if the client's subkey isn't of type 19 or 20.
+#[inline(never)]
 pub(crate) fn context_of(
     accepted: &Accepted,
     choice: &ReplyOptions,

@@ -32,6 +32,7 @@
 #![tactic(auto)]
 
 mod agreeing;
+mod beginning;
 mod checking;
 mod decision;
 pub mod laws;

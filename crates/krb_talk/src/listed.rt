@@ -9,10 +9,10 @@ ghost use Rattle.krb_gss.specs.Checksum.{bytes_if};
 ghost use Rattle.krb_talk.specs.Checking.{Checks};
 ghost use Rattle.krb_talk.specs.ListMic.{HoldsBoth};
 
-use crate::agreeing::context_of;
+use crate::beginning::{asked_context, shown_context};
 use crate::checking::{Admitted, Checking, ListFault};
 use crate::mic::Replying;
-use crate::pending::{Begun, Pending};
+use crate::pending::{Pending, ask, let_in};
 use krb_ap::ReplyOptions;
 use krb_context::Options;
 use krb_gss::{
@@ -129,18 +129,23 @@ impl Listed {
             Ok(held) => held,
             Err(fault) => return Err(ListFault::Token(fault)),
         };
-        let Some(context) = context_of(&accepted, choice, options) else {
-            return Err(ListFault::OtherKey);
-        };
-        let pending = Begun::new(accepted, self.list, context);
+        let list = self.list;
         let replying = Replying {
             mechanism,
             confounder,
             choice,
         };
         match mic {
-            Some(mic) => shown(pending.let_in(alloc, mic, replying)),
-            None => waits(pending.ask(alloc, replying)),
+            Some(mic) => {
+                match shown_context(alloc, &accepted, choice, options, list.as_slice(), mic) {
+                    Ok(context) => shown(let_in(alloc, accepted, list, context, replying)),
+                    Err(fault) => Err(fault),
+                }
+            }
+            None => match asked_context(alloc, &accepted, choice, options) {
+                Ok(context) => waits(ask(alloc, accepted, list, context, replying)),
+                Err(fault) => Err(fault),
+            },
         }
     }
 }
@@ -164,6 +169,7 @@ fn waits(made: Result<(Pending, Vec<u8>), ListFault>) -> Result<Checking, ListFa
 }
 
 /// The name of Kerberos and the MIC in a client's later message.
+#[inline(never)]
 fn held<'a>(bytes: &'a [u8]) -> Result<(Mechanism, Option<&'a [u8]>), TokenFault>
     ensures found { IfOk result (λ it. HoldsBoth it.0 (bytes_if it.1) bytes.entry.now) }
     ensures faulty { IfErr result (λ fault. IsLaterFault bytes.entry.now fault ⊎ IsMicFault bytes.entry.now fault) }

@@ -15,6 +15,7 @@ use krb_gss::{Checked, Mechanism, Reply, wrap_checked};
 use std::alloc::{AllocError, Global};
 
 /// Checks the client's MIC of the list, and takes it.
+#[inline(never)]
 pub(crate) fn show(context: &mut Context, list: &[u8], mic: &[u8]) -> Result<(), ReceiveFault>
     ensures shown { OnOk result (Shows list.now mic.now context.old context.new) }
     ensures wrong { IfErr result (IsMicRefusal context.old list.now mic.now) }
@@ -38,6 +39,7 @@ pub(crate) struct Replying<'a> {
 }
 
 /// Makes the reply for a client that awaits one.
+#[inline(never)]
 fn reply_if(
     alloc: Global,
     accepted: &Accepted,
@@ -93,6 +95,7 @@ pub(crate) fn marked(
 }
 
 /// Writes the service's own MIC of the list to the start of `room`, and returns its length.
+#[inline(never)]
 fn own_mic(context: &mut Context, list: &[u8], room: &mut [u8]) -> usize
     requires next { HasNext context.old }
     requires room { length room.old ≡ 40 }
@@ -108,6 +111,7 @@ fn own_mic(context: &mut Context, list: &[u8], room: &mut [u8]) -> usize
 }
 
 /// Writes the service's answer with its own MIC of the list.
+#[inline(never)]
 fn mark(
     alloc: Global,
     context: &mut Context,

@@ -1,8 +1,10 @@
 //! A client that is asked for its MIC.
 
-ghost use Rattle.std.specs.Prelude.{◌≡◌, IfErr, IfOk};
+ghost use Rattle.std.specs.Prelude.{◌≡◌, IfErr, IfOk, IsSomeAnd, true, false};
+ghost use Rattle.krb_ap.specs.Answer.{taken_of};
 ghost use Rattle.krb_talk.specs.Inner.{HasNext};
-ghost use Rattle.krb_talk.specs.Pending.{Finishes, IsAskedFor, IsLetInNow, IsUnasked, Refuses};
+ghost use Rattle.krb_talk.specs.ListMic.{MarksIn, RepliesIf};
+ghost use Rattle.krb_talk.specs.Pending.{Finishes};
 
 use crate::checking::{Admitted, ListFault};
 use crate::mic::{Replying, marked, show};
@@ -12,118 +14,73 @@ use krb_gss::later_mic;
 use std::alloc::Global;
 use std::marker::Model;
 
-/// What is known of a client whose request is accepted, before its list is checked. There is no `Debug`, so no log shows a key.
-#[derive(Drop)]
-pub(crate) struct Begun {
+/// Lets a client in that has shown its list by a MIC which came with its token.
+pub(crate) fn let_in(
+    alloc: Global,
     accepted: Accepted,
     list: Vec<u8>,
-    context: Context,
-}
-
-impl Model for Begun {
-    ghost use Rattle.krb_talk.specs.States.{Pending as PendingValue};
-
-    ghost Value = { PendingValue };
-
-    ghost view = { λ p. record {
-      accepted = p.accepted;
-      list = p.list.items;
-      context = p.context;
-    } };
-}
-
-impl Begun {
-    pub(crate) fn new(accepted: Accepted, list: Vec<u8>, context: Context) -> Begun
-        ensures accepted { result.accepted ≡ accepted }
-        ensures list { result.list ≡ list.items }
-        ensures context { result.context ≡ context }
-    {
-        Begun {
-            accepted,
-            list,
-            context,
-        }
-    }
-
-    /// Lets the client in by a MIC that came with its token.
-    pub(crate) fn let_in(
-        self,
-        alloc: Global,
-        mic: &[u8],
-        replying: Replying<'_>,
-    ) -> Result<Admitted, ListFault>
-        requires { HasNext self.context }
-        ensures ok { IfOk result (IsLetInNow self replying.entry.mechanism mic.now replying.entry.confounder.now replying.entry.choice.now) }
-        ensures fault { IfErr result (Refuses self mic.now) }
-    {
-        let Begun {
-            accepted,
-            list,
-            mut context,
-        } = self;
-        match show(&mut context, list.as_slice(), mic) {
-            Ok(()) => {}
-            Err(fault) => return Err(ListFault::Wrong(fault)),
-        }
-        let sent = match marked(
-            alloc,
-            &mut context,
-            list.as_slice(),
-            true,
-            &accepted,
-            replying,
-        ) {
-            Ok(sent) => sent,
-            Err(_) => return Err(ListFault::OutOfMemory),
-        };
-        let Ok(context) = Box::new(alloc, context) else {
-            return Err(ListFault::OutOfMemory);
-        };
-        Ok(Admitted {
+    context: Box<Context>,
+    replying: Replying<'_>,
+) -> Result<Admitted, ListFault>
+    requires { HasNext context.value }
+    ensures answer { IfOk result (λ login. IsSomeAnd login.answer (λ sent. MarksIn list.items true
+        (RepliesIf accepted.mutual (taken_of accepted) replying.entry.mechanism replying.entry.confounder.now replying.entry.choice.now)
+        context.value login.context.value sent.items)) }
+    ensures accepted { IfOk result (λ login. login.accepted ≡ accepted) }
+    ensures memory { IfErr result (λ fault. fault ≡ ListFault.OutOfMemory) }
+{
+    let mut context = context;
+    match marked(
+        alloc,
+        &mut context,
+        list.as_slice(),
+        true,
+        &accepted,
+        replying,
+    ) {
+        Ok(sent) => Ok(Admitted {
             accepted,
             context,
             answer: Some(sent),
-        })
+        }),
+        Err(_) => Err(ListFault::OutOfMemory),
     }
+}
 
-    /// Asks the client for its MIC, if it awaits a reply.
-    pub(crate) fn ask(
-        self,
-        alloc: Global,
-        replying: Replying<'_>,
-    ) -> Result<(Pending, Vec<u8>), ListFault>
-        requires { HasNext self.context }
-        ensures ok { IfOk result (λ it. IsAskedFor self replying.entry.mechanism replying.entry.confounder.now replying.entry.choice.now it.0 it.1.items) }
-        ensures fault { IfErr result (IsUnasked self) }
-    {
-        let Begun {
-            accepted,
-            list,
-            mut context,
-        } = self;
-        if !accepted.mutual {
-            return Err(ListFault::Missing);
+/// Asks a client for its MIC.
+pub(crate) fn ask(
+    alloc: Global,
+    accepted: Accepted,
+    list: Vec<u8>,
+    context: Box<Context>,
+    replying: Replying<'_>,
+) -> Result<(Pending, Vec<u8>), ListFault>
+    requires { HasNext context.value }
+    ensures answer { IfOk result (λ it. MarksIn list.items false
+        (RepliesIf accepted.mutual (taken_of accepted) replying.entry.mechanism replying.entry.confounder.now replying.entry.choice.now)
+        context.value it.0.context it.1.items) }
+    ensures accepted { IfOk result (λ it. it.0.accepted ≡ accepted) }
+    ensures list { IfOk result (λ it. it.0.list ≡ list.items) }
+    ensures memory { IfErr result (λ fault. fault ≡ ListFault.OutOfMemory) }
+{
+    let mut context = context;
+    match marked(
+        alloc,
+        &mut context,
+        list.as_slice(),
+        false,
+        &accepted,
+        replying,
+    ) {
+        Ok(sent) => {
+            let pending = Pending {
+                accepted,
+                list,
+                context,
+            };
+            Ok((pending, sent))
         }
-        let sent = match marked(
-            alloc,
-            &mut context,
-            list.as_slice(),
-            false,
-            &accepted,
-            replying,
-        ) {
-            Ok(sent) => sent,
-            Err(_) => return Err(ListFault::OutOfMemory),
-        };
-        let Ok(context) = Box::new(alloc, context) else {
-            return Err(ListFault::OutOfMemory);
-        };
-        let pending = Pending {
-            accepted,
-            list,
-            context,
-        };
-        Ok((pending, sent))
+        Err(_) => Err(ListFault::OutOfMemory),
     }
 }
 
@@ -160,6 +117,7 @@ impl Pending {
     /// - `Token`: the bytes aren't a client's later message.
     /// - `Missing`: it has no mechListMIC.
     /// - `Wrong`: the mechListMIC isn't the client's MIC of the list, or the context doesn't take it.
+    #[inline(never)]
     pub fn finish(self, bytes: &[u8]) -> Result<Admitted, ListFault>
         ensures { Finishes self bytes.now result }
     {

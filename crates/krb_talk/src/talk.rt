@@ -135,10 +135,7 @@ impl Talk {
             choice,
             options: self.options,
         };
-        let stage = mem::replace(&mut self.stage, Stage::Login(Negotiation::Ended));
-        let (decision, stage) = conclude_at(alloc, stage, bytes, chosen, after, decided);
-        self.stage = stage;
-        decision
+        conclude_at(alloc, &mut self.stage, bytes, chosen, after, decided)
     }
 }
 
@@ -173,6 +170,7 @@ fn login_turn(alloc: Global, negotiation: Negotiation, bytes: &[u8]) -> (Turn, S
     }
 }
 
+#[inline(never)]
 fn first_turn(alloc: Global, bytes: &[u8]) -> (Turn, Stage)
     ensures { Takes bytes.now (Stage.Login Negotiation.Begun) result.0 result.1 }
 {
@@ -192,42 +190,51 @@ fn first_turn(alloc: Global, bytes: &[u8]) -> (Turn, Stage)
     }
 }
 
+// (The stage is changed in place, so that no frame has room for a second one.)
+#[inline(never)]
 fn conclude_at(
     alloc: Global,
-    stage: Stage,
+    stage: &mut Stage,
     bytes: &[u8],
     chosen: Chosen<'_>,
     after: Negotiation,
     decided: LoginDecision,
-) -> (Decision, Stage)
-    ensures { ConcludesAt stage bytes.now chosen.entry.confounder.now chosen.entry.choice.now chosen.entry.options after decided result.0 result.1 }
+) -> Decision
+    ensures { ConcludesAt stage.old bytes.now chosen.entry.confounder.now chosen.entry.choice.now chosen.entry.options after decided result stage.new }
 {
-    match stage {
-        Stage::Login(negotiation) => conclude_login(alloc, negotiation, after, decided),
-        Stage::Listed(listed) => conclude(alloc, listed, bytes, chosen, decided),
-        Stage::Waiting(_) => (
-            unshown(alloc, ListFault::Missing),
-            Stage::Login(Negotiation::Ended),
-        ),
+    match mem::replace(stage, Stage::Login(Negotiation::Ended)) {
+        Stage::Login(negotiation) => conclude_login(alloc, stage, negotiation, after, decided),
+        Stage::Listed(listed) => conclude(alloc, stage, listed, bytes, chosen, decided),
+        Stage::Waiting(_) => unshown(alloc, ListFault::Missing),
     }
 }
 
+#[inline(never)]
 fn conclude_login(
     alloc: Global,
+    stage: &mut Stage,
     negotiation: Negotiation,
     after: Negotiation,
     decided: LoginDecision,
-) -> (Decision, Stage)
-    ensures { ConcludesLogin negotiation after decided result.0 result.1 }
+) -> Decision
+    ensures { ConcludesLogin negotiation after decided result stage.new }
 {
     match negotiation {
-        Negotiation::Begun => (as_decided(decided), Stage::Login(after)),
-        Negotiation::Asked(_) => (as_decided(decided), Stage::Login(after)),
+        Negotiation::Begun => go_on(stage, after, decided),
+        Negotiation::Asked(_) => go_on(stage, after, decided),
         Negotiation::Ended => {
-            let ended = conclude_ended(alloc, decided);
-            (ended, Stage::Login(Negotiation::Ended))
+            *stage = Stage::Login(Negotiation::Ended);
+            conclude_ended(alloc, decided)
         }
     }
+}
+
+fn go_on(stage: &mut Stage, after: Negotiation, decided: LoginDecision) -> Decision
+    ensures decision { result ≡ as_decided decided }
+    ensures stage { stage.new ≡ Stage.Login after }
+{
+    *stage = Stage::Login(after);
+    as_decided(decided)
 }
 
 // Lets nobody in after the end.
@@ -381,36 +388,43 @@ fn check<M: ReplayMemory>(
     };
     let mut negotiation = listed.negotiation();
     let decided = serve(alloc, service, &mut negotiation, given);
-    conclude(alloc, listed, bytes, chosen, decided)
+    let mut stage = Stage::Login(Negotiation::Ended);
+    let decision = conclude(alloc, &mut stage, listed, bytes, chosen, decided);
+    (decision, stage)
 }
 
 // Checks the list of a client that the service would let in.
 fn conclude(
     alloc: Global,
+    stage: &mut Stage,
     listed: Listed,
     bytes: &[u8],
     chosen: Chosen<'_>,
     decided: LoginDecision,
-) -> (Decision, Stage)
-    ensures { ConcludesBy listed bytes.now chosen.entry.confounder.now chosen.entry.choice.now chosen.entry.options decided result.0 result.1 }
+) -> Decision
+    ensures { ConcludesBy listed bytes.now chosen.entry.confounder.now chosen.entry.choice.now chosen.entry.options decided result stage.new }
 {
+    *stage = Stage::Login(Negotiation::Ended);
     match decided {
-        LoginDecision::LetIn(login) => lead(alloc, listed.check(alloc, bytes, login, chosen)),
-        LoginDecision::GoOn(bytes) => (Decision::GoOn(bytes), Stage::Login(Negotiation::Ended)),
-        LoginDecision::Refused(refused) => (
-            Decision::Refused(refused),
-            Stage::Login(Negotiation::Ended),
-        ),
+        LoginDecision::LetIn(login) => {
+            lead(alloc, stage, listed.check(alloc, bytes, login, chosen))
+        }
+        LoginDecision::GoOn(bytes) => Decision::GoOn(bytes),
+        LoginDecision::Refused(refused) => Decision::Refused(refused),
     }
 }
 
-fn lead(alloc: Global, made: Result<Checking, ListFault>) -> (Decision, Stage)
-    ensures { Leads made result.0 result.1 }
+fn lead(alloc: Global, stage: &mut Stage, made: Result<Checking, ListFault>) -> Decision
+    ensures { Leads made result stage.new }
 {
+    *stage = Stage::Login(Negotiation::Ended);
     match made {
-        Ok(Checking::Shown(login)) => (Decision::Shown(login), Stage::Login(Negotiation::Ended)),
-        Ok(Checking::Waits(pending, sent)) => (Decision::GoOn(sent), Stage::Waiting(pending)),
-        Err(fault) => (unshown(alloc, fault), Stage::Login(Negotiation::Ended)),
+        Ok(Checking::Shown(login)) => Decision::Shown(login),
+        Ok(Checking::Waits(pending, sent)) => {
+            *stage = Stage::Waiting(pending);
+            Decision::GoOn(sent)
+        }
+        Err(fault) => unshown(alloc, fault),
     }
 }
 
@@ -434,6 +448,7 @@ fn end(alloc: Global, made: Result<Admitted, ListFault>) -> Decision
 }
 
 // Rejects a client for its list.
+#[inline(never)]
 fn unshown(alloc: Global, fault: ListFault) -> Decision
     ensures { IsUnshown fault result }
 {

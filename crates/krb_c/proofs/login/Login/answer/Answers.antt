@@ -24,7 +24,7 @@ returns-in_default-held_by c =
 pub returns : goal.returns
 returns c =
     let talk : talk_of c.args.self.now.held.value ≡ c.deref_mut.result.now.talk =
-    c.in-Some.ensures ∙ ap (λ (state : LoginState). state.talk) (sym c.deref_mut.ensures.value) in
+    c.in-Some-held_by.ensures ∙ ap (λ (state : LoginState). state.talk) (sym c.deref_mut.ensures.value) in
     decided_on c.judge.new.self c.judge.new.kept c.in-Ok.drawn.0 c.in-Ok.drawn.1 c.put.ensures c.put-2.ensures c.in-Ok.ensures.drawn
     (subst (λ (before : Talk). Judges c.args.service.now.is_shared c.args.service.now c.judge.new.service before c.judge.new.self c.judge.new.kept c.args.input.now c.args.now c.in-Ok.drawn.0 c.in-Ok.drawn.1)
     (sym talk) (judged _ _ _ _ _ _ _ _ _ _ _ c.in-Ok-message_if.ensures c.judge.ensures))

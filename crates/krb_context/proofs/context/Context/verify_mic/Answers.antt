@@ -15,19 +15,19 @@ same_ok r a b one other = cc
 
 pub returns-in_err-number-clause-found : goal.returns-in_err-number-clause-found
 returns-in_err-number-clause-found c number mic =
-    let peer : c.self.inside.receiving ≡ peer_sender c.args.self.now.sender = c.self.invariant ∙ ap (λ (s : State). peer_sender s.sender) c.self.view_is in
+    let peer : peer_sender c.self.inside.keys ≡ peer_sender c.args.self.now.sender = ap (λ (s : State). peer_sender s.sender) c.self.view_is in
     absurd (ok_or_err c.verify_mic.result number c.in_err-number.field-0.0
     (c.verify_mic.ensures.found number (subst (λ (s : Sender). IsMic s number c.args.text.now c.args.token.now) (sym peer) mic)) c.in_err-number.was)
 
 pub returns-in_err-number-clause-fault : goal.returns-in_err-number-clause-fault
 returns-in_err-number-clause-fault c =
-    let peer : c.self.inside.receiving ≡ peer_sender c.args.self.now.sender = c.self.invariant ∙ ap (λ (s : State). peer_sender s.sender) c.self.view_is in
+    let peer : peer_sender c.self.inside.keys ≡ peer_sender c.args.self.now.sender = ap (λ (s : State). peer_sender s.sender) c.self.view_is in
     let p = err_from_is_err_and c.from_residual.result c.from_residual.ensures.1 in
     rw (p.1, p.2) (subst (λ (s : Sender). IsMicFault s c.args.text.now c.args.token.now c.in_err-number.field-0.0) peer c.in_err-number.ensures.fault)
 
 pub returns-in_err-order-clause-found : goal.returns-in_err-order-clause-found
 returns-in_err-order-clause-found c number mic =
-    let peer : c.self.inside.receiving ≡ peer_sender c.args.self.now.sender = c.self.invariant ∙ ap (λ (s : State). peer_sender s.sender) c.self.view_is in
+    let peer : peer_sender c.self.inside.keys ≡ peer_sender c.args.self.now.sender = ap (λ (s : State). peer_sender s.sender) c.self.view_is in
     let same : c.in_ok-number.number ≡ number =
     same_ok c.verify_mic.result c.in_ok-number.number number c.in_ok-number.was
     (c.verify_mic.ensures.found number (subst (λ (s : Sender). IsMic s number c.args.text.now c.args.token.now) (sym peer) mic)) in

@@ -1,21 +1,11 @@
-use Rattle.std.proofs.Common.{◌≡◌, ◌++◌, ◌∙◌, ℕ, List, [], false, ap, ap₂, subst}
-use Rattle.krb_enc.specs.declared.fault.ShortSlice.{ShortSlice}
-use Rattle.krb_enc.specs.Key.{profile_of}
-use Rattle.krb_enc.specs.Sealed.{checksum_of}
+use Rattle.std.proofs.Common.{◌≡◌, ◌∙◌, subst}
 use Rattle.krb_enc.specs.Written.{IsWritten}
-use Rattle.krb_context.specs.Side.{Sender, flags_of, sign_usage}
-use Rattle.krb_context.specs.Mic.{mic_header}
-use Rattle.krb_context.proofs.Parts.{checksum_under}
+use Rattle.krb_enc.specs.declared.fault.ShortSlice.{ShortSlice}
+use Rattle.krb_context.specs.Side.{Sender}
+use Rattle.krb_context.specs.Mic.{mic_token}
 use Rattle.krb_context.proofs.direction.Direction.mic_to.Goals as goal
 
 pub returns : goal.returns
 returns c =
-    let self = c.args.self.now in
-    let text = c.args.text.now in
-    let header : List ℕ = mic_header (flags_of self false) c.args.number in
-    let header_is : c.bytes-header.result ≡ header = c.bytes-header.ensures ∙ ap (λ (f : ℕ). mic_header f c.args.number) c.flags.ensures.value in
-    let tag_is : c.checksum.result ≡ checksum_of (profile_of self.key) self.key.bytes (sign_usage self.side) (text ++ header) =
-    checksum_under c.self.inside.mics _ (sign_usage c.self.inside.side) text c.bytes-header.result header c.checksum.result c.checksum.ensures c.self.invariant.mics_are header_is
-    ∙ ap (λ (s : Sender). checksum_of (profile_of s.key) s.key.bytes (sign_usage s.side) (text ++ header)) c.self.view_is in
-    subst (λ (b : List ℕ). IsWritten ShortSlice (λ needed. record { needed = needed }) b c.args.token.now c.put.new.token c.put.result)
-    (ap₂ (λ (h g : List ℕ). h ++ ([] ++ g)) header_is tag_is) c.put.ensures
+    subst (λ (s : Sender). IsWritten ShortSlice (λ needed. record { needed = needed }) (mic_token s c.args.number c.args.text.now) c.args.token.now c.mic_to.new.token c.mic_to.result)
+    (c.self.invariant.mics_are ∙ c.self.view_is) c.mic_to.ensures

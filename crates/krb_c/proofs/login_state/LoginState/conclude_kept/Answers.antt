@@ -1,0 +1,12 @@
+use Rattle.std.proofs.Common.{refl}
+use Rattle.krb_c.proofs.Logins.{concluded}
+use Rattle.krb_c.proofs.login_state.LoginState.conclude_kept.Goals as goal
+
+pub returns : goal.returns
+returns c = (
+  c.conclude-decision.result,
+  (
+    concluded _ _ _ _ _ _ _ _ _ c.conclude-decision.new.self _ refl refl c.keep.ensures.talk c.conclude-decision.ensures.concludes c.conclude-decision.ensures.options,
+    c.keep.ensures.is_kept,
+  ),
+)
