@@ -12,6 +12,7 @@ from dataclasses import dataclass
 from source_text import blanked, end_of, parameters_left_out
 
 WORD = re.compile(r"[A-Za-z_]\w*")
+PATH = re.compile(r"Rattle(?:\.\w+)+")
 ATTRIBUTES = r"(?:#\[[^\[\]]*\]\s*)*"
 PUB = r"(?:pub(?:\([^)]*\))?\s+)?"
 KINDS = r"(?:struct|enum|trait|union|const|static|type|macro_rules!)"
@@ -40,7 +41,18 @@ class Item:
 
 
 def words_of(text):
-    return frozenset(WORD.findall(text))
+    """The words of a text, and the modules of definitions that its paths lead through, as `krb_enc.specs.Key`."""
+    return frozenset(WORD.findall(text)).union(*map(modules_of, PATH.findall(text)))
+
+
+def modules_of(path):
+    parts = path.split(".")[1:]
+    return {".".join(parts[: length + 1]) for length in range(1, len(parts))}
+
+
+def module_of(path):
+    """The module that a file of definitions is, below its crate."""
+    return path.removesuffix(".antt").removesuffix("/Lib").replace("/", ".")
 
 
 def pieces_of(code):
@@ -131,7 +143,7 @@ def shown(texts):
         implements = IMPLEMENTS.match(it)
         named, trait = type_and_trait(implements[1]) if implements else ("", "")
         if named not in private:
-            yield VALUE.sub("", it) if trait == "Model" and named in hidden else it
+            yield " ".join(VALUE.sub("", it).split()) if trait == "Model" and named in hidden else it
 
 
 def items_of_source(name, code, imported, traits, is_below):
@@ -207,12 +219,11 @@ def definitions_of(path, text):
 
 
 def names_of_definition(path, word, lines):
-    """The names of a definition: its own and those of variants, each with its module's. (One may have hyphens.)"""
+    """The names of a definition: its own and those of variants, each beside its module. (One may have hyphens.)"""
     names = [word]
     if any(it.startswith("pub data ") for it in lines):
         names += [found[1] for it in lines[1:] if (found := re.match(r"([\w'-]+) :", it))]
-    module = words_of(path.removesuffix(".antt")) - {"Lib"}
-    return tuple(words_of(it) | module for it in dict.fromkeys(names))
+    return tuple(frozenset(WORD.findall(it)) | {f".{module_of(path)}"} for it in dict.fromkeys(names))
 
 
 def imports_of(text):

@@ -55,8 +55,9 @@ def items_below(crate, known):
     """The items of a crate and of those below, as a check comes to them."""
     all_stated = [(it, stated(known[it].folder)) for it in sorted([crate.name, *crate.below])]
     traits = frozenset().union(*(it.traits for _, it in all_stated))
-    # (to come to an item of a crate is to come to the crate first)
-    named = lambda name, it: Item(repr((name, it.text)), it.words, tuple(words | {name} for words in it.names))
+    # (to come to an item of a crate is to come to the crate first, and to a definition, to its module)
+    whole = lambda name, words: frozenset({name + it if it.startswith(".") else it for it in words} | {name})
+    named = lambda name, it: Item(repr((name, it.text)), it.words, tuple(whole(name, words) for words in it.names))
     return Reached([named(name, it) for name, found in all_stated for it in found.items_for(traits, name != crate.name)])
 
 

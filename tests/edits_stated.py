@@ -16,7 +16,7 @@ import re
 from collections import defaultdict
 from functools import lru_cache
 
-from edits_items import definitions_of, items_handed_on, items_of_source, traits_of, type_and_trait
+from edits_items import definitions_of, items_handed_on, items_of_source, traits_of, type_and_trait, words_of
 from source_text import functions_of, without_comments
 
 # The files of a function's own proof.
@@ -54,10 +54,6 @@ def without_its_comments(path):
     elif path.endswith(".antt"):
         text = COMMENT_OF_ANTT.sub("", text)
     return " ".join(text.split())
-
-
-def words_of(text):
-    return frozenset(WORD.findall(text))
 
 
 def leaves(tree):

@@ -171,7 +171,7 @@ NAMES_A_COMMENT = ("names_a_comment", "    n + n", "    n + n + 1\nold: // Where
 # The edits of the lock's test: of a function, of one that calls it, and one that changes a comment outside of functions, too.
 LOCKED = [EDITS[1], EDITS[9], NAMES_A_COMMENT]
 
-# A definition whose name stands in the functions of the edits. The name of its module does, too, or doesn't.
+# A definition whose name stands in the functions of the edits.
 NAMED = "abbrev pub n : ℕ\nn = 1\n"
 
 # What is changed (file, old text, new text), and how many of the three are tried again for it.
@@ -200,9 +200,10 @@ CHANGES = [
     ("an import of a sign that nothing has", "sample/src/lib.rt", "◌+◌, ◌*◌}", "◌+◌, ◌*◌, ◌<◌}", 1),
     ("a definition of a crate below that nothing names", "low/specs/Other.antt", "", NAMED, 0),
     ("a definition that nothing names", "sample/specs/Other.antt", "", NAMED, 0),
-    ("a definition", "sample/specs/twice.antt", "", NAMED, 3),
+    ("a definition of a module that nothing names", "sample/specs/twice.antt", "", NAMED, 0),
     ("a lemma that nothing names", "sample/proofs/Other.antt", "", "pub n : ℕ\n", 1),
-    ("a lemma that a function's proof names", "sample/proofs/third.antt", "", "pub twice : ℕ\n", 2),
+    ("a definition that a function's proof names", "sample/proofs/six_times.antt", "", "abbrev pub third : ℕ\nthird = 1\n", 2),
+    ("a lemma that a function's proof names", "sample/proofs/six_times.antt", "", "pub third : ℕ\n", 2),
 ]
 TURN = "edits: sample: 1 edits are tried: it is their turn"
 
@@ -318,9 +319,10 @@ def check_definitions(hold):
     hold("an equation", found["two"].text[2] == "\nabbrev pub two : ℕ → ℕ\ntwo n = n + two_more")
     hold("what a definition imports", found["two"].text[3] == ("Rattle.std.specs.Prelude.ℕ",) and found["Pair"].text[3] == ("Rattle.std.specs.Prelude.◌≡◌",))
     hold("an import under another name", found["many"].text[3] == ("Rattle.std.specs.Prelude.List as Many",))
-    hold("a definition's names", found["two"].names == (frozenset({"two", "specs", "Pairs"}),))
-    hold("the names of variants", [set(it) - {"specs", "Pairs"} for it in found["Side"].names] == [{"Side"}, {"left"}, {"right"}])
+    hold("a definition's names", found["two"].names == (frozenset({"two", ".specs.Pairs"}),))
+    hold("the names of variants", [set(it) - {".specs.Pairs"} for it in found["Side"].names] == [{"Side"}, {"left"}, {"right"}])
     hold("what a module takes", found["many"].text[2].startswith("module _ {X : Type 0} where\nabbrev pub many"))
+    hold("the modules of a path", {"krb_a.specs", "krb_a.specs.B"} < edits_items.words_of("use Rattle.krb_a.specs.B.{c}"))
     hold("a lemma's proof is left out", named("proofs/Pairs.antt")["late"].text[2] == "\nlate : ℕ")
     hold("an equation isn't", "two_more" in named("proofs/Pairs.antt")["two"].text[2])
 
@@ -333,7 +335,7 @@ def check_items(hold):
     hold("all items", len(every) == 10 and "#![tactic(auto)]" in every)
     hold("a public constant", [it for it in shown if "MOST" in it or "LEAST" in it] == ["pub const MOST: usize = 4;"])
     hold("a private field isn't shown", "#[derive(Drop)] pub struct Shown {pub at: usize}" in shown)
-    hold("nor what the type's value is made of", [it for it in shown if " Model " in it] == ["impl Model for Shown { ghost Value = { Pair };   }"])
+    hold("nor what the type's value is made of", [it for it in shown if " Model " in it] == ["impl Model for Shown { ghost Value = { Pair }; }"])
     hold("nor a private type", not any("Hidden" in it for it in shown) and any("Hidden" in it for it in every))
     names = {text: it.names for text, it in every.items()}
     hold("a type's name", names["#[derive(Drop)] pub struct Shown { pub at: usize, rest: Vec<(u8, u8)>, }"] == (frozenset({"Shown"}),))

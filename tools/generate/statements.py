@@ -22,7 +22,8 @@ SAID = {
         "there (`goes_on`), so that its answers are a run. `one_answer` says that the rules decide each call, and that "
         "no two answers are right, but for which fault of the bytes `Malformed` names. No two accepted calls of a run "
         "have the same service, client and time: `no_stamp_twice` says so of each run, `serve` in one clause (`once`), "
-        "and `no_stamp_twice_in_a_life` of a keytab that is replaced on the way. Across a restart, `both_agree` says it (`once`), below.",
+        "and `no_stamp_twice_in_a_life` of a keytab that is replaced on the way. Across a restart, `both_agree` says "
+        "it (`once`), below.",
     "A good request gets in":
         "A request that `make_request` builds is accepted, if the key of the keytab opens its ticket, and nothing "
         "else stands against it: the clocks, the ticket's times, a repeat, or a start.",
