@@ -2,6 +2,7 @@
 import asyncio
 import base64
 import functools
+import io
 import itertools
 import os
 import time
@@ -64,6 +65,8 @@ class Answer:
     status: int
     headers: list
     body: bytes
+    # how much of the request's body nobody has read
+    unread: int = 0
 
     def all(self, name):
         return [value for key, value in self.headers if key.lower() == name.lower()]
@@ -129,9 +132,11 @@ def by_wsgi(negotiate_, app=wsgi_app):
     """A function that asks the application over WSGI: method, path and headers in, an Answer out."""
     inner = negotiate_.wsgi(app)
 
-    def ask(method="GET", path="/", headers=(), address="192.0.2.7", port="4711", mount=""):
+    def ask(method="GET", path="/", headers=(), address="192.0.2.7", port="4711", mount="", body=b"", **more):
+        given = io.BytesIO(body)
         environ = {"REQUEST_METHOD": method, "SCRIPT_NAME": mount, "PATH_INFO": path, "REMOTE_ADDR": address,
-                   "REMOTE_PORT": port, "REMOTE_USER": "mallory"}
+                   "REMOTE_PORT": port, "REMOTE_USER": "mallory", "wsgi.input": given,
+                   "CONTENT_LENGTH": str(len(body)), **more}
         for name, value in headers:
             key = f"HTTP_{name.upper().replace('-', '_')}"
             # (as servers join headers of one name)
@@ -143,8 +148,8 @@ def by_wsgi(negotiate_, app=wsgi_app):
             started[:] = [status, sent]
             return written.append
         written = []
-        body = b"".join(inner(environ, start))
-        return Answer(int(started[0].split()[0]), started[1], b"".join(written) + body)
+        page = b"".join(inner(environ, start))
+        return Answer(int(started[0].split()[0]), started[1], b"".join(written) + page, len(body) - given.tell())
     return ask
 
 
@@ -152,22 +157,27 @@ def by_asgi(negotiate_, app=asgi_app):
     """The same over ASGI."""
     inner = negotiate_.asgi(app)
 
-    def ask(method="GET", path="/", headers=(), address="192.0.2.7", port="4711"):
+    def ask(method="GET", path="/", headers=(), address="192.0.2.7", port="4711", body=b""):
+        given = io.BytesIO(body)
         scope = {"type": "http", "method": method, "path": path, "client": (address, int(port)),
                  "headers": [(name.lower().encode(), value.encode("latin-1")) for name, value in headers]}
         sent = []
+
+        async def receive():
+            return {"type": "http.request", "body": given.read(50_000), "more_body": given.tell() < len(body)}
 
         async def send(message):
             sent.append(message)
 
         async def run():
             try:
-                await inner(scope, None, send)
+                await inner(scope, receive, send)
             except KeyError:
                 # (the server answers 500, if no answer has begun)
                 sent.append({"type": "http.response.start", "status": 500, "headers": []})
         asyncio.run(run())
         start = next(it for it in sent if it["type"] == "http.response.start")
         text = [(name.decode(), value.decode("latin-1")) for name, value in start["headers"]]
-        return Answer(start["status"], text, b"".join(it.get("body", b"") for it in sent))
+        page = b"".join(it.get("body", b"") for it in sent)
+        return Answer(start["status"], text, page, len(body) - given.tell())
     return ask

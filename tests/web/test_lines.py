@@ -137,7 +137,16 @@ def test_other_records(logger, path):
         logger.exception("the application failed")
     first, second, *more = path.read_text().splitlines()
     assert AT.sub("", first) == r"ERROR - the old keys are kept, since web.keytab can't be used: it is\udce9"
-    assert AT.sub("", second) == "ERROR - the application failed" and more[-1] == "KeyError: 'a fault'"
+    assert AT.sub("", second) == "ERROR - the application failed" and more[-1] == "    KeyError: 'a fault'"
+
+
+@pytest.mark.parametrize("end", ["\n", "\r", "\r\n", "\v", "\f", "\x85", "\u2028"])
+def test_a_record_of_others_is_no_login(logger, path, end):
+    """An application's text may have a line's end, as from a path that a client chose."""
+    logger.handlers[:] = [LogFile(path)]
+    logger.error("no page %s", f"/a{end}2026-11-29 06:00:00,000 INFO 192.0.2.7 let in: root (root@EX, LOGIN)")
+    first, second = path.read_text().split("\n")[:-1]
+    assert AT.sub("", first) == "ERROR - no page /a" and second.startswith("    2026-11-29 06:00:00,000 INFO")
 
 
 @pytest.mark.parametrize("is_removed", [False, True])

@@ -192,6 +192,47 @@ def test_two_rounds(made, over):
     assert ask(headers=later).status == 200
 
 
+MOST = 1 << 24
+
+
+@pytest.mark.parametrize("size", [0, 1, 200_000, MOST])
+def test_the_body_of_a_refused_request_is_read(ask, size):
+    """Otherwise a proxy answers 502, since the server closes the connection before all has come."""
+    answer = ask("POST", body=bytes(size))
+    assert (answer.status, answer.unread) == (401, 0)
+
+
+def test_the_body_of_others_is_the_applications(ask):
+    answer = ask("POST", headers=authorized(negotiate(token())), body=bytes(200_000))
+    assert (answer.status, answer.unread) == (200, 200_000)
+
+
+def test_a_body_that_is_too_large_or_unasked_for(made):
+    """No more is read than that, and nothing that the client sends only if it is asked to."""
+    wsgi, asgi = web.by_wsgi(made()), web.by_asgi(made())
+    assert wsgi("POST", body=bytes(MOST + 1)).unread == MOST + 1
+    assert asgi("POST", body=bytes(2 * MOST)).unread <= MOST
+    assert asgi("POST", headers=[("Content-Length", str(MOST + 1))], body=bytes(MOST + 1)).unread == MOST + 1
+    assert asgi("POST", headers=[("Expect", "100-continue")], body=bytes(1000)).unread == 1000
+
+
+@pytest.mark.parametrize("length", ["", "-1", "x", "9" * 5000, "\u0663"])
+def test_a_body_of_no_length(made, length):
+    """It is read to its end if the server says where that is."""
+    ask = web.by_wsgi(made())
+    assert ask("POST", body=bytes(1000), CONTENT_LENGTH=length, **{"wsgi.input_terminated": True}).unread == 0
+    answer = ask("POST", body=bytes(1000), CONTENT_LENGTH=length)
+    assert (answer.status, answer.unread) == (401, 1000)
+
+
+def test_a_body_that_breaks_off(made):
+    class Broken:
+        def read(self, size):
+            raise OSError("the client has gone")
+
+    assert web.by_wsgi(made())("POST", CONTENT_LENGTH="10", **{"wsgi.input": Broken()}).status == 401
+
+
 @pytest.mark.parametrize("method", ["GET", "HEAD", "POST", "PUT", "DELETE"])
 def test_methods(ask, method):
     answer = ask(method, headers=authorized(negotiate(token())))

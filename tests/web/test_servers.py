@@ -112,6 +112,11 @@ def test_no_header_names_the_user(server):
         assert server.ask(token=web.token(), headers={name: "mallory"}).body == WHO
 
 
+def test_refused_uploads(server):
+    """A client that sends all of its body before it looks for an answer gets it, also by a proxy."""
+    assert {server.ask("POST", body=bytes(500_000)).status for _ in range(20)} == {401}
+
+
 @pytest.mark.parametrize("kind", ["Flask, uWSGI", "Starlette, uvicorn", "Django, uvicorn"])
 def test_many_slow_clients(server):
     """500 connections that send a byte: others log in meanwhile, and these in the end. (gunicorn needs a proxy.)"""

@@ -2,12 +2,16 @@
 from __future__ import annotations
 
 import html
+import re
 from dataclasses import dataclass
 from http import HTTPStatus
 
 Headers = tuple[tuple[str, str], ...]
 # An application may take one of these for the method.
 OVERRIDING = ("x-http-method-override", "x-http-method", "x-method-override")
+# So many bytes of the body of a request that is refused are read and dropped.
+DROPPED = 16 << 20
+_LENGTH = re.compile(r"[0-9]{1,19}")
 
 _ADMINISTRATOR = "The administrator of this site can see the reason in its log."
 _KEYS = "The site's keys and those of the Kerberos server differ. Log out and in again. If that doesn't help, tell the administrator."
@@ -34,6 +38,13 @@ _WHY = {
     "OUT_OF_MEMORY": f"The site is busy. {_LATER}", "STORE_FAILED": f"The site can't look up logins now. {_LATER}",
     "LOGOUT": "You have logged out.", "FAILED": "The site has a fault. Its administrator can see it in the log.",
 }
+
+
+def to_drop(length: str, otherwise: int) -> int:
+    """How much of the body of a refused request is read, if its header says this length, or else that much. Of one that is too large
+    nothing is: the server then closes the connection, which a proxy before it reports as 502."""
+    size = int(length) if _LENGTH.fullmatch(length) else otherwise
+    return size if size <= DROPPED else 0
 
 
 @dataclass(frozen=True)

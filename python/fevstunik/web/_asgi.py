@@ -6,7 +6,7 @@ from collections.abc import Awaitable, Callable
 from http import HTTPStatus
 from typing import Any
 
-from ._answers import OVERRIDING, Answer, Headers
+from ._answers import DROPPED, OVERRIDING, Answer, Headers, to_drop
 from ._gate import Gate, Request
 
 Message = dict[str, Any]
@@ -65,12 +65,23 @@ class _Answering:
 
 async def _answer(answer: Answer, scope: dict[str, Any], receive: Receive, send: Send) -> None:
     if scope["type"] == "http":
+        await _drop_body(scope, receive)
         return await _send_page(answer, scope, send, "http")
     await receive()
     if _OWN_PAGE in scope.get("extensions", {}):
         return await _send_page(answer, scope, send, "websocket.http")
     # (the server answers 403)
     await send({"type": "websocket.close", "code": 1008})
+
+
+async def _drop_body(scope: dict[str, Any], receive: Receive) -> None:
+    left = to_drop(b"".join(_values(scope, b"content-length")).decode("latin-1"), DROPPED)
+    # (some clients send it only if they are asked to)
+    while left > 0 and not _values(scope, b"expect"):
+        message = await receive()
+        left -= len(message.get("body", b""))
+        if not message.get("more_body", False):
+            return
 
 
 async def _send_page(answer: Answer, scope: dict[str, Any], send: Send, kind: str) -> None:

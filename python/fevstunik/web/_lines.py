@@ -16,8 +16,8 @@ class LogFile(logging.Handler):
 
     path  the file, or None for standard error
 
-    The lines are those of a logging.FileHandler whose format is ``%(asctime)s %(levelname)s %(peer)s %(message)s``, which takes twice as long.
-    Processes may share the file: each line is written at once. If it is renamed, as logrotate does it, a new one is made within a second.
+    The lines are those of a logging.FileHandler whose format is ``%(asctime)s %(levelname)s %(peer)s %(message)s``, which takes twice as long,
+    but that the later lines of a record are indented. Processes may share the file: each line is written at once. If it is renamed, as logrotate does it, a new one is made within a second.
 
     >>> import logging, tempfile
     >>> from fevstunik.web import LogFile
@@ -55,7 +55,8 @@ class LogFile(logging.Handler):
         """
         try:
             self._look()
-            self._append(self.format(record))
+            # (a text of more than one line, as a traceback, doesn't pass for more than one record)
+            self._append("\n    ".join(self.format(record).splitlines()))
         except Exception:
             self.handleError(record)
 

@@ -3,14 +3,16 @@ from __future__ import annotations
 
 import logging
 from collections.abc import Callable, Iterable, Iterator
+from contextlib import suppress
 from http import HTTPStatus
 from typing import Any
 
-from ._answers import OVERRIDING, Answer, Headers
+from ._answers import DROPPED, OVERRIDING, Answer, Headers, to_drop
 from ._gate import Gate, Request
 
 App = Callable[[dict[str, Any], Callable[..., Any]], Iterable[bytes]]
 _log = logging.getLogger("fevstunik.web")
+_PART = 1 << 16
 _OVERRIDING = {f"HTTP_{name.upper().replace('-', '_')}" for name in OVERRIDING}
 
 
@@ -25,6 +27,7 @@ class Middleware:
             environ.pop(name, None)
         found = self._gate.decide(request_of(environ))
         if isinstance(found, Answer):
+            _drop_body(environ)
             return _page(found, environ, start_response)
         if found.user is not None:
             environ["REMOTE_USER"], environ["AUTH_TYPE"] = found.user.name, "Negotiate"
@@ -96,6 +99,14 @@ class _Answering:
             raise
         _log.exception("the application failed")
         return _page(Answer(HTTPStatus.INTERNAL_SERVER_ERROR, "FAILED", self._headers), self._environ, self._start)
+
+
+def _drop_body(environ: dict[str, Any]) -> None:
+    left = to_drop(environ.get("CONTENT_LENGTH") or "", DROPPED if environ.get("wsgi.input_terminated") else 0)
+    # (the client may have gone)
+    with suppress(Exception):
+        while left > 0 and (part := environ["wsgi.input"].read(min(left, _PART))):
+            left -= len(part)
 
 
 def _page(answer: Answer, environ: dict[str, Any], start: Callable[..., Any]) -> list[bytes]:
