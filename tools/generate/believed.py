@@ -28,7 +28,7 @@ PROMISES = [
     ("A login in one call", LOGIN),
 ]
 WORD = re.compile(r"[^\W\d]\w*'*(?:◌\w+◌)?|◌[^\s◌]+◌")
-USE = re.compile(r"^(?:ghost |pub )*use Rattle\.([\w.]+)\.\{(.*?)\}", re.M | re.S)
+USE = re.compile(r"^[ \t]*(?:ghost |pub )*use Rattle\.([\w.]+)\.\{(.*?)\}", re.M | re.S)
 START = re.compile(r"\s*(?:(?:abbrev|unfoldable|pub|record|data) )*([^\W\d]\w*'*|◌\S+◌)(?= :| \(| \{)")
 DATA = re.compile(r"\s*(?:\w+ )*data ")
 NESTING = re.compile(r"\s*(?:module _ .*where|(?:abbrev )?mutual)$")

@@ -25,8 +25,10 @@ SAID = {
         "and `no_stamp_twice_in_a_life` of a keytab that is replaced on the way. Across a restart, `both_agree` says "
         "it (`once`), below.",
     "A good request gets in":
-        "A request that `make_request` builds is accepted, if the key of the keytab opens its ticket, and nothing "
-        "else stands against it: the clocks, the ticket's times, a repeat, or a start.",
+        "A request that `make_request` builds is accepted, if the key of the keytab opens its ticket to the client and "
+        "the session key of the credential, and nothing else stands against it: the clocks, the ticket's times and "
+        "flags, its realms and authorization data, a repeat, or a start. [Each "
+        "condition](PROOFS.md#the-promises-as-a-whole).",
     "Both sides agree":
         "In a world in which the network loses, repeats and reorders what was sent, but forges no reply, a client "
         "that takes a reply knows the same client, keys and numbers as the service.",
@@ -47,13 +49,21 @@ trust](PROOFS.md#what-is-trusted).
 How to read a contract: `ensures NAME { .. }` is a clause that holds whenever the function returns.
 `result` is what it returns; `x.old` and `x.new` are a value before and after the call, `x.now` one
 that stays the same. `→` is "if .. then" or "for all", `×` is "and" or "there is", `⊎` is "or", `≡`
-is equality, `≢` inequality, `¬` is "not", `↔` "exactly if", `⊥` is what never holds, and `x ∷ xs` is
-a list with `x` in front. `IfOk result (λ x. ..)` says something of what is returned if the call
+is equality, `≢` inequality, `¬` is "not", `↔` "exactly if", `⊥` is what never holds, and `x ∷ xs`
+is a list with `x` in front. `IfOk result (λ x. ..)` says something of what is returned if the call
 succeeds, `IfErr` of its error, `MatchResult` of either, and `IsErrOf result e` that the call fails
-with `e`; `IfSome` holds of a value that isn't there. `abbrev` and `unfoldable` only say how a
-definition is used in proofs. A word after a type, as `M.has`, is one that the type's trait declares
-(for a memory, `krb_replay/src/memory.rt`). A function without a result is a law: its clauses are
-theorems.
+with `e`; `OnOk` and `OnErr` say something that holds after a call that succeeds or fails. Such a
+word is true where there is nothing to say it of, as `IfSome` of no value. `IsTrue` is of a `bool`.
+`abbrev` and `unfoldable` only say how a definition is used in proofs. A word after a type, as
+`M.has`, is one that the type's trait declares (for a memory, `krb_replay/src/memory.rt`). A
+function without a result is a law: its clauses are theorems.
+
+A contract sees a value of a type with private fields as its `impl Model` says, by `ghost view`: an
+`Acceptor` as what it was set up with and its memory, a `Key` as a type and bytes. So
+`self.now.bytes` isn't a field. A view decides what a clause says of a value, and is to be read
+beside the type, with what it uses of `specs/Inner`. What calls say of the values that they make and
+show holds it fast: for a key `Key::new` (`made`) and `bytes`, for a keytab `Keytab::parse`, for a
+cache `CCache::parse`.
 
 To check a promise, read its contracts, then the files below it, as far as they are used. Not listed
 are types that the sources declare (`Accepted`, `Refusal`) and words of the toolchain: of its
