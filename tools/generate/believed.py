@@ -17,14 +17,20 @@ ACCEPT, MAKE, FINISH = "krb_ap/acceptor::accept", "krb_ap/request::make_request"
 # (a new service stands for the empty history)
 NEW = ["krb_ap/acceptor::new", "krb_ap/acceptor::started"]
 ONCE = ["krb_ap/laws::no_stamp_twice", "krb_ap/acceptor::serve", "krb_ap/laws::no_stamp_twice_in_a_life"]
+# (these make the world's events of calls)
+REPLIES = ["krb_ap/reply::reply", "krb_ap/errors::error_reply"]
+SETTLES = [
+    "krb_ap/accepted::tuple", "krb_replay/tuple::to_bytes", "krb_login/question::settle",
+    "krb_login/laws::let_in_by_a_store",
+]
 LOGIN = ["krb_login/service::answer", "krb_login/laws::only_by_right", "krb_login/laws::answers_that"]
 # The promises, and the functions whose contracts state them: laws, and calls of the library.
 PROMISES = [
     ("Each layer meets its definition: sealing", SEALING),
     ("Acceptance is sound", [ACCEPT, *NEW, "krb_ap/laws::one_answer", *ONCE]),
     ("A good request gets in", [ACCEPT, MAKE, "krb_ap/laws::built_is_accepted"]),
-    ("Both sides agree", [ACCEPT, FINISH, "krb_ap/laws::both_agree"]),
-    ("A shared store lets in once", [ACCEPT, "krb_ap/laws::a_store_lets_in_once"]),
+    ("Both sides agree", [ACCEPT, FINISH, "krb_ap/laws::both_agree", MAKE, *NEW, *REPLIES]),
+    ("A shared store lets in once", [ACCEPT, "krb_ap/laws::a_store_lets_in_once", *SETTLES]),
     ("A login in one call", LOGIN),
 ]
 WORD = re.compile(r"[^\W\d]\w*'*(?:◌\w+◌)?|◌[^\s◌]+◌")

@@ -31,7 +31,10 @@ SAID = {
         "condition](PROOFS.md#the-promises-as-a-whole).",
     "Both sides agree":
         "In a world in which the network loses, repeats and reorders what was sent, but forges no reply, a client "
-        "that takes a reply knows the same client, keys and numbers as the service.",
+        "that takes a reply knows the same client, keys and numbers as the service. The world's events are calls: "
+        "`sends` is `make_request`, `accepts` and `refuses` are `accept`, `replies` is `reply`, `errs` is "
+        "`error_reply`, "
+        "`ends` is `finish`, and `restarts` is `started`; the world begins with `new` or `started`.",
     "A shared store lets in once":
         "Services that ask one store of stamps let nobody in twice by one request, on the rules for stores.",
     "A login in one call":
@@ -43,8 +46,8 @@ HEAD = """# The promises in full
 This page is for those who want to judge what is proved. It has the contracts that state each
 promise as a whole, word for word from the sources, and the files that define their words. All of it
 is made from the sources by `make generate`. [PROOFS.md](PROOFS.md#the-promises-as-a-whole) says the
-same in plain English, with every condition, and [what you have to
-trust](PROOFS.md#what-is-trusted).
+same in plain English, for a store and the one call in the parts on `krb_ap` and `krb_login`, and
+[what you have to trust](PROOFS.md#what-is-trusted).
 
 How to read a contract: `ensures NAME { .. }` is a clause that holds whenever the function returns.
 `result` is what it returns; `x.old` and `x.new` are a value before and after the call, `x.now` one
