@@ -28,6 +28,11 @@ def repository(built, once):
     return once("repository", committed)
 
 
+def copied_again(repository, room):
+    """(Another process may ask git meanwhile, which then has a lock there.)"""
+    shutil.copytree(repository, room, symlinks=True, ignore=shutil.ignore_patterns("index.lock"))
+
+
 def made(room, target="dist", name=NAME, **environment):
     """Runs make in a copy, and returns the bytes of the tarball."""
     known = {it: value for it, value in WITHOUT_RATTLE.items() if it != "SOURCE_DATE_EPOCH"}
@@ -57,7 +62,7 @@ def tarball(repository, once):
 
 def test_the_same_bytes_again_in_another_folder_by_another_user_mask(repository, tarball, tmp_path):
     other = tmp_path / "other"
-    shutil.copytree(repository, other, symlinks=True)
+    copied_again(repository, other)
     shutil.rmtree(other / "build" / NAME, ignore_errors=True)
     script = 'umask 077; cd "$1"; touch examples/*; exec make dist'
     well("sh", "-c", script, "sh", other, env={"PATH": "/usr/bin:/bin", "TZ": "Pacific/Apia", "LC_ALL": "C.UTF-8"})
@@ -73,7 +78,7 @@ def test_times_owners_and_order(tarball, tmp_path):
 
 def test_source_date_epoch_is_taken(repository, tmp_path):
     copy = tmp_path / "copy"
-    shutil.copytree(repository, copy, symlinks=True)
+    copied_again(repository, copy)
     assert {it.mtime for it in members(made(copy, SOURCE_DATE_EPOCH=str(MOMENT)), tmp_path)} == {MOMENT}
 
 
@@ -90,7 +95,7 @@ def test_what_it_has(repository, tarball):
 
 def test_changes_that_are_not_committed_are_named(repository, tmp_path):
     copy = tmp_path / "copy"
-    shutil.copytree(repository, copy, symlinks=True)
+    copied_again(repository, copy)
     (copy / "examples/serve.py").write_text("changed\n")
     made(copy)
     assert (copy / f"build/{NAME}/COMMIT").read_text().splitlines()[1:] == ["with changes that are not committed"]
