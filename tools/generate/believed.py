@@ -12,7 +12,10 @@ from functools import lru_cache
 from . import ROOT, layout
 
 DOCUMENT = "docs/PROOFS.md"
-SEALING = ["krb_enc/key::seal", "krb_enc/key::open", "krb_enc/laws::sealed_text_opens"]
+SEALING = [
+    "krb_enc/key::new", "krb_enc/key::bytes", "krb_enc/key::seal", "krb_enc/key::open",
+    "krb_enc/laws::sealed_text_opens",
+]
 ACCEPT, MAKE, FINISH = "krb_ap/acceptor::accept", "krb_ap/request::make_request", "krb_ap/finish::finish"
 # (a new service stands for the empty history)
 NEW = ["krb_ap/acceptor::new", "krb_ap/acceptor::started"]

@@ -13,8 +13,8 @@ DOCUMENT = "docs/STATEMENTS.md"
 # What each promise says, in a sentence. (docs/PROOFS.md says it at length.)
 SAID = {
     "Each layer meets its definition: sealing":
-        "What `seal` returns is the sealed text of RFC 8009, and `open` returns a plain text exactly if sealing it, "
-        "with some confounder, gives the bytes that it was given.",
+        "What `seal` returns is the sealed text of RFC 8009. Unless memory runs out, `open` returns a plain text "
+        "exactly if sealing it, with some confounder, gives the bytes that it was given.",
     "Acceptance is sound":
         "After any calls, a service accepts a request exactly if it meets every rule; otherwise it reports the first "
         "cause in the table of ACCEPTANCE.md that applies, or that memory ran out. That is about all calls of an "
