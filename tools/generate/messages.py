@@ -13,7 +13,7 @@ from . import ROOT, layout
 PLACE = "crates/krb_msg"
 CRATE = ROOT / PLACE
 
-MADE = "Made from messages.toml by packaging/messages.py. Don't edit this file."
+MADE = "Made from messages.toml by tools/generate/messages.py. Don't edit this file."
 # The checker finds by itself that a row of so many fields is read and written right.
 LONGEST_FOUND = 5
 # The calls by which fields are written, or taken from what was read. `Vec::as_slice` has two clauses.

@@ -1,4 +1,4 @@
--- Made from messages.toml by packaging/messages.py. Don't edit this file.
+-- Made from messages.toml by tools/generate/messages.py. Don't edit this file.
 -- The places in messages that are read: those of their fields, in the order of their numbers.
 use Rattle.std.specs.Option.{option_map}
 use Rattle.krb_der.specs.Parts.{PlacesOf}

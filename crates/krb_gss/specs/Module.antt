@@ -1,4 +1,4 @@
--- Made from messages.toml by packaging/messages.py. Don't edit this file.
+-- Made from messages.toml by tools/generate/messages.py. Don't edit this file.
 -- The messages of tokens as parts that are found in place (RFC 2743, section 3.1; RFC 4178, section 4): each field with its
 -- number, and whether it may be absent; and the places of the fields by their names.
 use Rattle.std.specs.Prelude.{ℕ, Option}

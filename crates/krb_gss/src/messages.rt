@@ -1,4 +1,4 @@
-// Made from messages.toml by packaging/messages.py. Don't edit this file.
+// Made from messages.toml by tools/generate/messages.py. Don't edit this file.
 //! The messages of tokens: where their fields stand.
 
 ghost use Rattle.krb_gss.specs.Module.{initial_context_token, mech_type_list, neg_token_init, first_response, later_response, bare_response};

@@ -1,4 +1,4 @@
--- Made from messages.toml by packaging/messages.py. Don't edit this file.
+-- Made from messages.toml by tools/generate/messages.py. Don't edit this file.
 -- The values of messages that are read in place: their fields in the order of their numbers, with
 -- a tt for each constant.
 use Rattle.std.specs.Option.{option_map}

@@ -1,4 +1,4 @@
--- Made from messages.toml by packaging/messages.py. Don't edit this file.
+-- Made from messages.toml by tools/generate/messages.py. Don't edit this file.
 -- The values of messages by the names of their fields (RFC 4120, sections 5.2 to 5.9): a record of the
 -- fields that vary, with a principal for a realm and a name; what it is for a value; and the value that it
 -- makes, which nests the fields in pairs, in the order of their numbers, with a tt for each constant.

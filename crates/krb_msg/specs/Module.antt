@@ -1,4 +1,4 @@
--- Made from messages.toml by packaging/messages.py. Don't edit this file.
+-- Made from messages.toml by tools/generate/messages.py. Don't edit this file.
 -- The messages of Kerberos 5 as kinds of elements (RFC 4120, sections 5.2 to 5.9 and appendix A):
 -- each field with its number, and whether it may be absent.
 use Rattle.krb_der.specs.Kind.{Kind, sequence, application, constant, leaf, must, may, ends, field, int32, uint32, seq_number, microseconds, octets, string, flags, time}

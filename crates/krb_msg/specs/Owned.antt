@@ -1,4 +1,4 @@
--- Made from messages.toml by packaging/messages.py. Don't edit this file.
+-- Made from messages.toml by tools/generate/messages.py. Don't edit this file.
 -- The values of owned messages, by their fields.
 use Rattle.std.specs.Option.{option_map}
 use Rattle.krb_der.specs.Kind.{ValueOf}

@@ -1,4 +1,4 @@
-// Made from messages.toml by packaging/messages.py. Don't edit this file.
+// Made from messages.toml by tools/generate/messages.py. Don't edit this file.
 //! Error messages.
 
 ghost use Rattle.std.specs.Prelude.{refl, ◌≡◌, IfOk};

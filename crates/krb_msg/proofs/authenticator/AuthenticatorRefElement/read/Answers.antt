@@ -1,4 +1,4 @@
--- Made from messages.toml by packaging/messages.py. Don't edit this file.
+-- Made from messages.toml by tools/generate/messages.py. Don't edit this file.
 use Rattle.std.proofs.Common.{rules}
 use Rattle.krb_msg.proofs.authenticator.AuthenticatorRefElement.read.Goals as goal
 

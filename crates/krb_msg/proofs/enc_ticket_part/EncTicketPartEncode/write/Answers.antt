@@ -1,4 +1,4 @@
--- Made from messages.toml by packaging/messages.py. Don't edit this file.
+-- Made from messages.toml by tools/generate/messages.py. Don't edit this file.
 use Rattle.std.proofs.lemmas.Iterator.Adapters.{option_map_id}
 use Rattle.krb_msg.proofs.enc_ticket_part.EncTicketPartEncode.write.Goals as goal
 
