@@ -1,7 +1,6 @@
 //! Flags, in hexadecimal and by their names.
 
 ghost use Rattle.std.specs.Prelude.{◌≡◌, ◌++◌, IfOk, OnOk, string_bytes, map};
-ghost use Rattle.krb_readable.specs.Flags.{has_bit};
 ghost use Rattle.krb_explain.specs.Inner.Tables.{bit_of};
 ghost use Rattle.krb_explain.specs.Registry.{names_of, flags_text, flag_names, option_names};
 
@@ -53,16 +52,10 @@ fn flags_text(alloc: Global, table: &[Bit], flags: Flags) -> Result<String, Allo
 {
     let mut text = hex::encode(alloc, flags.bits().to_be_bytes())?;
     for bit in table {
-        if has_bit(flags.bits(), bit.0) {
+        if flags.has(bit.0) {
             text.push(' ')?;
             text.push_str(bit.1)?;
         }
     }
     Ok(text)
-}
-
-fn has_bit(flags: u32, bit: u32) -> bool
-    ensures { result ≡ has_bit flags bit }
-{
-    (flags >> 31u32.saturating_sub(bit)) % 2 == 1
 }

@@ -1,7 +1,8 @@
--- The letters of a ticket's flags: those of MIT krb5's klist, in its order. Flags have 32 bits; bit 0
--- is the most significant (RFC 4120, sections 2 and 5.3; of bit 16 RFC 8062, section 3).
-use Rattle.std.specs.Prelude.{ℕ, ◌-◌, ◌/◌, ◌%◌, ◌^◌, ◌==◌, Bool, List, [], ◌∷◌, codes, if◌then◌else◌}
+-- The letters of a ticket's flags: those of MIT krb5's klist, in its order (RFC 4120, sections 2 and
+-- 5.3; of bit 16 RFC 8062, section 3).
+use Rattle.std.specs.Prelude.{ℕ, List, [], ◌∷◌, codes, if◌then◌else◌}
 use Rattle.std.specs.List.{flat_map}
+use Rattle.krb_der.specs.Flags.{has_bit}
 
 -- forwardable, forwarded, proxiable, proxy, may-postdate, postdated, invalid, renewable, initial,
 -- hw-authent, pre-authent, transited-policy-checked, ok-as-delegate and anonymous
@@ -22,9 +23,6 @@ letters =
     ∷ (13, codes "O")
     ∷ (16, codes "a")
     ∷ []
-
-abbrev pub has_bit : ℕ → ℕ → Bool
-has_bit flags bit = flags / 2 ^ (31 - bit) % 2 == 1
 
 -- the letter of a bit that is set, or nothing
 abbrev pub letter_if_set : ℕ → ℕ × List ℕ → List ℕ

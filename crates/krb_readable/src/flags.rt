@@ -2,9 +2,10 @@
 
 ghost use Rattle.std.specs.Prelude.{◌≡◌, IfOk, string_bytes, map};
 ghost use Rattle.std.specs.List.{flat_map};
-ghost use Rattle.krb_readable.specs.Flags.{has_bit, letter_if_set, flags_text};
+ghost use Rattle.krb_readable.specs.Flags.{letter_if_set, flags_text};
 ghost use Rattle.krb_readable.specs.Inner.Tables.{letter_of};
 
+use krb_der::Flags;
 use std::alloc::{AllocError, Global};
 
 // A flag: its bit, where bit 0 is the most significant, and the letter that klist shows.
@@ -46,15 +47,9 @@ fn letters_in(alloc: Global, table: &[Flag], flags: u32) -> Result<String, Alloc
 {
     let mut text = String::new(alloc);
     for flag in table {
-        if has_bit(flags, flag.0) {
+        if Flags(flags).has(flag.0) {
             text.push_str(flag.1)?;
         }
     }
     Ok(text)
-}
-
-fn has_bit(flags: u32, bit: u32) -> bool
-    ensures { result ≡ has_bit flags bit }
-{
-    (flags >> 31u32.saturating_sub(bit)) % 2 == 1
 }
