@@ -1,5 +1,5 @@
 -- Heads that are written, and bytes whose end is moved.
-use Rattle.std.proofs.Common.{ltb, ◌≡◌, ℕ, false, ◌+◌, ◌-◌, ◌/◌, ◌%◌, ◌^◌, ◌<◌, ◌≤◌, List, [], ◌∷◌, ◌++◌, length, take, drop, refl, sym, ap, ◌∙◌, arith, length-take, length-drop, append_assoc}
+use Rattle.std.proofs.Common.{OnOk, Result, Ok, Err, ltb, ◌≡◌, ℕ, false, ◌+◌, ◌-◌, ◌/◌, ◌%◌, ◌^◌, ◌<◌, ◌≤◌, List, [], ◌∷◌, ◌++◌, length, take, drop, refl, sym, ap, ◌∙◌, arith, length-take, length-drop, append_assoc}
 use Rattle.std.proofs.lemmas.Bool.{cond_both, ltb-true, ltb-false, ne_eqb}
 use Rattle.std.proofs.lemmas.List.{take_at, drop_at, take_all, drop_all, take-append-le, drop-append-le, append-nil}
 use Rattle.krb_der.specs.Whole.{AreBytes, number}
@@ -54,6 +54,11 @@ pub appends_element : (tag : ℕ) (content head old mid new : List ℕ) → IsHe
     → Appends (IsElement tag (λ c. c ≡ content)) old new
 appends_element tag content head old mid new h m n =
     record { bytes = head ++ content; is = element-head tag content head h; whole = n ∙ ap (λ (l : List ℕ). l ++ content) m ∙ append_assoc old head content }
+
+-- what holds anyway holds of success
+pub on_ok : {T E : Type 0} (P : Type 0) (r : Result T E) → P → OnOk r P
+on_ok P (Ok _) p = p
+on_ok P (Err _) p = tt
 
 -- ---- the end moved
 pub turned_at-appended : (old head : List ℕ) (start end : ℕ) → start ≤ length old → end ≡ length old → turned_at start end (old ++ head) ≡ take start old ++ (head ++ drop start old)

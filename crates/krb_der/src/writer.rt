@@ -104,6 +104,9 @@ impl Writer {
         ensures ok { OnOk result (Appends (IsElement tag (λ c. c ≡ content.now)) self.old self.new) }
         ensures kept { OnErr result (self.new ≡ self.old) }
     {
+        if content.len() < 0x80 {
+            return self.short(tag, content);
+        }
         let head = head_of(tag, content.len() as u32);
         let start = self.bytes.len();
         self.bytes.extend_from_slice(&head.bytes[..head.len])?;
@@ -112,6 +115,18 @@ impl Writer {
             return Err(error);
         }
         Ok(())
+    }
+
+    // The element, whose content has less than 128 bytes. Most are so, and room is made once.
+    fn short(&mut self, tag: u8, content: &[u8]) -> Result<(), AllocError>
+        requires { length content.now < 128 }
+        ensures ok { OnOk result (Appends (IsElement tag (λ c. c ≡ content.now)) self.old self.new) }
+        ensures kept { OnErr result (self.new ≡ self.old) }
+    {
+        self.bytes.reserve(SHORT_HEAD + content.len())?;
+        self.bytes.push_reserved(tag);
+        self.bytes.push_reserved(content.len() as u8);
+        self.bytes.extend_from_slice(content)
     }
 
     /// Finishes a call that wrote from `start` on: removes what was refused or passes the limit of
