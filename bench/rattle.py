@@ -145,10 +145,11 @@ def requests() -> Iterator[Row]:
                           Side("{krb_exchange} accept {at}/keytab {now} {count} {at}/messages"),
                           Side("{service} rd_req {at}/keytab {at}/messages {count}"), "krb5_rd_req",
                           messages("requests", etype, extra, clients, each, count), count, counted)
-            yield Row("rattle", named("make_request", etype, extra),
-                      Side("{krb_exchange} make {at}/caches/0 {now} {count}"),
-                      Side("{client} theirs {at}/caches {count}"), "krb5_mk_req_extended",
-                      messages("requests", etype, extra, 1, 1, 1), 2_000, (500, 1_000))
+            for what, word in (("make_request of an Initiator", "keep"), ("make_request", "make")):
+                yield Row("rattle", named(what, etype, extra),
+                          Side("{krb_exchange} %s {at}/caches/0 {now} {count}" % word),
+                          Side("{client} theirs {at}/caches {count}"), "krb5_mk_req_extended",
+                          messages("requests", etype, extra, 1, 1, 1), 2_000, (500, 1_000))
 
 
 def memory() -> Iterator[Row]:
