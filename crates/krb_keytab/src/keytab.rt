@@ -95,8 +95,8 @@ impl Keytab {
     /// kept. After the last entry it allocates an index, as `parse` does.
     ///
     /// # Errors
-    /// - `Read`: a read of the source failed. The source's count of failures grew, as it does for
-    ///   no other answer.
+    /// - `Read`: a read of the source failed. The source counted a failure, as it does for no other
+    ///   answer.
     /// - Those of `parse`, for all the bytes that the source still had. But `OutOfMemory` may be
     ///   reported instead of a fault that comes later.
     ///

@@ -105,8 +105,8 @@ impl<S: Source> EntryReader<S> {
     /// again by each later call, which reads nothing.
     ///
     /// # Errors
-    /// - `Read`: a read of the source failed. The source's count of failures grew, as it does for
-    ///   no other answer.
+    /// - `Read`: a read of the source failed. The source counted a failure, as it does for no other
+    ///   answer.
     /// - `OutOfMemory`: there is no memory for a record or its entry.
     /// - Else the first that applies to all the bytes: `TooLong`, `Version`, and `Truncated` or
     ///   `BadEntry` with the offset of the first record that has too few bytes, or that no entry
