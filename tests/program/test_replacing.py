@@ -172,6 +172,17 @@ def test_another_name(program, tmp_path):
     assert ((tmp_path / "k").read_bytes(), (tmp_path / "same").read_bytes()) == (REMOVED, KEYTAB)
 
 
+@pytest.mark.parametrize("words", ['k same', 'same k', '/dev/stdin same <k'])
+def test_converted_into_another_name(program, tmp_path, words):
+    """A second name of FILE isn't emptied."""
+    (tmp_path / "k").write_bytes(OTHER)
+    os.link(tmp_path / "k", tmp_path / "same")
+    ran = subprocess.run(["sh", "-c", f'"$1" convert-keytab {words}', "sh", program], cwd=tmp_path, capture_output=True)
+    out = words.split()[1]
+    assert (ran.returncode, ran.stdout, ran.stderr) == (3, b"", f"krbtool: {out}: SameFile\n".encode())
+    assert (tmp_path / "k").read_bytes() == OTHER
+
+
 # ---------------------------------------------------------------- owners and file systems
 
 

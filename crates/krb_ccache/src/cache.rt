@@ -1,6 +1,7 @@
 //! A credential cache.
 
-ghost use Rattle.std.specs.Prelude.{◌≡◌, ◌≢◌, ◌⊎◌, ◌≤◌, ◌<◌, ◌^◌, ◌-◌, ◌+◌, List, [], All, IsTrue, ◌↔◌, IfOk, IfErr, IfSome, IfNone, OnOk, OnErr, Some, Ok, Err, Result, SomeIff, None, length, map, drop};
+ghost use Rattle.std.specs.Prelude.{◌≡◌, ◌≢◌, ◌⊎◌, ◌≤◌, ◌<◌, List, [], All, IsTrue, ◌↔◌, IfOk, IfErr, IfSome, IfNone, OnOk, OnErr, Some, Ok, Err, Result, SomeIff, None, length, map, drop};
+ghost use Rattle.krb_name.specs.Flow.{counted};
 ghost use Rattle.krb_ccache.specs.Value.{Cache, cache_of, server_of, HasLengths, Fits};
 ghost use Rattle.krb_ccache.specs.Types.{CacheFault as CacheFaultValue};
 ghost use Rattle.krb_ccache.specs.Configuration.{IsConfiguration};
@@ -19,7 +20,7 @@ use crate::layout::VERSION_4;
 use crate::part::{Part, behind_each, fits_each, write_each};
 use crate::stepping::{Start, begin, steps};
 use crate::writing::{behind_header, header_fits, write_header, write_u16};
-use krb_name::{FILE_LIMIT, NamedList, Principal, SliceSource, Source, Window};
+use krb_name::{FILE_LIMIT, NamedList, Principal, SliceSource, SoughtName, Source, Window};
 use std::alloc::{AllocError, Global};
 use std::marker::Model;
 
@@ -125,21 +126,18 @@ impl CCache {
     /// Allocates memory as parts are read, also for the lists of credentials and of hashes, and after
     /// the last credential the index that `parse` allocates.
     ///
-    /// Condition: fewer than 18,446,744,073,709,551,615 reads of the source have failed so far.
-    ///
     /// # Errors
-    /// - `Read`: a read of the source failed. The source's count of failures grew, as it does for
-    ///   no other answer.
+    /// - `Read`: a read of the source failed. The source counted a failure, as it does for no other
+    ///   answer.
     /// - Those of `parse`, for all the bytes that the source still had. But `OutOfMemory` may be
     ///   reported instead of a fault that comes later.
     ///
     /// Source: MIT krb5, "Credential cache file format", versions 3 and 4.
     pub fn read<S: Source>(alloc: Global, source: &mut S) -> Result<CCache, CacheFault>
-        requires { S.failure_count source.old < 2 ^ 64 - 1 }
         ensures reads { ReadsFile IsAnswerOf CacheFault.OutOfMemory CacheFault.Read
             (S.remaining source.old) (S.remaining source.new) result }
         ensures failed { S.failure_count source.new
-            ≡ S.failure_count source.old + failed_reads result }
+            ≡ counted (S.failure_count source.old) (failed_reads result) }
     {
         CCache::read_from(alloc, source, 0)
     }
@@ -150,11 +148,10 @@ impl CCache {
         source: &mut S,
         expected: usize,
     ) -> Result<CCache, CacheFault>
-        requires { S.failure_count source.old < 2 ^ 64 - 1 }
         ensures reads { ReadsFile IsAnswerOf CacheFault.OutOfMemory CacheFault.Read
             (S.remaining source.old) (S.remaining source.new) result }
         ensures failed { S.failure_count source.new
-            ≡ S.failure_count source.old + failed_reads result }
+            ≡ counted (S.failure_count source.old) (failed_reads result) }
     {
         let mut window = Window::new(alloc, source);
         let answer = CCache::read_window(alloc, &mut window, expected);
@@ -167,12 +164,11 @@ impl CCache {
         window: &mut Window<S>,
         expected: usize,
     ) -> Result<CCache, CacheFault>
-        requires reads { S.failure_count window.old.source < 2 ^ 64 - 1 }
         requires start { window.old.given ≡ 0 }
         ensures reads { ReadsFile IsAnswerOf CacheFault.OutOfMemory CacheFault.Read
             (S.remaining window.old.source) (S.remaining window.new.source) result }
         ensures failed { S.failure_count window.new.source
-            ≡ S.failure_count window.old.source + failed_reads result }
+            ≡ counted (S.failure_count window.old.source) (failed_reads result) }
         ensures lent { S.lender window.new.source ≡ S.lender window.old.source }
     {
         let Start {
@@ -278,6 +274,6 @@ impl CCache {
         ensures within { IfSome result (λ at. at < length self.now.credentials) }
         ensures none { IfNone result (All (HasOtherName server_of server.now) (drop from self.now.credentials)) }
     {
-        self.credentials.find(server, from)
+        self.credentials.find(&SoughtName::new(server), from)
     }
 }

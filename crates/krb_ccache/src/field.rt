@@ -1,6 +1,7 @@
 //! Fields that stand one after another: how they are read, and how their bytes are taken.
 
-ghost use Rattle.std.specs.Prelude.{◌≡◌, ◌==◌, ◌+◌, ◌-◌, ◌≤◌, ◌<◌, ◌^◌, Bool, true, max, Some, None, IfOk};
+ghost use Rattle.std.specs.Prelude.{◌≡◌, ◌==◌, ◌+◌, ◌≤◌, ◌<◌, ◌^◌, Bool, true, max, Some, None, IfOk};
+ghost use Rattle.krb_name.specs.Flow.{counted};
 ghost use Rattle.krb_ccache.specs.Inner.Reading.{made_at, allowed};
 ghost use Rattle.krb_ccache.specs.Inner.Row.{Row, name_field, data_field, list_field, flag_field, number_field, both_fields, Raw, row_at, most_left};
 ghost use Rattle.krb_ccache.specs.Inner.Walking.{IsWalk, passed_at, and_then, pass_if, left_at, stopped_reads};
@@ -39,23 +40,21 @@ pub(crate) trait Field: Sized {
     /// Takes what is left of the fields before it, and then this field except for its last bytes.
     fn take<T: Taker>(layout: Layout, taker: &mut T, left: Left) -> Result<Left, TakeFault>
         requires few { max left.skip (2 ^ 32) + most_left fields < 2 ^ 64 }
-        requires reads { T.failures taker.old < 2 ^ 64 - 1 }
         requires within { T.Within (T.hand taker.old) }
         ensures few { IfOk result (λ next. next.skip ≤ max left.skip (2 ^ 32) + most_left fields) }
         ensures walk { (strict : Bool) → IsWalk (and_then (left_at strict left) (passed_at (row_at fields strict layout))) (left_at strict)
             T.Within T.Lacks (T.hand taker.old) (T.hand taker.new) result }
-        ensures failed { T.failures taker.new ≡ T.failures taker.old + stopped_reads result }
+        ensures failed { T.failures taker.new ≡ counted (T.failures taker.old) (stopped_reads result) }
         ensures lent { T.lender taker.new ≡ T.lender taker.old };
 }
 
 /// Takes all bytes of a field, and returns whether its flags are flags.
 pub(crate) fn take_all<F: Field, T: Taker>(layout: Layout, taker: &mut T) -> Result<bool, TakeFault>
     requires few { 2 ^ 32 + most_left F.fields < 2 ^ 64 }
-    requires reads { T.failures taker.old < 2 ^ 64 - 1 }
     requires within { T.Within (T.hand taker.old) }
     ensures walk { (strict : Bool) → IsWalk (passed_at (row_at F.fields strict layout)) (λ good. pass_if (allowed strict good))
         T.Within T.Lacks (T.hand taker.old) (T.hand taker.new) result }
-    ensures failed { T.failures taker.new ≡ T.failures taker.old + stopped_reads result }
+    ensures failed { T.failures taker.new ≡ counted (T.failures taker.old) (stopped_reads result) }
     ensures lent { T.lender taker.new ≡ T.lender taker.old }
 {
     let left = F::take(layout, taker, Left::none())?;

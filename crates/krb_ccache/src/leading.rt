@@ -1,7 +1,8 @@
 //! What comes before the credentials of a file: how the bytes of each part are taken from a source,
 //! and what they are.
 
-ghost use Rattle.std.specs.Prelude.{◌≡◌, ◌+◌, ◌-◌, ◌≤◌, ◌<◌, ◌^◌, ℕ, List, IfOk, IfErr, OnOk, Err};
+ghost use Rattle.std.specs.Prelude.{◌≡◌, ◌≤◌, ℕ, List, IfOk, IfErr, OnOk, Err};
+ghost use Rattle.krb_name.specs.Flow.{counted};
 ghost use Rattle.krb_name.specs.Field.{IsBytes};
 ghost use Rattle.krb_name.specs.File.{file_limit};
 ghost use Rattle.krb_ccache.specs.Types.{Principal as PrincipalValue, HeaderField as HeaderFieldValue, Layout as LayoutValue};
@@ -38,12 +39,11 @@ pub(crate) trait Leading: Sized {
 
     /// Takes its bytes.
     fn take<S: Source>(layout: Layout, window: &mut Window<S>) -> Result<(), TakeFault>
-        requires reads { S.failure_count window.old.source < 2 ^ 64 - 1 }
         requires within { window.old.given ≤ file_limit }
         ensures walks { OnOk result (Walks (spelled layout) (InRange layout) S.remaining window.old window.new) }
         ensures halts { IfErr result (Halts (spelled layout) (InRange layout) S.remaining window.old window.new) }
         ensures failed { S.failure_count window.new.source
-            ≡ S.failure_count window.old.source + stopped_reads result }
+            ≡ counted (S.failure_count window.old.source) (stopped_reads result) }
         ensures lent { S.lender window.new.source ≡ S.lender window.old.source };
 
     /// Reads the part that begins here, and moves past it. On an error the position is unspecified.

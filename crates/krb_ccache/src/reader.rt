@@ -1,6 +1,7 @@
 //! A reader that returns the credentials of a cache one at a time.
 
-ghost use Rattle.std.specs.Prelude.{◌≡◌, ◌+◌, ◌-◌, ◌^◌, ◌<◌, ◌≤◌, ◌↔◌, ℕ, true, false, List, [], max, length, IsTrue, IfOk, IfErr, IfSome, MatchResult, OnErr, Option, Ok, Err, None};
+ghost use Rattle.std.specs.Prelude.{◌≡◌, ◌+◌, ◌≤◌, ◌↔◌, ℕ, true, false, List, [], max, length, IsTrue, IfOk, IfErr, IfSome, MatchResult, OnErr, Option, Ok, Err, None};
+ghost use Rattle.krb_name.specs.Flow.{counted};
 ghost use Rattle.krb_ccache.specs.Configuration.{IsConfiguration};
 ghost use Rattle.krb_ccache.specs.Fault.{failed_reads};
 ghost use Rattle.krb_name.specs.File.{file_limit, TakesFile, GivesWithin};
@@ -60,8 +61,6 @@ impl<S: Source> CredentialReader<S> {
     /// Reads the version, the header (if there is one) and the default principal of `source`, and
     /// not a byte more.
     ///
-    /// Condition: fewer than 18,446,744,073,709,551,615 reads of the source have failed so far.
-    ///
     /// # Errors
     /// The source is returned, with:
     /// - `Read`: a read of the source failed.
@@ -71,7 +70,6 @@ impl<S: Source> CredentialReader<S> {
     ///
     /// Source: MIT krb5, "Credential cache file format", versions 3 and 4.
     pub fn open(alloc: Global, source: S) -> Result<CredentialReader<S>, (S, CacheFault)>
-        requires { S.failure_count source < 2 ^ 64 - 1 }
         ensures read { IfOk result (λ reader. HasRead S.remaining (S.remaining source) reader
             (cache_of reader.header reader.default_principal [])) }
         ensures held { IfOk result (λ reader. reader.held
@@ -86,7 +84,7 @@ impl<S: Source> CredentialReader<S> {
         ensures none_failed { IfOk result (λ reader.
             S.failure_count reader.source ≡ S.failure_count source) }
         ensures failed { IfErr result (λ back. S.failure_count back.0
-            ≡ S.failure_count source + failed_reads {T = Unit {0}} (Err back.1)) }
+            ≡ counted (S.failure_count source) (failed_reads {T = Unit {0}} (Err back.1))) }
         ensures kept { IfOk result (λ reader. S.lender reader.source ≡ S.lender source) }
         ensures handed_back { IfErr result (λ back. S.lender back.0 ≡ S.lender source) }
     {
@@ -112,8 +110,6 @@ impl<S: Source> CredentialReader<S> {
     /// Reads the next credential, and not a byte more; returns `None` at the end. The end and every
     /// fault are returned again by each later call, which reads nothing.
     ///
-    /// Condition: fewer than 18,446,744,073,709,551,615 reads of the source have failed so far.
-    ///
     /// # Errors
     /// - `Read`: a read of the source failed.
     /// - `OutOfMemory`: there is no memory for the credential or its bytes.
@@ -122,7 +118,6 @@ impl<S: Source> CredentialReader<S> {
     ///   16,777,216.
     #[tactic(auto, using(crate::proofs::ReaderLaws::next_more, crate::proofs::ReaderLaws::stays, crate::proofs::StepLaws::step_limit))]
     pub fn next(&mut self, alloc: Global) -> Result<Option<Credential>, CacheFault>
-        requires { S.failure_count self.old.source < 2 ^ 64 - 1 }
 
         // The end and every fault are answered again, and the reader stays as it was.
         ensures again { IfSome self.old.ended
@@ -156,7 +151,7 @@ impl<S: Source> CredentialReader<S> {
         ensures part { self.old.ended ≡ None → OnErr result (HeldPart self.old.layout (S.remaining self.old.source)
             (S.remaining self.new.source) self.old.held self.new.held) }
         ensures failed { self.old.ended ≡ None → S.failure_count self.new.source
-            ≡ S.failure_count self.old.source + failed_reads result }
+            ≡ counted (S.failure_count self.old.source) (failed_reads result) }
     {
         if let Some(ended) = self.ended {
             return ended.map(|()| None);
@@ -172,15 +167,12 @@ impl<S: Source> CredentialReader<S> {
     /// After a credential, at the end and at a fault the reader is where `next` would have left it.
     /// The two calls can be mixed.
     ///
-    /// Condition: fewer than 18,446,744,073,709,551,615 reads of the source have failed so far.
-    ///
     /// # Errors
     /// Those of `next`; `OutOfMemory` only if there is no memory for the bytes.
     ///
     /// Source: MIT krb5, "Credential cache file format", versions 3 and 4.
     #[tactic(auto, using(crate::proofs::ReaderLaws::passed_end, crate::proofs::ReaderLaws::stays, crate::proofs::ReaderLaws::on_err, crate::proofs::StepLaws::step_limit))]
     pub fn pass(&mut self) -> Result<bool, CacheFault>
-        requires { S.failure_count self.old.source < 2 ^ 64 - 1 }
 
         // The end and every fault are answered again, and the reader stays as it was.
         ensures again { IfSome self.old.ended
@@ -204,7 +196,7 @@ impl<S: Source> CredentialReader<S> {
         ensures part { self.old.ended ≡ None → OnErr result (HeldPart self.old.layout (S.remaining self.old.source)
             (S.remaining self.new.source) self.old.held self.new.held) }
         ensures failed { self.old.ended ≡ None → S.failure_count self.new.source
-            ≡ S.failure_count self.old.source + failed_reads result }
+            ≡ counted (S.failure_count self.old.source) (failed_reads result) }
     {
         if let Some(ended) = self.ended {
             return ended.map(|()| false);

@@ -1,6 +1,7 @@
 //! Reading the parts of a cache from a source, one at a time.
 
-ghost use Rattle.std.specs.Prelude.{All, Option, ℕ, List, [], length, max, ◌≡◌, ◌+◌, ◌-◌, ◌≤◌, ◌<◌, ◌^◌, IfOk, IfErr, OnOk, OnErr, Result, Err};
+ghost use Rattle.std.specs.Prelude.{All, Option, ℕ, List, [], length, max, ◌≡◌, ◌+◌, ◌≤◌, IfOk, IfErr, OnOk, OnErr, Result, Err};
+ghost use Rattle.krb_name.specs.Flow.{counted};
 ghost use Rattle.krb_name.specs.Field.{IsBytes};
 ghost use Rattle.krb_ccache.specs.Fault.{failed_reads};
 ghost use Rattle.krb_name.specs.File.{file_limit, GivesWithin};
@@ -54,12 +55,11 @@ fn are_bytes(bytes: &[u8])
 
 // Answers the fault of a part that didn't come, when the source was read out, or TooLong in its place.
 fn told<S: Source>(window: &mut Window<S>, stop: TakeFault, fault: CacheFault) -> CacheFault
-    requires reads { stop ≡ TakeFault.Long → S.failure_count window.old.source < 2 ^ 64 - 1 }
     requires within { window.old.given ≤ file_limit }
     requires content { failed_reads {T = Unit {0}} (Err fault) ≡ 0 }
     ensures told { IsTold S.remaining window.old window.new stop fault result }
-    ensures failed { S.failure_count window.new.source + stop_reads stop
-        ≡ S.failure_count window.old.source + failed_reads {T = Unit {0}} (Err result) }
+    ensures failed { (before : ℕ) → S.failure_count window.old.source ≡ counted before (stop_reads stop)
+        → S.failure_count window.new.source ≡ counted before (failed_reads {T = Unit {0}} (Err result)) }
     ensures lent { S.lender window.new.source ≡ S.lender window.old.source }
 {
     match stop {
@@ -82,13 +82,12 @@ fn come<L: Leading, S: Source>(
     window: &mut Window<S>,
     fault: CacheFault,
 ) -> Result<L, CacheFault>
-    requires reads { S.failure_count window.old.source < 2 ^ 64 - 1 }
     requires within { window.old.given ≤ file_limit }
     requires content { failed_reads {T = Unit {0}} (Err fault) ≡ 0 }
     ensures comes { IfOk result (λ part. Comes (L.spelled layout) (L.InRange layout) S.remaining window.old window.new (L.raw part)) }
     ensures misses { IfErr result (Misses (L.spelled layout) (L.InRange layout) S.remaining window.old window.new fault) }
     ensures failed { S.failure_count window.new.source
-        ≡ S.failure_count window.old.source + failed_reads result }
+        ≡ counted (S.failure_count window.old.source) (failed_reads result) }
     ensures lent { S.lender window.new.source ≡ S.lender window.old.source }
 {
     window.clear();
@@ -110,7 +109,6 @@ fn come<L: Leading, S: Source>(
 /// Reads the version, the header and the default principal.
 #[tactic(auto, using(crate::proofs::StepLaws::misses_gives, crate::proofs::ReaderLaws::begun, crate::proofs::ReaderLaws::begun_peak, crate::proofs::LayoutLaws::head_fits))]
 pub(crate) fn begin<S: Source>(alloc: Global, window: &mut Window<S>) -> Result<Start, CacheFault>
-    requires reads { S.failure_count window.old.source < 2 ^ 64 - 1 }
     requires start { window.old.given ≡ 0 }
     ensures taken { IfOk result (λ begun. HasTaken begun.layout (S.remaining window.old.source)
         (S.remaining window.new.source) window.new.given (cache_of begun.header.items begun.default_principal [])) }
@@ -124,7 +122,7 @@ pub(crate) fn begin<S: Source>(alloc: Global, window: &mut Window<S>) -> Result<
     ensures gave { GivesWithin (S.remaining window.old.source) (S.remaining window.new.source)
         window.old.given window.new.given }
     ensures failed { S.failure_count window.new.source
-        ≡ S.failure_count window.old.source + failed_reads result }
+        ≡ counted (S.failure_count window.old.source) (failed_reads result) }
     ensures lent { S.lender window.new.source ≡ S.lender window.old.source }
 {
     // The layout isn't known yet. The version is read in the same way in both, so either can be
@@ -147,13 +145,12 @@ pub(crate) fn step<S: Source>(
     layout: Layout,
     window: &mut Window<S>,
 ) -> Result<Option<Credential>, CacheFault>
-    requires reads { S.failure_count window.old.source < 2 ^ 64 - 1 }
     requires within { window.old.given ≤ file_limit }
     ensures step { IsStep layout S.remaining window.old window.new result }
     ensures part { OnErr result (HeldPart layout (S.remaining window.old.source) (S.remaining window.new.source)
         window.old.peak window.new.peak) }
     ensures failed { S.failure_count window.new.source
-        ≡ S.failure_count window.old.source + failed_reads result }
+        ≡ counted (S.failure_count window.old.source) (failed_reads result) }
     ensures lent { S.lender window.new.source ≡ S.lender window.old.source }
 {
     if step_past(layout, window)? {
@@ -169,14 +166,13 @@ pub(crate) fn step_past<S: Source>(
     layout: Layout,
     window: &mut Window<S>,
 ) -> Result<bool, CacheFault>
-    requires reads { S.failure_count window.old.source < 2 ^ 64 - 1 }
     requires within { window.old.given ≤ file_limit }
     ensures step { (answer : Result (Option CredentialValue) CacheFault) × (result ≡ passed answer)
         × IsStep layout S.remaining window.old window.new answer × IsAtHand layout window.new.bytes answer }
     ensures part { HeldPart layout (S.remaining window.old.source) (S.remaining window.new.source)
         window.old.peak window.new.peak }
     ensures failed { S.failure_count window.new.source
-        ≡ S.failure_count window.old.source + failed_reads result }
+        ≡ counted (S.failure_count window.old.source) (failed_reads result) }
     ensures lent { S.lender window.new.source ≡ S.lender window.old.source }
 {
     let at = window.given();
@@ -201,12 +197,11 @@ fn none_past<S: Source>(
     stop: TakeFault,
     at: usize,
 ) -> Result<bool, CacheFault>
-    requires reads { stop ≡ TakeFault.Long → S.failure_count window.old.source < 2 ^ 64 - 1 }
     requires within { window.old.given ≤ file_limit }
     ensures none { (told : CacheFaultValue) × IsTold S.remaining window.old window.new stop (BadItem at) told
         × IsNone at window.new.given told result }
-    ensures failed { S.failure_count window.new.source + stop_reads stop
-        ≡ S.failure_count window.old.source + failed_reads result }
+    ensures failed { (before : ℕ) → S.failure_count window.old.source ≡ counted before (stop_reads stop)
+        → S.failure_count window.new.source ≡ counted before (failed_reads result) }
     ensures lent { S.lender window.new.source ≡ S.lender window.old.source }
 {
     let fault = told(window, stop, CacheFault::BadItem { at });
@@ -227,7 +222,6 @@ pub(crate) fn steps<S: Source>(
     expected: usize,
 ) -> Result<NamedListBuilder<Credential>, CacheFault>
     requires within { window.old.given ≤ file_limit }
-    requires reads { S.failure_count window.old.source < 2 ^ 64 - 1 }
     ensures end { IfOk result (λ credentials.
         (from : Option (List ℕ)) (header : List HeaderFieldValue) (name : PrincipalValue)
         → HasTaken layout from (S.remaining window.old.source) window.old.given (cache_of header name [])
@@ -240,7 +234,7 @@ pub(crate) fn steps<S: Source>(
     ensures gave { GivesWithin (S.remaining window.old.source) (S.remaining window.new.source)
         window.old.given window.new.given }
     ensures failed { S.failure_count window.new.source
-        ≡ S.failure_count window.old.source + failed_reads result }
+        ≡ counted (S.failure_count window.old.source) (failed_reads result) }
     ensures lent { S.lender window.new.source ≡ S.lender window.old.source }
 {
     let mut credentials = NamedListBuilder::with_room(alloc, expected)?;

@@ -1,6 +1,7 @@
 //! What the bytes of a part are taken from: a source, or bytes in memory.
 
-ghost use Rattle.std.specs.Prelude.{◌≡◌, ◌+◌, ◌-◌, ◌≤◌, ◌<◌, ◌^◌, ℕ, List, [], Option, OnOk, length};
+ghost use Rattle.std.specs.Prelude.{◌≡◌, ◌+◌, ◌≤◌, ℕ, List, [], Option, OnOk, length};
+ghost use Rattle.krb_name.specs.Flow.{counted};
 ghost use Rattle.krb_ccache.specs.Inner.Walking.{Hand, IsTaken, stopped_reads, window_hand, window_within, window_lacks, bytes_hand, bytes_within, bytes_lacks};
 ghost use Rattle.krb_ccache.specs.declared.walking.TakeFault.{TakeFault as TakeFaultValue};
 
@@ -27,11 +28,10 @@ pub(crate) trait Taker {
 
     /// Takes `count` bytes.
     fn take(&mut self, count: usize) -> Result<(), TakeFault>
-        requires reads { failures self.old < 2 ^ 64 - 1 }
         requires within { Within (hand self.old) }
         ensures taken { IsTaken Within Lacks count (hand self.old) (hand self.new) result }
         ensures count { OnOk result (length (hand self.new).bytes ≡ length (hand self.old).bytes + count) }
-        ensures failed { failures self.new ≡ failures self.old + stopped_reads result }
+        ensures failed { failures self.new ≡ counted (failures self.old) (stopped_reads result) }
         ensures lent { lender self.new ≡ lender self.old };
 
     /// Returns the bytes that were taken.

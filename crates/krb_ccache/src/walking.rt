@@ -1,8 +1,9 @@
 //! Taking as many bytes as a part of a cache has, by its lengths and counts as they come. What the
 //! bytes mean doesn't matter here.
 
-ghost use Rattle.std.specs.Prelude.{◌≡◌, ◌+◌, ◌-◌, ◌<◌, ◌^◌, ℕ, Bool, true, length, take, drop, IfOk};
+ghost use Rattle.std.specs.Prelude.{◌≡◌, ◌+◌, ◌<◌, ◌^◌, ℕ, Bool, true, length, take, drop, IfOk};
 ghost use Rattle.std.specs.Int.{w16, w32, from_be_bytes};
+ghost use Rattle.krb_name.specs.Flow.{counted};
 ghost use Rattle.krb_name.specs.Cursor.{data_at};
 ghost use Rattle.krb_ccache.specs.Inner.Walking.{Goes, IsTaken, IsWalk, IsWhole, Pass, Same, passed_at, skip_at, and_then, left_at, pass_times, pass_data, stopped_reads};
 
@@ -65,11 +66,10 @@ pub(crate) fn take_last<const N: usize, T: Taker>(
     skip: usize,
 ) -> Result<[u8; N], TakeFault>
     requires few { skip + N < 2 ^ 64 }
-    requires reads { T.failures taker.old < 2 ^ 64 - 1 }
     requires within { T.Within (T.hand taker.old) }
     ensures taken { IsTaken T.Within T.Lacks (skip + N) (T.hand taker.old) (T.hand taker.new) result }
     ensures last { IfOk result (λ last. last ≡ drop (length (T.hand taker.old).bytes + skip) (T.hand taker.new).bytes) }
-    ensures failed { T.failures taker.new ≡ T.failures taker.old + stopped_reads result }
+    ensures failed { T.failures taker.new ≡ counted (T.failures taker.old) (stopped_reads result) }
     ensures lent { T.lender taker.new ≡ T.lender taker.old }
 {
     taker.take(skip + N)?;
@@ -90,13 +90,12 @@ pub(crate) fn take_many<T: Taker>(
     good: bool,
 ) -> Result<Left, TakeFault>
     requires few { gap < 2 ^ 32 }
-    requires reads { T.failures taker.old < 2 ^ 64 - 1 }
     requires within { T.Within (T.hand taker.old) }
     ensures few { IfOk result (λ left. left.skip < 2 ^ 32) }
     ensures good { IfOk result (λ left. left.good ≡ good) }
     ensures walk { IsWalk (and_then (skip_at skip) (pass_times count (pass_data gap))) (λ left. skip_at left.skip)
         T.Within T.Lacks (T.hand taker.old) (T.hand taker.new) result }
-    ensures failed { T.failures taker.new ≡ T.failures taker.old + stopped_reads result }
+    ensures failed { T.failures taker.new ≡ counted (T.failures taker.old) (stopped_reads result) }
     ensures lent { T.lender taker.new ≡ T.lender taker.old }
 {
     let _taken = taker.taken();
@@ -128,10 +127,9 @@ pub(crate) fn leave<T: Taker>(taker: &T, left: Left, size: usize) -> Left
 /// Takes all bytes of a header.
 #[tactic(auto, using(crate::proofs::WalkParts::data_then, crate::proofs::WalkParts::data_first))]
 pub(crate) fn take_header<T: Taker>(taker: &mut T) -> Result<(), TakeFault>
-    requires reads { T.failures taker.old < 2 ^ 64 - 1 }
     requires within { T.Within (T.hand taker.old) }
     ensures walk { IsWhole (passed_at (data_at w16)) T.Within T.Lacks (T.hand taker.old) (T.hand taker.new) result }
-    ensures failed { T.failures taker.new ≡ T.failures taker.old + stopped_reads result }
+    ensures failed { T.failures taker.new ≡ counted (T.failures taker.old) (stopped_reads result) }
     ensures lent { T.lender taker.new ≡ T.lender taker.old }
 {
     let count = u16::from_be_bytes(take_last(taker, 0)?);

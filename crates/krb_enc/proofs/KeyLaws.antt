@@ -7,7 +7,8 @@ use Rattle.std.proofs.lemmas.Bool.Decides.{Decides-int_eq}
 use Rattle.krb_cts.proofs.Encrypted.{length-cts}
 use Rattle.krb_enc.specs.Sealed.{Profile, IsProfile, aes128_sha256, aes256_sha384, encryption_key, tag_of, cipher_text, sealed}
 use Rattle.krb_enc.specs.Opens.{Opens, OpensToNothing}
-use Rattle.krb_enc.specs.Key.{KeyValue, IsKnown, IsUsable, IsUsableKey, numbered, profile_of}
+use Rattle.krb_enc.specs.Key.{KeyValue, IsKnown, IsUsable, numbered, profile_of}
+use Rattle.krb_kdf.specs.BaseKey.{IsUsableKey}
 use Rattle.krb_enc.proofs.Tags.{length-tag_of}
 use Rattle.krb_enc.proofs.OnePlain.{one_plain, decided}
 

@@ -1,6 +1,7 @@
 -- Keys of the two encryption types.
-use Rattle.std.specs.Prelude.{◌≡◌, ◌⊎◌, ◌==◌, ℕ, ℤ, pos, negsuc, List, ◌++◌, length, codes, if◌then◌else◌}
+use Rattle.std.specs.Prelude.{◌≡◌, ◌⊎◌, ◌==◌, ℕ, ℤ, pos, negsuc, List, ◌++◌, codes, if◌then◌else◌}
 use Rattle.std.specs.Fmt.{signed_decimal}
+use Rattle.krb_kdf.specs.BaseKey.{IsUsableKey}
 use Rattle.krb_enc.specs.Sealed.{Profile, aes128_sha256, aes256_sha384}
 
 -- a number of an encryption type, and bytes
@@ -16,10 +17,6 @@ pub record UsageKeyValue : Type 0 where
 -- the number is of one of the two types
 abbrev pub IsKnown : ℤ → Type 0
 IsKnown etype = (etype ≡ pos 19) ⊎ (etype ≡ pos 20)
-
--- the bytes are as many as the type asks for (RFC 8009, section 7)
-abbrev pub IsUsableKey : ℤ → List ℕ → Type 0
-IsUsableKey etype bytes = ((etype ≡ pos 19) × (length bytes ≡ 16)) ⊎ ((etype ≡ pos 20) × (length bytes ≡ 32))
 
 -- the key can seal and open
 abbrev pub IsUsable : KeyValue → Type 0

@@ -1,7 +1,8 @@
 -- A file that is written again, or is too long for that.
-use Rattle.std.proofs.Common.{◌≡◌, ◌⊎◌, ◌<◌, ◌≤◌, ◌+◌, ℕ, List, Option, Result, Ok, Err, length, refl, sym, ap, subst, ◌∙◌, arith, inl, inr}
+use Rattle.std.proofs.Common.{◌≡◌, ◌⊎◌, ◌<◌, ◌≤◌, ℕ, List, Option, Result, Ok, Err, length, refl, sym, ap, subst, ◌∙◌, arith, inl, inr}
 use Rattle.std.specs.Prelude.{◌≢◌, ◌↔◌, ⊤, IfOk, IfErr, OnErr, OnOk}
 use Rattle.krb_name.specs.File.{ReadsFile, file_limit}
+use Rattle.krb_name.specs.Flow.{counted}
 use Rattle.krb_keytab.specs.declared.fault.KeytabFault.{KeytabFault}
 use Rattle.krb_keytab.specs.declared.fault.KeytabFault.TheVariants as keytab
 use Rattle.krb_file_commands.specs.Converting.{IsUnwritten}
@@ -27,14 +28,14 @@ module _ {V F X : Type 0} (items : X → List ℕ) (Is : List ℕ → Result V F
   ]
 
   pub rewritten : exit memory ≡ 3 → failed memory ≡ 0 → failed too_long ≡ 0 → (one : (bytes : List ℕ) (answer other : Result V F) → Is bytes answer → Is bytes other → answer ≡ other) (from to : Option (List ℕ)) (before after : ℕ)
-      (read : Result V F) (value : V) (result : Result X F) → ReadsFile Is memory unread from to read → read ≡ Ok value → after ≡ before + 0 → IfOk result (λ made. items made ≡ written value) → OnOk result (length (written value) ≤ file_limit)
+      (read : Result V F) (value : V) (result : Result X F) → ReadsFile Is memory unread from to read → read ≡ Ok value → after ≡ counted before 0 → IfOk result (λ made. items made ≡ written value) → OnOk result (length (written value) ≤ file_limit)
       → IfErr result (λ e. (e ≡ memory) ⊎ ((e ≡ too_long) × (file_limit < length (written value)))) → Rewrites from to before after result
   rewritten exits none no_read one from to before after read value (Ok made) reads is failures made_is within which =
       value_made _ _ _ _ _ _ _ _ _ Is memory unread read reads value made is (of_file (λ bytes value. Is bytes (Ok value)) from value (λ v. items made ≡ written v) (rw is at reads.found) made_is) (no_fault one value within) failures
   rewritten exits none no_read one from to before after read value (Err e) reads is failures made_is within which = elim which [
-    | inl m ↦ lacking _ _ _ _ _ _ _ _ _ e (ap exit m ∙ exits) tt (failures ∙ ap (λ n. before + n) (sym (ap failed m ∙ none))) reads.taken
+    | inl m ↦ lacking _ _ _ _ _ _ _ _ _ e (ap exit m ∙ exits) tt (failures ∙ ap (counted before) (sym (ap failed m ∙ none))) reads.taken
     | inr long ↦ faulty _ _ _ _ _ _ _ _ _ e (if_some_map from (λ given its. inr (long.0, (value, (its, long.1)))) (rw is at reads.found)) tt
-        (failures ∙ ap (λ n. before + n) (sym (ap failed long.0 ∙ no_read))) reads.taken
+        (failures ∙ ap (counted before) (sym (ap failed long.0 ∙ no_read))) reads.taken
   ]
 
 -- why a keytab isn't written

@@ -1,7 +1,8 @@
 -- What is made of a file that was read, or why nothing is.
-use Rattle.std.proofs.Common.{◌≡◌, ◌+◌, ◌∙◌, ℕ, List, Option, Some, Result, Ok, Err, refl, ap, subst}
+use Rattle.std.proofs.Common.{◌≡◌, ◌∙◌, ℕ, List, Option, Some, Result, Ok, Err, refl, ap, subst}
 use Rattle.std.specs.Prelude.{◌≢◌, ⊤, IfOk, IfErr, IfSome, OnOk}
 use Rattle.krb_name.specs.File.{ReadsFile, TakesFile}
+use Rattle.krb_name.specs.Flow.{counted}
 use Rattle.krb_keytab.specs.Entry.{KeytabEntry}
 use Rattle.krb_keytab.specs.Fault as keytab_fault
 use Rattle.krb_keytab.specs.Format as keytab
@@ -22,7 +23,7 @@ module _ {X E : Type 0} (Holds : X → Type 0) (Faults : List ℕ → E → Type
   Made result = Makes Holds Faults Allows exit failed from to before after result
 
   -- reading or memory failed
-  pub lacking : (e : E) → exit e ≡ 3 → Allows e → after ≡ before + failed e → TakesFile from to → Made (Err e)
+  pub lacking : (e : E) → exit e ≡ 3 → Allows e → after ≡ counted before (failed e) → TakesFile from to → Made (Err e)
   lacking e lacks allowed reads taken = record {
     made = tt;
     fault = λ other. absurd (other lacks);
@@ -33,7 +34,7 @@ module _ {X E : Type 0} (Holds : X → Type 0) (Faults : List ℕ → E → Type
   }
 
   -- the file has the fault
-  pub faulty : (e : E) → IfSome from (λ given. Faults given e) → Allows e → after ≡ before + failed e → TakesFile from to → Made (Err e)
+  pub faulty : (e : E) → IfSome from (λ given. Faults given e) → Allows e → after ≡ counted before (failed e) → TakesFile from to → Made (Err e)
   faulty e has allowed reads taken = record {
     made = tt;
     fault = λ other. has;
@@ -45,7 +46,7 @@ module _ {X E : Type 0} (Holds : X → Type 0) (Faults : List ℕ → E → Type
 
   module _ {V F : Type 0} (Is : List ℕ → Result V F → Type 0) (memory unread : F) (read : Result V F) (reads : ReadsFile Is memory unread from to read) where
     -- the file was read, and this was made of it
-    pub value_made : (value : V) (it : X) → read ≡ Ok value → Holds it → ((given : List ℕ) (e : E) → Is given (Ok value) → Faults given e → ⊥) → after ≡ before + 0 → Made (Ok it)
+    pub value_made : (value : V) (it : X) → read ≡ Ok value → Holds it → ((given : List ℕ) (e : E) → Is given (Ok value) → Faults given e → ⊥) → after ≡ counted before 0 → Made (Ok it)
     value_made value it is holds none failures = record {
       made = holds;
       fault = tt;
@@ -57,7 +58,7 @@ module _ {X E : Type 0} (Holds : X → Type 0) (Faults : List ℕ → E → Type
 
     -- the file's fault was met
     pub fault_met : (wrap : F → E) (met : F) → read ≡ Err met → exit (wrap memory) ≡ 3 → exit (wrap unread) ≡ 3 → ((given : List ℕ) → Is given (Err met) → Faults given (wrap met)) → Allows (wrap met)
-        → after ≡ before + failed (wrap met) → Made (Err (wrap met))
+        → after ≡ counted before (failed (wrap met)) → Made (Err (wrap met))
     fault_met wrap met is no_memory no_read has allowed failures = record {
       made = tt;
       fault = λ other. if_some_map from has ((rw is at reads.fault) (λ m. other (ap (λ (f : F). exit (wrap f)) m ∙ no_memory)) (λ u. other (ap (λ (f : F). exit (wrap f)) u ∙ no_read)));
@@ -87,7 +88,7 @@ module _ {V F : Type 0} (Is : List ℕ → Result V F → Type 0) (memory unread
 
   read_as : exit memory ≡ 3 → exit unread ≡ 3 → (one : (bytes : List ℕ) (answer other : Result V F) → Is bytes answer → Is bytes other → answer ≡ other) {X : Type 0} (from to : Option (List ℕ)) (before after : ℕ) (Holds : X → V → Type 0)
       (result : Result X F) → IfOk result (λ it. OfFile (λ bytes value. Is bytes (Ok value)) from (Holds it)) → IfErr result (λ fault. fault ≢ memory → fault ≢ unread → IfSome from (λ bytes. Is bytes (Err fault)))
-      → TakesFile from to → after ≡ before + failed_by failed result → Reads from to before after Holds result
+      → TakesFile from to → after ≡ counted before (failed_by failed result) → Reads from to before after Holds result
   read_as no_memory no_read one from to before after Holds result found met taken failures = record {
     made = found;
     fault = if_err_map result (λ fault is other. is (λ m. other (ap exit m ∙ no_memory)) (λ u. other (ap exit u ∙ no_read))) met;
@@ -113,10 +114,10 @@ abbrev pub KeytabsHaveOne : Type 0
 KeytabsHaveOne = (bytes : List ℕ) (answer other : Result (List KeytabEntry) KeytabFault) → keytab.IsAnswerOf bytes answer → keytab.IsAnswerOf bytes other → answer ≡ other
 
 pub keytab_read : KeytabsHaveOne → {X : Type 0} (from to : Option (List ℕ)) (before after : ℕ) (Holds : X → List KeytabEntry → Type 0) (result : Result X KeytabFault) → IfOk result (λ made. OfFile keytab.IsKeytab from (Holds made))
-    → IfErr result (λ fault. fault ≢ of_keytab.OutOfMemory → fault ≢ of_keytab.Read → IfSome from (λ bytes. keytab.IsFaultOf bytes fault)) → TakesFile from to → after ≡ before + keytab_fault.failed_reads result
+    → IfErr result (λ fault. fault ≢ of_keytab.OutOfMemory → fault ≢ of_keytab.Read → IfSome from (λ bytes. keytab.IsFaultOf bytes fault)) → TakesFile from to → after ≡ counted before (keytab_fault.failed_reads result)
     → ReadsKeytab from to before after Holds result
 keytab_read one from to before after Holds result found met taken failures =
-    read_as keytab.IsAnswerOf of_keytab.OutOfMemory of_keytab.Read status.of_keytab status.keytab_reads refl refl one from to before after Holds result found met taken (failures ∙ ap (λ n. before + n) (keytab_counted result))
+    read_as keytab.IsAnswerOf of_keytab.OutOfMemory of_keytab.Read status.of_keytab status.keytab_reads refl refl one from to before after Holds result found met taken (failures ∙ ap (counted before) (keytab_counted result))
 
 -- ---- a cache
 
@@ -133,7 +134,7 @@ abbrev pub CachesHaveOne : Type 0
 CachesHaveOne = (bytes : List ℕ) (answer other : Result Cache CacheFault) → cache.IsAnswerOf bytes answer → cache.IsAnswerOf bytes other → answer ≡ other
 
 pub cache_read : CachesHaveOne → {X : Type 0} (from to : Option (List ℕ)) (before after : ℕ) (Holds : X → Cache → Type 0) (result : Result X CacheFault) → IfOk result (λ made. OfFile cache.IsCache from (Holds made))
-    → IfErr result (λ fault. fault ≢ of_cache.OutOfMemory → fault ≢ of_cache.Read → IfSome from (λ bytes. cache.IsFaultOf bytes fault)) → TakesFile from to → after ≡ before + cache_fault.failed_reads result
+    → IfErr result (λ fault. fault ≢ of_cache.OutOfMemory → fault ≢ of_cache.Read → IfSome from (λ bytes. cache.IsFaultOf bytes fault)) → TakesFile from to → after ≡ counted before (cache_fault.failed_reads result)
     → ReadsCache from to before after Holds result
 cache_read one from to before after Holds result found met taken failures =
-    read_as cache.IsAnswerOf of_cache.OutOfMemory of_cache.Read status.of_cache status.cache_reads refl refl one from to before after Holds result found met taken (failures ∙ ap (λ n. before + n) (cache_counted result))
+    read_as cache.IsAnswerOf of_cache.OutOfMemory of_cache.Read status.of_cache status.cache_reads refl refl one from to before after Holds result found met taken (failures ∙ ap (counted before) (cache_counted result))

@@ -1,6 +1,7 @@
 -- What a command makes of the file that it reads, or why it makes nothing; and what of that its sink takes.
-use Rattle.std.specs.Prelude.{◌≡◌, ◌≢◌, ⊤, ◌+◌, ℕ, List, Option, Some, Result, Ok, Err, IfOk, IfErr, IfSome, OnOk}
+use Rattle.std.specs.Prelude.{◌≡◌, ◌≢◌, ⊤, ℕ, List, Option, Some, Result, Ok, Err, IfOk, IfErr, IfSome, OnOk}
 use Rattle.krb_name.specs.File.{TakesFile}
+use Rattle.krb_name.specs.Flow.{counted}
 use Rattle.krb_file_commands.specs.declared.engine.Ended.{Ended}
 use Rattle.krb_file_commands.specs.declared.engine.Ended.TheVariants.{Unmade, Write}
 
@@ -21,7 +22,7 @@ pub record Makes {X E : Type 0} (Holds : X → Type 0) (Faults : List ℕ → E 
   pub fault : IfErr result (λ e. status e ≢ 3 → IfSome from (λ given. Faults given e))
   pub faulty : (given : List ℕ) (e : E) → from ≡ Some given → Faults given e → OnOk result ⊥
   pub allowed : IfErr result Allows
-  pub reads : after ≡ before + failed_by failed result
+  pub reads : after ≡ counted before (failed_by failed result)
   pub taken : TakesFile from to
 
 -- ---- what the engine answers

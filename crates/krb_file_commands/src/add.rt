@@ -1,6 +1,7 @@
 //! What `add-keys` makes: a keytab with the keys of another that it lacks.
 
-ghost use Rattle.std.specs.Prelude.{◌≡◌, ◌≢◌, ◌⊎◌, ◌++◌, ◌+◌, ◌-◌, ◌^◌, ◌<◌, ◌≤◌, ◌↔◌, ℕ, List, Some, IsTrue, IfOk, IfErr, IfSome, OnOk, length, take};
+ghost use Rattle.std.specs.Prelude.{◌≡◌, ◌≢◌, ◌⊎◌, ◌++◌, ◌≤◌, ◌↔◌, ℕ, List, Some, IsTrue, IfOk, IfErr, IfSome, OnOk, length, take};
+ghost use Rattle.krb_name.specs.Flow.{counted};
 ghost use Rattle.krb_keytab.specs.Edit.{WouldPass};
 ghost use Rattle.krb_keytab.specs.Entry.{KeytabEntry};
 ghost use Rattle.krb_keytab.specs.Format.{IsFaultOf, IsKeytab};
@@ -33,15 +34,11 @@ use std::alloc::Global;
 /// - `Added`: the same of `others`.
 /// - `Keytab`: `TooLong` if the keytab would have more than 16,777,216 bytes; `OutOfMemory` if
 ///   there is no memory for them.
-///
-/// Condition: fewer than 18,446,744,073,709,551,615 reads of each have failed so far.
 pub fn add_keys<S: Source, F: Source>(
     alloc: Global,
     source: &mut S,
     others: &mut F,
 ) -> Result<Vec<u8>, AddFault>
-    requires source { S.failure_count source.old < 2 ^ 64 - 1 }
-    requires others { F.failure_count others.old < 2 ^ 64 - 1 }
     ensures added { IfOk result (λ new. Extends (S.remaining source.old) (F.remaining others.old) new.items) }
 
     // A fault of the content is there; and if there is one, nothing is made. That of `source` goes first.
@@ -49,8 +46,8 @@ pub fn add_keys<S: Source, F: Source>(
     ensures held { (given : List ℕ) (fault : KeytabFault) → S.remaining source.old ≡ Some given → IsFaultOf given fault
         → OnOk result ⊥ × IfErr result IsOfHeld }
     ensures others { (given : List ℕ) (fault : KeytabFault) → F.remaining others.old ≡ Some given → IsFaultOf given fault → OnOk result ⊥ }
-    ensures reads { S.failure_count source.new ≡ S.failure_count source.old + failed_by status.held_reads result }
-    ensures reads_others { F.failure_count others.new ≡ F.failure_count others.old + failed_by status.added_reads result }
+    ensures reads { S.failure_count source.new ≡ counted (S.failure_count source.old) (failed_by status.held_reads result) }
+    ensures reads_others { F.failure_count others.new ≡ counted (F.failure_count others.old) (failed_by status.added_reads result) }
     ensures taken { TakesFile (S.remaining source.old) (S.remaining source.new) }
     ensures taken_others { TakesFile (F.remaining others.old) (F.remaining others.new) }
 {
@@ -63,7 +60,6 @@ pub fn add_keys<S: Source, F: Source>(
 
 // Reads a keytab, and returns its bytes and its entries.
 fn read_held<S: Source>(alloc: Global, source: &mut S) -> Result<(Vec<u8>, Keytab), KeytabFault>
-    requires { S.failure_count source.old < 2 ^ 64 - 1 }
     ensures found { IfOk result (λ read. IsKeytab read.0.items read.1) }
     ensures whole { IfOk result (λ read. IfSome (S.remaining source.old) (λ bytes. bytes ≡ read.0.items)) }
     ensures reads { ReadsKeytab (S.remaining source.old) (S.remaining source.new)

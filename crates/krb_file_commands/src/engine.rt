@@ -1,9 +1,9 @@
 //! The engine of the commands that write what they make of a file: it makes the bytes, and then writes them.
 
-ghost use Rattle.std.specs.Prelude.{◌≡◌, ◌≢◌, ⊤, ◌+◌, ◌-◌, ◌^◌, ◌<◌, ℕ, List, Option, Some, Err, IfOk, IfSome, length};
+ghost use Rattle.std.specs.Prelude.{◌≡◌, ◌≢◌, ⊤, ℕ, List, Option, Some, Err, IfOk, IfSome, length};
 ghost use Rattle.std.specs.Io.KnownBytes.{Appends, Keeps};
 ghost use Rattle.krb_name.specs.File.{TakesFile};
-ghost use Rattle.krb_name.specs.Flow.{AppendsBeginning};
+ghost use Rattle.krb_name.specs.Flow.{counted, AppendsBeginning};
 ghost use Rattle.krb_file_commands.specs.Engine.{IfUnmade, IsUnmade, Makes, failed_reads, failed_writes};
 
 use crate::failure::Failure;
@@ -38,7 +38,6 @@ pub trait Product {
 
     /// Reads a file to its end, or to one byte past 16,777,216, and returns what is made of it.
     fn make<S: Source>(&self, alloc: Global, source: &mut S) -> Result<Vec<u8>, Self::Fault>
-        requires { S.failure_count source.old < 2 ^ 64 - 1 }
         ensures { Makes (λ made. makes self.now (S.remaining source.old) made.items) (faults self.now)
             (allows self.now (S.remaining source.old)) Self.Fault.exit_status failed_reads (S.remaining source.old)
             (S.remaining source.new) (S.failure_count source.old) (S.failure_count source.new) result };
@@ -51,16 +50,12 @@ pub trait Product {
 /// # Errors
 /// - `Unmade`: nothing was made, and nothing written. A fault with another exit status than 3 is one that the file has.
 /// - `Write`: the sink failed; it took a beginning of the bytes.
-///
-/// Condition: fewer than 18,446,744,073,709,551,615 reads and writes have failed so far.
 pub fn produce<P: Product, S: Source, T: Sink>(
     alloc: Global,
     source: &mut S,
     sink: &mut T,
     product: &P,
 ) -> Result<usize, Ended<P::Fault>>
-    requires source { S.failure_count source.old < 2 ^ 64 - 1 }
-    requires sink { T.failure_count sink.old < 2 ^ 64 - 1 }
     ensures written { IfOk result (λ count. (bytes : List ℕ) × (P.makes product.now (S.remaining source.old) bytes
         × (Appends (T.taken sink.old) (T.taken sink.new) bytes × (count ≡ length bytes)))) }
 
@@ -75,9 +70,9 @@ pub fn produce<P: Product, S: Source, T: Sink>(
     ensures unmade { IfUnmade result (λ _. Keeps (T.taken sink.old) (T.taken sink.new)) }
     ensures begun { result ≡ Err Ended.Write → (bytes : List ℕ) × (P.makes product.now (S.remaining source.old) bytes
         × AppendsBeginning (T.taken sink.old) (T.taken sink.new) bytes) }
-    ensures reads { S.failure_count source.new ≡ S.failure_count source.old + failed_reads P.failed_reads result }
+    ensures reads { S.failure_count source.new ≡ counted (S.failure_count source.old) (failed_reads P.failed_reads result) }
     ensures taken { TakesFile (S.remaining source.old) (S.remaining source.new) }
-    ensures writes { T.failure_count sink.new ≡ T.failure_count sink.old + failed_writes result }
+    ensures writes { T.failure_count sink.new ≡ counted (T.failure_count sink.old) (failed_writes result) }
 {
     match product.make(alloc, source) {
         Ok(bytes) => match write_all(sink, &bytes) {

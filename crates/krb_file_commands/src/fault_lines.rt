@@ -57,6 +57,13 @@ pub fn file_line(name: &str) -> FaultLine<'_>
     plain(name, "File")
 }
 
+/// Gives the line for a file to write that is the one that is read. It takes no memory.
+pub(crate) fn same_line(name: &str) -> FaultLine<'_>
+    ensures { result ≡ line_of name.entry.now (codes "SameFile", None) }
+{
+    plain(name, "SameFile")
+}
+
 /// Gives the line for an argument of this name that isn't the name of a service. It takes no memory.
 pub fn name_line<'a>(argument: &'a str, fault: &TextFault) -> FaultLine<'a>
     ensures { result ≡ line_of argument.entry.now (name_text fault.now) }

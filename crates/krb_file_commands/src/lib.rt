@@ -22,6 +22,7 @@ mod lines;
 mod listing;
 mod new_file;
 mod of_type;
+mod one_file;
 mod pick;
 mod remove;
 mod replacing;

@@ -1,6 +1,6 @@
 //! What `list-keytab` and `list-ccache` make.
 
-ghost use Rattle.std.specs.Prelude.{◌≡◌, ◌-◌, ◌^◌, ◌<◌};
+ghost use Rattle.std.specs.Prelude.{◌≡◌};
 ghost use Rattle.krb_ccache.specs.Format as in_cache;
 ghost use Rattle.krb_keytab.specs.Format as in_keytab;
 ghost use Rattle.krb_readable.specs.Readable.{cache_table, keytab_table};
@@ -46,7 +46,6 @@ impl Product for ListKeytab {
 
 // Reads a whole keytab, since the width of a column is known only then, and returns its table.
 fn table_of_keytab<S: Source>(alloc: Global, source: &mut S) -> Result<Vec<u8>, KeytabFault>
-    requires { S.failure_count source.old < 2 ^ 64 - 1 }
     ensures { ReadsKeytab (S.remaining source.old) (S.remaining source.new)
         (S.failure_count source.old) (S.failure_count source.new)
         (λ table entries. table.items ≡ keytab_table entries) result }
@@ -98,7 +97,6 @@ fn table_of_ccache<S: Source>(
     source: &mut S,
     now: Option<u64>,
 ) -> Result<Vec<u8>, CacheFault>
-    requires { S.failure_count source.old < 2 ^ 64 - 1 }
     ensures { ReadsCache (S.remaining source.old) (S.remaining source.new)
         (S.failure_count source.old) (S.failure_count source.new)
         (λ table cache. table.items ≡ cache_table now cache) result }

@@ -6,8 +6,9 @@ ghost use Rattle.krb_name.specs.Flow.{source_failures};
 
 use crate::engine::{Ended, Product, produce};
 use crate::failure::{FAILED, Failure};
-use crate::fault_lines::{FaultLine, fault_line, file_line, memory_line, write_line};
+use crate::fault_lines::{FaultLine, fault_line, file_line, memory_line, same_line, write_line};
 use crate::new_file::{OWNER_ALONE, close_to_others};
+use crate::one_file::is_open_file;
 use krb_name::{ReadSource, WriteSink};
 use std::fs::{File, OpenOptions};
 use std::io;
@@ -19,7 +20,7 @@ use std::rt::Files;
 const PIECE: usize = 65_536;
 
 /// Runs a command of this name over the file, and returns the exit status. What it makes is printed on standard output, or written
-/// into OUT, which is made or emptied before the file is read.
+/// into OUT, which is made or emptied before the file is read. If OUT is that file itself, it is refused and stays as it is.
 pub fn run_product<R: AllocGlobal + Files + Print + Eprint, P: Product>(
     rt: &R,
     product: &P,
@@ -34,7 +35,7 @@ pub fn run_product<R: AllocGlobal + Files + Print + Eprint, P: Product>(
         Err(status) => return status,
     };
     let ended = match out {
-        Some(path) => match make_out(rt, path) {
+        Some(path) => match make_out(rt, &opened, path) {
             Ok(made) => run_into(rt, product, command, opened, made),
             Err(status) => return status,
         },
@@ -87,10 +88,13 @@ pub fn source_of<R: AllocGlobal + Eprint, F: Read + Drop>(
 }
 
 // Makes OUT, for its owner alone since it holds keys; or empties the one that is there, whose mode stays but for what it lets others
-// do. If that fails, it is printed, and the exit status is the error.
-fn make_out<R: Files + Eprint>(rt: &R, out: &str) -> Result<R::File, u8>
+// do. If that fails, or OUT is the file that is open, it is printed, and the exit status is the error.
+fn make_out<R: Files + Eprint>(rt: &R, opened: &R::File, out: &str) -> Result<R::File, u8>
     ensures { IfErr result (λ status. status ≡ 3) }
 {
+    if is_open_file(rt, opened, out) {
+        return Err(complain(rt, same_line(out), FAILED));
+    }
     let mut options = OpenOptions::new();
     let options = options
         .write(true)

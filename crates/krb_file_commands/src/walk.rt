@@ -1,6 +1,6 @@
 //! Reading a keytab or a cache, with one entry or credential at hand at a time, and making bytes of it.
 
-ghost use Rattle.std.specs.Prelude.{◌≡◌, ◌-◌, ◌^◌, ◌<◌, ℕ, List, [], Option, None};
+ghost use Rattle.std.specs.Prelude.{◌≡◌, ℕ, List, [], Option, None};
 ghost use Rattle.krb_ccache.specs.Value.{Cache};
 ghost use Rattle.krb_keytab.specs.Entry.{KeytabEntry};
 ghost use Rattle.krb_keytab.specs.Items.{HasRead, last_answer};
@@ -22,7 +22,6 @@ pub(crate) trait FromEntries {
         alloc: Global,
         reader: &mut EntryReader<S>,
     ) -> Result<Vec<u8>, KeytabFault>
-        requires reads { S.failure_count reader.old.source < 2 ^ 64 - 1 }
         requires start { HasRead (S.remaining reader.old.source) reader.old [] [] }
         requires going { last_answer reader.old.stage ≡ None }
         ensures made { ReadsKeytab (S.remaining reader.old.source) (S.remaining reader.new.source)
@@ -41,7 +40,6 @@ pub(crate) trait FromCredentials {
         alloc: Global,
         reader: &mut CredentialReader<S>,
     ) -> Result<Vec<u8>, CacheFault>
-        requires reads { S.failure_count reader.old.source < 2 ^ 64 - 1 }
         requires going { reader.old.ended ≡ None }
         ensures made { (from : Option (List ℕ)) → IsOpened S.remaining from reader.old
             → ReadsCache from (S.remaining reader.new.source)
@@ -58,7 +56,6 @@ pub(crate) fn walk_keytab<M: FromEntries, S: Source>(
     alloc: Global,
     source: &mut S,
 ) -> Result<Vec<u8>, KeytabFault>
-    requires { S.failure_count source.old < 2 ^ 64 - 1 }
     ensures { ReadsKeytab (S.remaining source.old) (S.remaining source.new)
         (S.failure_count source.old) (S.failure_count source.new)
         (λ made entries. made.items ≡ M.of_entries entries) result }
@@ -77,7 +74,6 @@ pub(crate) fn walk_ccache<M: FromCredentials, S: Source>(
     alloc: Global,
     source: &mut S,
 ) -> Result<Vec<u8>, CacheFault>
-    requires { S.failure_count source.old < 2 ^ 64 - 1 }
     ensures { ReadsCache (S.remaining source.old) (S.remaining source.new)
         (S.failure_count source.old) (S.failure_count source.new)
         (λ made cache. made.items ≡ M.of_cache cache) result }

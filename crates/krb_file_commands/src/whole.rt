@@ -1,6 +1,7 @@
 //! The bytes of a whole keytab.
 
-ghost use Rattle.std.specs.Prelude.{◌≡◌, ◌⊎◌, ◌+◌, ◌-◌, ◌^◌, ◌<◌, [], IfOk, IfErr, IfSome};
+ghost use Rattle.std.specs.Prelude.{◌≡◌, ◌⊎◌, [], IfOk, IfErr, IfSome};
+ghost use Rattle.krb_name.specs.Flow.{counted};
 ghost use Rattle.krb_name.specs.File.{TakesFile};
 ghost use Rattle.krb_file_commands.specs.Engine.{failed_by};
 ghost use Rattle.krb_file_commands.specs.Inner.Whole.{HoldsFile};
@@ -16,14 +17,13 @@ use std::alloc::Global;
 /// - `Read`: a read of the source failed.
 /// - `OutOfMemory`: there is no memory for the bytes.
 pub(crate) fn read_bytes<S: Source>(alloc: Global, source: &mut S) -> Result<Vec<u8>, KeytabFault>
-    requires { S.failure_count source.old < 2 ^ 64 - 1 }
     ensures bytes { IfOk result (λ bytes.
         IfSome (S.remaining source.old) (λ whole. HoldsFile whole bytes.items)) }
     ensures which { IfErr result (λ fault.
         (fault ≡ KeytabFault.OutOfMemory) ⊎ (fault ≡ KeytabFault.Read)) }
     ensures taken { TakesFile (S.remaining source.old) (S.remaining source.new) }
     ensures failed { S.failure_count source.new
-        ≡ S.failure_count source.old + failed_by keytab_reads result }
+        ≡ counted (S.failure_count source.old) (failed_by keytab_reads result) }
 {
     let mut window = Window::new(alloc, source);
     let bytes = window_bytes(alloc, &mut window);
@@ -33,7 +33,6 @@ pub(crate) fn read_bytes<S: Source>(alloc: Global, source: &mut S) -> Result<Vec
 
 // Reads the bytes through a window that holds none yet.
 fn window_bytes<S: Source>(alloc: Global, window: &mut Window<S>) -> Result<Vec<u8>, KeytabFault>
-    requires reads { S.failure_count window.old.source < 2 ^ 64 - 1 }
     requires start { window.old.given ≡ 0 }
     requires empty { window.old.bytes ≡ [] }
     ensures bytes { IfOk result (λ bytes.
@@ -42,7 +41,7 @@ fn window_bytes<S: Source>(alloc: Global, window: &mut Window<S>) -> Result<Vec<
         (fault ≡ KeytabFault.OutOfMemory) ⊎ (fault ≡ KeytabFault.Read)) }
     ensures taken { TakesFile (S.remaining window.old.source) (S.remaining window.new.source) }
     ensures failed { S.failure_count window.new.source
-        ≡ S.failure_count window.old.source + failed_by keytab_reads result }
+        ≡ counted (S.failure_count window.old.source) (failed_by keytab_reads result) }
     ensures lent { S.lender window.new.source ≡ S.lender window.old.source }
 {
     window.fill(FILE_LIMIT + 1)?;

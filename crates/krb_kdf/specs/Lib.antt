@@ -1,2 +1,3 @@
+pub mod BaseKey
 pub mod Hmac
 pub mod Kdf

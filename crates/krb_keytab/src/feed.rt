@@ -1,7 +1,7 @@
 //! What the bytes of a keytab are taken from, piece by piece: a source, or a slice.
 
-ghost use Rattle.std.specs.Prelude.{◌≡◌, ◌+◌, ◌-◌, ◌++◌, ◌^◌, ◌<◌, ℕ, List, [], Option, Some, Err, ⊤, is_ok, length, min, if◌then◌else◌};
-ghost use Rattle.krb_name.specs.Flow.{failed_reads};
+ghost use Rattle.std.specs.Prelude.{◌≡◌, ◌+◌, ◌++◌, ◌^◌, ◌<◌, ℕ, List, [], Option, Some, Err, ⊤, is_ok, length, min, if◌then◌else◌};
+ghost use Rattle.krb_name.specs.Flow.{counted, failed_reads};
 ghost use Rattle.krb_name.specs.Window.{AtHand, Fills, Passes};
 
 use krb_name::{ReadFault, SliceSource, Source, SourceFailed, Window};
@@ -38,22 +38,20 @@ pub(crate) trait Feed {
     /// Takes the next `count` bytes, holds them alone, and returns whether so many came. Fewer come
     /// only at the end.
     fn hold(&mut self, count: usize) -> Result<bool, ReadFault>
-        requires reads { failure_count self.old < 2 ^ 64 - 1 }
         requires count { (at_hand self.old).given + count < 2 ^ 64 }
         ensures fills { Fills (remaining self.old) (remaining self.new)
             (record (at_hand self.old) { bytes = [] }) (at_hand self.new) count result }
         ensures memory { result ≡ Err ReadFault.OutOfMemory → allocates }
-        ensures failed { failure_count self.new ≡ failure_count self.old + failed_reads result }
+        ensures failed { failure_count self.new ≡ counted (failure_count self.old) (failed_reads result) }
         ensures lent { lender self.new ≡ lender self.old };
 
     /// Takes the next `count` bytes, holds none of them, and returns whether so many came. Fewer
     /// come only at the end.
     fn skip(&mut self, count: usize) -> Result<bool, SourceFailed>
-        requires reads { failure_count self.old < 2 ^ 64 - 1 }
         requires count { (at_hand self.old).given + count < 2 ^ 64 }
         ensures passes { Passes (remaining self.old) (remaining self.new)
             (at_hand self.old) (at_hand self.new) count result }
-        ensures failed { failure_count self.new ≡ failure_count self.old + (if is_ok result then 0 else 1) }
+        ensures failed { failure_count self.new ≡ counted (failure_count self.old) (if is_ok result then 0 else 1) }
         ensures lent { lender self.new ≡ lender self.old };
 }
 

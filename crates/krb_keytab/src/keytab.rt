@@ -1,7 +1,8 @@
 //! A keytab: the list of its entries.
 
-ghost use Rattle.std.specs.Prelude.{◌≡◌, ◌≢◌, ◌⊎◌, ◌≤◌, ◌<◌, ◌^◌, ◌-◌, ◌+◌, ℕ, List, All, IsTrue, ◌↔◌, take, IfOk, IfErr, IfSome, OnOk, Some, Err, Result, length};
+ghost use Rattle.std.specs.Prelude.{◌≡◌, ◌≢◌, ◌⊎◌, ◌≤◌, ◌<◌, ℕ, List, All, IsTrue, ◌↔◌, take, IfOk, IfErr, IfSome, OnOk, Some, Err, Result, length};
 ghost use Rattle.std.specs.Io.KnownBytes.{IsAtEnd};
+ghost use Rattle.krb_name.specs.Flow.{counted};
 ghost use Rattle.krb_keytab.specs.Entry.{KeytabEntry};
 ghost use Rattle.krb_keytab.specs.Fault.{offset_of, failed_reads};
 ghost use Rattle.krb_keytab.specs.Only.{KeepsOnly};
@@ -93,20 +94,17 @@ impl Keytab {
     /// Holds the entries, their hashes, and the bytes of one record at a time. A hole's bytes aren't
     /// kept. After the last entry it allocates an index, as `parse` does.
     ///
-    /// Condition: fewer than 18,446,744,073,709,551,615 reads of the source have failed so far.
-    ///
     /// # Errors
-    /// - `Read`: a read of the source failed. The source's count of failures grew, as it does for
-    ///   no other answer.
+    /// - `Read`: a read of the source failed. The source counted a failure, as it does for no other
+    ///   answer.
     /// - Those of `parse`, for all the bytes that the source still had. But `OutOfMemory` may be
     ///   reported instead of a fault that comes later.
     ///
     /// Source: MIT krb5, "Keytab file format".
     pub fn read<S: Source>(alloc: Global, source: &mut S) -> Result<Keytab, KeytabFault>
-        requires { S.failure_count source.old < 2 ^ 64 - 1 }
         ensures reads { ReadsFile IsAnswerOf KeytabFault.OutOfMemory KeytabFault.Read
             (S.remaining source.old) (S.remaining source.new) result }
-        ensures failed { S.failure_count source.new ≡ S.failure_count source.old + failed_reads result }
+        ensures failed { S.failure_count source.new ≡ counted (S.failure_count source.old) (failed_reads result) }
     {
         let mut window = Window::new(alloc, source);
         let answer = Keytab::read_from(alloc, &mut window);
@@ -116,11 +114,10 @@ impl Keytab {
 
     // Reads a keytab to its end.
     fn read_from<F: Feed>(alloc: Global, feed: &mut F) -> Result<Keytab, KeytabFault>
-        requires reads { F.failure_count feed.old < 2 ^ 64 - 1 }
         requires start { (F.at_hand feed.old).given ≡ 0 }
         ensures reads { ReadsFile IsAnswerOf KeytabFault.OutOfMemory KeytabFault.Read
             (F.remaining feed.old) (F.remaining feed.new) result }
-        ensures failed { F.failure_count feed.new ≡ F.failure_count feed.old + failed_reads result }
+        ensures failed { F.failure_count feed.new ≡ counted (F.failure_count feed.old) (failed_reads result) }
         ensures lent { F.lender feed.new ≡ F.lender feed.old }
     {
         match read_entries(alloc, feed) {

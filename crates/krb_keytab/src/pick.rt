@@ -8,7 +8,7 @@ ghost use Rattle.krb_keytab.specs.Pick.{IsPicked};
 
 use crate::entry::Entry;
 use crate::usable::{has_version, is_key};
-use krb_name::{NamedList, Principal};
+use krb_name::{NamedList, Principal, SoughtName};
 
 /// What a keytab has for a principal, an encryption type and a version number.
 #[derive(Clone, Copy)]
@@ -73,9 +73,10 @@ pub(crate) fn pick_entry<'a>(
 ) -> Picked<'a>
     ensures { IsPicked entries.now name.now etype kvno result }
 {
+    let sought = SoughtName::new(name);
     let mut picked = Picked::NoName;
     let mut from = 0;
-    while let Some(at) = entries.find(name, from) {
+    while let Some(at) = entries.find(&sought, from) {
         picked = picked.or_entry(&entries.as_slice()[at], etype, kvno);
         from = at + 1;
     }

@@ -1,7 +1,8 @@
 //! Entries, one at a time.
 
-ghost use Rattle.std.specs.Prelude.{◌≡◌, ◌+◌, ◌-◌, ◌^◌, ◌<◌, ◌≤◌, ℕ, true, List, [], ◌++◌, Option, None, Result, Ok, IfSome, if◌then◌else◌, is_some};
+ghost use Rattle.std.specs.Prelude.{◌≡◌, ◌+◌, ◌<◌, ◌≤◌, ℕ, true, List, [], ◌++◌, Option, None, Result, Ok, IfSome, if◌then◌else◌, is_some};
 ghost use Rattle.std.specs.Io.KnownBytes.{Consumes};
+ghost use Rattle.krb_name.specs.Flow.{counted};
 ghost use Rattle.krb_keytab.specs.Entry.{KeytabEntry};
 ghost use Rattle.krb_keytab.specs.Fault.{failed_reads};
 ghost use Rattle.krb_name.specs.File.{file_limit};
@@ -103,11 +104,9 @@ impl<S: Source> EntryReader<S> {
     /// all the bytes. The end and each fault, including `Read` and `OutOfMemory`, are returned
     /// again by each later call, which reads nothing.
     ///
-    /// Condition: fewer than 18,446,744,073,709,551,615 reads of the source have failed so far.
-    ///
     /// # Errors
-    /// - `Read`: a read of the source failed. The source's count of failures grew, as it does for
-    ///   no other answer.
+    /// - `Read`: a read of the source failed. The source counted a failure, as it does for no other
+    ///   answer.
     /// - `OutOfMemory`: there is no memory for a record or its entry.
     /// - Else the first that applies to all the bytes: `TooLong`, `Version`, and `Truncated` or
     ///   `BadEntry` with the offset of the first record that has too few bytes, or that no entry
@@ -115,7 +114,6 @@ impl<S: Source> EntryReader<S> {
     ///
     /// Source: MIT krb5, "Keytab file format".
     pub fn next(&mut self, alloc: Global) -> Result<Option<Entry>, KeytabFault>
-        requires { S.failure_count self.old.source < 2 ^ 64 - 1 }
 
         // Whatever was read and given before: what the source gave now comes after it.
         ensures reads { (bytes : List ℕ) (entries : List KeytabEntry)
@@ -131,8 +129,8 @@ impl<S: Source> EntryReader<S> {
         // What was answered last is answered again, and nothing is read.
         ensures again { IfSome (last_answer self.old.stage) (λ answer.
             (result ≡ answer) × (self.new ≡ self.old)) }
-        ensures failed { S.failure_count self.new.source ≡ S.failure_count self.old.source
-            + (if is_some (last_answer self.old.stage) then 0 else failed_reads result) }
+        ensures failed { S.failure_count self.new.source ≡ counted (S.failure_count self.old.source)
+            (if is_some (last_answer self.old.stage) then 0 else failed_reads result) }
         ensures lent { S.lender self.new.source ≡ S.lender self.old.source }
     {
         let answer = match self.stage {
@@ -152,14 +150,11 @@ impl<S: Source> EntryReader<S> {
     /// an entry the source has given exactly the bytes up to the end of its record, and the bytes
     /// after the record's size were held at once. The two calls can be mixed.
     ///
-    /// Condition: fewer than 18,446,744,073,709,551,615 reads of the source have failed so far.
-    ///
     /// # Errors
     /// Those of `next`; `OutOfMemory` only if there is no memory for a record.
     ///
     /// Source: MIT krb5, "Keytab file format".
     pub fn pass(&mut self) -> Result<bool, KeytabFault>
-        requires { S.failure_count self.old.source < 2 ^ 64 - 1 }
 
         // It is as if `next` had answered, and only whether there is an entry is said of it.
         ensures reads { (bytes : List ℕ) (entries : List KeytabEntry)
@@ -177,8 +172,8 @@ impl<S: Source> EntryReader<S> {
         // What was answered last is answered again, and nothing is read.
         ensures again { IfSome (last_answer self.old.stage) (λ answer.
             (result ≡ passed answer) × (self.new ≡ self.old)) }
-        ensures failed { S.failure_count self.new.source ≡ S.failure_count self.old.source
-            + (if is_some (last_answer self.old.stage) then 0 else failed_reads result) }
+        ensures failed { S.failure_count self.new.source ≡ counted (S.failure_count self.old.source)
+            (if is_some (last_answer self.old.stage) then 0 else failed_reads result) }
         ensures lent { S.lender self.new.source ≡ S.lender self.old.source }
     {
         let answer = match self.stage {
@@ -197,12 +192,11 @@ fn read_first<S: Source>(
     alloc: Global,
     window: &mut Window<S>,
 ) -> Result<Option<Entry>, KeytabFault>
-    requires reads { S.failure_count window.old.source < 2 ^ 64 - 1 }
     requires start { window.old.given ≡ 0 }
     ensures meets { MeetsFirst (S.remaining window.old.source) (S.remaining window.new.source)
         window.old window.new result }
     ensures failed { S.failure_count window.new.source
-        ≡ S.failure_count window.old.source + failed_reads result }
+        ≡ counted (S.failure_count window.old.source) (failed_reads result) }
     ensures lent { S.lender window.new.source ≡ S.lender window.old.source }
 {
     read_version(window)?;
@@ -211,13 +205,12 @@ fn read_first<S: Source>(
 
 // Reads the version, and then on to the first entry, and returns whether there is one.
 fn pass_first<S: Source>(window: &mut Window<S>) -> Result<bool, KeytabFault>
-    requires reads { S.failure_count window.old.source < 2 ^ 64 - 1 }
     requires start { window.old.given ≡ 0 }
     ensures meets { (answer : Result (Option KeytabEntry) KeytabFault) × (result ≡ passed answer)
         × MeetsFirst (S.remaining window.old.source) (S.remaining window.new.source)
         window.old window.new answer }
     ensures failed { S.failure_count window.new.source
-        ≡ S.failure_count window.old.source + failed_reads result }
+        ≡ counted (S.failure_count window.old.source) (failed_reads result) }
     ensures lent { S.lender window.new.source ≡ S.lender window.old.source }
 {
     read_version(window)?;

@@ -1,7 +1,8 @@
 //! Reading a keytab record by record, with one record in memory.
 
-ghost use Rattle.std.specs.Prelude.{◌≡◌, ◌≢◌, ◌⊎◌, ◌+◌, ◌-◌, ◌^◌, ◌<◌, ◌≤◌, pos, neg_ℤ, true, false, FitsSigned, unsigned_abs, length, IfOk, IfErr, OnErr, MatchOption, None, Some, Err};
+ghost use Rattle.std.specs.Prelude.{◌≡◌, ◌≢◌, ◌⊎◌, ◌+◌, ◌<◌, ◌≤◌, pos, neg_ℤ, true, false, FitsSigned, unsigned_abs, length, IfOk, IfErr, OnErr, MatchOption, None, Some, Err};
 ghost use Rattle.std.specs.Int.{w32};
+ghost use Rattle.krb_name.specs.Flow.{counted};
 ghost use Rattle.krb_name.specs.Cursor.{signed_bytes};
 ghost use Rattle.krb_keytab.specs.Entry.{KeytabEntry};
 ghost use Rattle.krb_keytab.specs.Inner.Entry.{HoldsEntry, HoldsNone};
@@ -27,12 +28,11 @@ pub(crate) const SIZE_LENGTH: usize = 4;
 
 /// Reads the version of a file.
 pub(crate) fn read_version<F: Feed>(feed: &mut F) -> Result<(), KeytabFault>
-    requires reads { F.failure_count feed.old < 2 ^ 64 - 1 }
     requires start { (F.at_hand feed.old).given ≡ 0 }
     ensures opens { OpensAt (F.remaining feed.old) (F.remaining feed.new)
         (F.at_hand feed.old) (F.at_hand feed.new) result }
     ensures memory { result ≡ Err KeytabFault.OutOfMemory → F.allocates }
-    ensures failed { F.failure_count feed.new ≡ F.failure_count feed.old + failed_reads result }
+    ensures failed { F.failure_count feed.new ≡ counted (F.failure_count feed.old) (failed_reads result) }
     ensures lent { F.lender feed.new ≡ F.lender feed.old }
 {
     let whole = feed.hold(VERSION.len())?;
@@ -50,13 +50,12 @@ pub(crate) fn read_entries<F: Feed>(
     alloc: Global,
     feed: &mut F,
 ) -> Result<NamedListBuilder<Entry>, KeytabFault>
-    requires reads { F.failure_count feed.old < 2 ^ 64 - 1 }
     requires start { (F.at_hand feed.old).given ≡ 0 }
     ensures found { IfOk result (λ entries. IsFound
         (F.remaining feed.old) (F.remaining feed.new) entries) }
     ensures fault { IfErr result (IsFaulty (F.remaining feed.old) (F.remaining feed.new)) }
     ensures taken { TakesFile (F.remaining feed.old) (F.remaining feed.new) }
-    ensures failed { F.failure_count feed.new ≡ F.failure_count feed.old + failed_reads result }
+    ensures failed { F.failure_count feed.new ≡ counted (F.failure_count feed.old) (failed_reads result) }
     ensures lent { F.lender feed.new ≡ F.lender feed.old }
 {
     read_version(feed)?;
@@ -71,11 +70,10 @@ pub(crate) fn read_entries<F: Feed>(
 
 /// Reads records up to the next entry and returns it, or none if the records have ended.
 pub(crate) fn read_entry<F: Feed>(alloc: Global, feed: &mut F) -> Result<Option<Entry>, KeytabFault>
-    requires reads { F.failure_count feed.old < 2 ^ 64 - 1 }
     requires limit { (F.at_hand feed.old).given ≤ file_limit }
     ensures meets { MeetsNext (F.remaining feed.old) (F.remaining feed.new)
         (F.at_hand feed.old) (F.at_hand feed.new) result }
-    ensures failed { F.failure_count feed.new ≡ F.failure_count feed.old + failed_reads result }
+    ensures failed { F.failure_count feed.new ≡ counted (F.failure_count feed.old) (failed_reads result) }
     ensures lent { F.lender feed.new ≡ F.lender feed.old }
 {
     next_entry(feed, &alloc)
@@ -84,11 +82,10 @@ pub(crate) fn read_entry<F: Feed>(alloc: Global, feed: &mut F) -> Result<Option<
 /// Reads records up to the next entry, and returns whether there is one. There is none if the
 /// records have ended.
 pub(crate) fn pass_entry<F: Feed>(feed: &mut F) -> Result<bool, KeytabFault>
-    requires reads { F.failure_count feed.old < 2 ^ 64 - 1 }
     requires limit { (F.at_hand feed.old).given ≤ file_limit }
     ensures meets { MeetsPast (F.remaining feed.old) (F.remaining feed.new)
         (F.at_hand feed.old) (F.at_hand feed.new) result }
-    ensures failed { F.failure_count feed.new ≡ F.failure_count feed.old + failed_reads result }
+    ensures failed { F.failure_count feed.new ≡ counted (F.failure_count feed.old) (failed_reads result) }
     ensures lent { F.lender feed.new ≡ F.lender feed.old }
 {
     Ok(next_entry(feed, &Nothing)?.is_some())
@@ -97,11 +94,10 @@ pub(crate) fn pass_entry<F: Feed>(feed: &mut F) -> Result<bool, KeytabFault>
 // Reads records up to the next entry, and returns what is kept of it, or none if the records have
 // ended.
 fn next_entry<F: Feed, K: Keep>(feed: &mut F, keep: &K) -> Result<Option<K::Kept>, KeytabFault>
-    requires reads { F.failure_count feed.old < 2 ^ 64 - 1 }
     requires limit { (F.at_hand feed.old).given ≤ file_limit }
     ensures meets { MeetsKept K.kept_of (F.remaining feed.old)
         (F.remaining feed.new) (F.at_hand feed.old) (F.at_hand feed.new) result }
-    ensures failed { F.failure_count feed.new ≡ F.failure_count feed.old + failed_reads result }
+    ensures failed { F.failure_count feed.new ≡ counted (F.failure_count feed.old) (failed_reads result) }
     ensures lent { F.lender feed.new ≡ F.lender feed.old }
 {
     loop {
@@ -118,12 +114,11 @@ pub(crate) fn read_record<F: Feed, K: Keep>(
     feed: &mut F,
     keep: &K,
 ) -> Result<Found<K::Kept>, KeytabFault>
-    requires reads { F.failure_count feed.old < 2 ^ 64 - 1 }
     requires limit { (F.at_hand feed.old).given ≤ file_limit }
     ensures meets { MeetsOne K.kept_of (F.remaining feed.old)
         (F.remaining feed.new) (F.at_hand feed.old) (F.at_hand feed.new) result }
     ensures memory { result ≡ Err KeytabFault.OutOfMemory → F.allocates ⊎ K.allocates }
-    ensures failed { F.failure_count feed.new ≡ F.failure_count feed.old + failed_reads result }
+    ensures failed { F.failure_count feed.new ≡ counted (F.failure_count feed.old) (failed_reads result) }
     ensures lent { F.lender feed.new ≡ F.lender feed.old }
 {
     let at = feed.given();
@@ -143,12 +138,11 @@ pub(crate) fn read_record<F: Feed, K: Keep>(
 
 // Reads the size of a record; none if the records have ended.
 fn read_size<F: Feed>(feed: &mut F) -> Result<Option<i32>, KeytabFault>
-    requires reads { F.failure_count feed.old < 2 ^ 64 - 1 }
     requires limit { (F.at_hand feed.old).given ≤ file_limit }
     ensures meets { MeetsSizeAt (F.remaining feed.old) (F.remaining feed.new)
         (F.at_hand feed.old) (F.at_hand feed.new) result }
     ensures memory { result ≡ Err KeytabFault.OutOfMemory → F.allocates }
-    ensures failed { F.failure_count feed.new ≡ F.failure_count feed.old + failed_reads result }
+    ensures failed { F.failure_count feed.new ≡ counted (F.failure_count feed.old) (failed_reads result) }
     ensures lent { F.lender feed.new ≡ F.lender feed.old }
 {
     let at = feed.given();
@@ -199,7 +193,6 @@ fn pass_hole<F: Feed, E: Drop>(
     at: usize,
     count: usize,
 ) -> Result<Found<E>, KeytabFault>
-    requires reads { F.failure_count feed.old < 2 ^ 64 - 1 }
     requires at { (F.at_hand feed.old).given ≡ at + 4 }
     requires some { 0 < count }
     requires limit { at + 4 + count ≤ file_limit }
@@ -208,7 +201,7 @@ fn pass_hole<F: Feed, E: Drop>(
         (F.at_hand feed.old) (F.at_hand feed.new) at (neg_ℤ (pos count)) result }
     ensures kept { (F.at_hand feed.new).bytes ≡ (F.at_hand feed.old).bytes }
     ensures memory { result ≢ Err KeytabFault.OutOfMemory }
-    ensures failed { F.failure_count feed.new ≡ F.failure_count feed.old + failed_reads result }
+    ensures failed { F.failure_count feed.new ≡ counted (F.failure_count feed.old) (failed_reads result) }
     ensures lent { F.lender feed.new ≡ F.lender feed.old }
 {
     match feed.skip(count) {
@@ -225,14 +218,13 @@ fn read_content<F: Feed, K: Keep>(
     count: usize,
     keep: &K,
 ) -> Result<Found<K::Kept>, KeytabFault>
-    requires reads { F.failure_count feed.old < 2 ^ 64 - 1 }
     requires at { (F.at_hand feed.old).given ≡ at + 4 }
     requires some { 0 < count }
     requires limit { at + 4 + count ≤ file_limit }
     ensures meets { MeetsBody K.kept_of (F.remaining feed.old) (F.remaining feed.new)
         (F.at_hand feed.old) (F.at_hand feed.new) at (pos count) result }
     ensures memory { result ≡ Err KeytabFault.OutOfMemory → F.allocates ⊎ K.allocates }
-    ensures failed { F.failure_count feed.new ≡ F.failure_count feed.old + failed_reads result }
+    ensures failed { F.failure_count feed.new ≡ counted (F.failure_count feed.old) (failed_reads result) }
     ensures lent { F.lender feed.new ≡ F.lender feed.old }
 {
     if !feed.hold(count)? {
@@ -258,13 +250,12 @@ fn keep_of<K: Keep>(body: &[u8], keep: &K) -> Result<Option<K::Kept>, AllocError
 
 // Answers `last` once the source has run out, and otherwise that there are too many bytes.
 fn conclude<F: Feed, T: Drop>(feed: &mut F, last: Result<T, KeytabFault>) -> Result<T, KeytabFault>
-    requires reads { F.failure_count feed.old < 2 ^ 64 - 1 }
     requires limit { (F.at_hand feed.old).given ≤ file_limit }
     requires last { failed_reads last ≡ 0 }
     ensures runs_out { RunsOutTo (F.remaining feed.old) (F.remaining feed.new)
         (F.at_hand feed.old) (F.at_hand feed.new) last result }
     ensures memory { result ≡ Err KeytabFault.OutOfMemory → last ≡ Err KeytabFault.OutOfMemory }
-    ensures failed { F.failure_count feed.new ≡ F.failure_count feed.old + failed_reads result }
+    ensures failed { F.failure_count feed.new ≡ counted (F.failure_count feed.old) (failed_reads result) }
     ensures lent { F.lender feed.new ≡ F.lender feed.old }
 {
     match feed.skip(FILE_LIMIT + 1 - feed.given()) {

@@ -4,6 +4,7 @@ use Rattle.std.specs.Prelude.{max}
 use Rattle.std.proofs.lemmas.List.{length-append, take-take, take_all, take_at, take-append-le}
 use Rattle.std.proofs.Math.Seq.{take-append-add}
 use Rattle.std.proofs.KnownBytes.{Consumes-trans}
+use Rattle.krb_name.specs.Flow.{counted}
 use Rattle.krb_name.specs.Window.{AtHand, Keeps, Skips}
 use Rattle.krb_name.specs.Inner.Window.{ComesOnce, ComesSoFar}
 
@@ -33,7 +34,7 @@ pub one_more : {S E : Type 0} (Comes : Option (List ℕ) → Option (List ℕ) �
     → ((a b c : Option (List ℕ)) (old mid new : AtHand S) (p q : List ℕ) → Comes a b old mid p → Comes b c mid new q → Comes a c old new (p ++ q))
     → (remaining : S → Option (List ℕ)) (failure_count lender : S → ℕ) (old mid new : AtHand S) (count left came : ℕ)
     → ComesSoFar Comes remaining failure_count lender old mid count left → ComesOnce Comes (remaining mid.source) (remaining new.source) mid new left (ok_of E came)
-    → failure_count new.source ≡ failure_count mid.source + 0 → lender new.source ≡ lender mid.source → ComesSoFar Comes remaining failure_count lender old new count (left - came)
+    → failure_count new.source ≡ counted (failure_count mid.source) 0 → lender new.source ≡ lender mid.source → ComesSoFar Comes remaining failure_count lender old new count (left - came)
 one_more Comes join remaining failure_count lender old mid new count left came first second failed lent = record {
   piece = first.piece ++ second.piece;
   comes = join _ _ _ _ _ _ first.piece second.piece first.comes second.comes;

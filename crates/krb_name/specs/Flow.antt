@@ -1,5 +1,5 @@
 -- What sources and sinks consist of, and what moves through them.
-use Rattle.std.specs.Prelude.{ℕ, List, take, Option, Result, Ok, Err}
+use Rattle.std.specs.Prelude.{ℕ, ◌+◌, ◌-◌, ◌^◌, min, List, take, Option, Result, Ok, Err}
 use Rattle.std.specs.Io.KnownBytes.{Appends}
 use Rattle.krb_name.specs.declared.reading.ReadFault.{ReadFault}
 use Rattle.krb_name.specs.declared.reading.ReadFault.TheVariants.{Read as ReadFailed, OutOfMemory}
@@ -23,6 +23,10 @@ sink_failures s = s.failures
 -- a sink took a beginning of these bytes
 abbrev pub AppendsBeginning : Option (List ℕ) → Option (List ℕ) → List ℕ → Type 0
 AppendsBeginning old new bytes = (count : ℕ) × Appends old new (take count bytes)
+
+-- a count of failures after so many more: it grows to 2^64 - 1 and stays there
+abbrev pub counted : ℕ → ℕ → ℕ
+counted count more = count + min more (2 ^ 64 - 1 - count)
 
 -- how many failed reads an answer reports
 abbrev pub failed_reads : {T : Type 0} → Result T ReadFault → ℕ

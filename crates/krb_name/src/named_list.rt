@@ -6,6 +6,7 @@ ghost use Rattle.krb_name.specs.Named.{IsFirstNamed, HasOtherName, KeepsNamed};
 ghost use Rattle.krb_name.specs.Inner.Named.{OthersBetween};
 
 use crate::principal::Principal;
+use crate::sought_name::SoughtName;
 use krb_index::HashIndex;
 use std::alloc::{AllocError, Global};
 use std::marker::Model;
@@ -64,14 +65,15 @@ impl<T: Named + Drop> NamedList<T> {
 
     /// Returns the index of the first item, from the index `from` on, that has this name. Returns
     /// `None` if there is none. Name types aren't compared.
-    pub fn find(&self, name: &Principal, from: usize) -> Option<usize>
+    pub fn find(&self, name: &SoughtName<'_>, from: usize) -> Option<usize>
         ensures found { IfSome result (IsFirstNamed T.name_of self.now name.now from) }
         ensures within { IfSome result (λ at. at < length self.now) }
         ensures none { IfNone result (All (HasOtherName T.name_of name.now) (drop from self.now)) }
     {
+        let wanted = name.principal();
         let mut next = from;
         while let Some(at) = self.candidate(name, next) {
-            if self.items[at].name().same_name(name) {
+            if self.items[at].name().same_name(wanted) {
                 return Some(at);
             }
             next = at + 1;
@@ -92,14 +94,14 @@ impl<T: Named + Drop> NamedList<T> {
     }
 
     // The first item, from the index `from` on, that may have this name.
-    fn candidate(&self, name: &Principal, from: usize) -> Option<usize>
+    fn candidate(&self, name: &SoughtName<'_>, from: usize) -> Option<usize>
         ensures { MatchOption result
             (OthersBetween T.name_of self.now name.now from (length self.now))
             (λ at. (from ≤ at) × (at < length self.now)
             × OthersBetween T.name_of self.now name.now from at) }
     {
         match &self.index {
-            Some(index) => index.find(name.name_hash(), from),
+            Some(index) => index.find(name.hash(), from),
             None if from < self.items.len() => Some(from),
             None => None,
         }

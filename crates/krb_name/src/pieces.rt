@@ -1,9 +1,10 @@
 //! Sources and sinks for tests. They move a few bytes in each call, and fail if a test asks for it.
 
-ghost use Rattle.std.specs.Prelude.{ℕ, ◌≡◌, ◌≢◌, ◌+◌, ◌-◌, ◌^◌, ◌<◌, ◌≤◌, ◌↔◌, min, Some, None, IfOk, IsErr, IsOk, is_ok, length, take, [], if◌then◌else◌};
+ghost use Rattle.std.specs.Prelude.{ℕ, ◌≡◌, ◌≢◌, ◌-◌, ◌<◌, ◌≤◌, ◌↔◌, min, Some, None, IfOk, IsErr, IsOk, is_ok, length, take, [], if◌then◌else◌};
 ghost use Rattle.std.specs.Option.{ForSome};
 ghost use Rattle.std.specs.Io.{ReadsAtMost, WritesAtMost};
 ghost use Rattle.std.specs.Io.KnownBytes.{ReadConsumes, WriteAppends};
+ghost use Rattle.krb_name.specs.Flow.{counted};
 ghost use Rattle.krb_name.specs.Pieces.{Pieces, SinkPieces, fails_next};
 
 use crate::sink::{Sink, SinkFailed};
@@ -65,10 +66,9 @@ impl Source for PieceSource<'_> {
     }
 
     fn read(&mut self, buffer: &mut [u8]) -> Result<usize, SourceFailed>
-        requires { self.old.failures < 2 ^ 64 - 1 }
         ensures bound { ReadsAtMost result buffer.new }
         ensures bytes { ReadConsumes (Some self.old.bytes) (Some self.new.bytes) result buffer.new }
-        ensures failed { self.new.failures ≡ self.old.failures + (if is_ok result then 0 else 1) }
+        ensures failed { self.new.failures ≡ counted self.old.failures (if is_ok result then 0 else 1) }
         ensures lent { ◌≡◌ {A = ℕ} 0 0 }
         ensures fails { IsErr result ↔ (self.old.fails_in ≡ Some 1) }
         ensures count { IfOk result (λ n.
@@ -79,7 +79,7 @@ impl Source for PieceSource<'_> {
         let fails = self.fails_in == Some(1);
         self.fails_in = counted_down(self.fails_in);
         if fails {
-            self.failures += 1;
+            self.failures = self.failures.saturating_add(1);
             return Err(SourceFailed);
         }
         let count = self.piece.min(buffer.len()).min(self.rest.len());
@@ -156,13 +156,12 @@ impl Sink for PieceSink<'_> {
     }
 
     fn write(&mut self, bytes: &[u8]) -> Result<usize, SinkFailed>
-        requires { self.old.pieces.failures < 2 ^ 64 - 1 }
         ensures bound { WritesAtMost result bytes.now }
         ensures some { IfOk result (λ count. 0 < length bytes.now → 0 < count) }
         ensures bytes { WriteAppends (Some self.old.pieces.bytes) (Some self.new.pieces.bytes)
             result bytes.now }
         ensures failed { self.new.pieces.failures
-            ≡ self.old.pieces.failures + (if is_ok result then 0 else 1) }
+            ≡ counted self.old.pieces.failures (if is_ok result then 0 else 1) }
         ensures fails { self.old.pieces.fails_in ≡ Some 1 → IsErr result }
         ensures full { length self.old.pieces.bytes ≡ self.old.size → 0 < length bytes.now → IsErr result }
         ensures goes { self.old.pieces.fails_in ≢ Some 1
@@ -179,7 +178,7 @@ impl Sink for PieceSink<'_> {
         let room = self.room.len() - self.len;
         let count = self.piece.min(bytes.len()).min(room);
         if fails || (count == 0 && !bytes.is_empty()) {
-            self.failures += 1;
+            self.failures = self.failures.saturating_add(1);
             return Err(SinkFailed);
         }
         let end = self.len + count;

@@ -1,6 +1,6 @@
 //! A principal's name.
 
-ghost use Rattle.std.specs.Prelude.{◌≡◌, ◌↔◌, ◌++◌, Result, IsTrue, IfOk, OnOk, string_bytes};
+ghost use Rattle.std.specs.Prelude.{◌≡◌, ◌↔◌, ◌++◌, Result, IsTrue, IfOk, OnOk, OnErr, string_bytes};
 
 use crate::bytes::Bytes;
 use crate::components::Components;
@@ -62,15 +62,24 @@ impl Principal {
         ensures { IfOk result (λ text. string_bytes text ≡ text_of self.now) }
     {
         let mut text = String::with_capacity(alloc, self.plain_len())?;
-        self.write_text(&mut text)?;
+        self.write_into(&mut text)?;
         Ok(text)
     }
 
     /// Appends the text that `to_text` returns.
     ///
     /// # Errors
-    /// There is no memory. The text is then unspecified.
+    /// There is no memory. The text is then unchanged.
     pub fn write_text(&self, text: &mut String) -> Result<(), AllocError>
+        ensures ok { OnOk result (string_bytes text.new ≡ string_bytes text.old ++ text_of self.now) }
+        ensures err { OnErr result (string_bytes text.new ≡ string_bytes text.old) }
+    {
+        let own = self.to_text(*text.allocator())?;
+        text.push_str(&own)
+    }
+
+    // Appends the text. Without memory, it may append a part of it.
+    fn write_into(&self, text: &mut String) -> Result<(), AllocError>
         ensures { OnOk result (string_bytes text.new ≡ string_bytes text.old ++ text_of self.now) }
     {
         write_components(text, self.components.as_slice())?;

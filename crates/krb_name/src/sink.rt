@@ -1,13 +1,14 @@
 //! What bytes are written to.
 
-ghost use Rattle.std.specs.Prelude.{◌≡◌, ◌+◌, ◌-◌, ◌^◌, ◌<◌, ◌≤◌, ℕ, List, Option, Some, None, IfOk, is_ok, length, if◌then◌else◌};
+ghost use Rattle.std.specs.Prelude.{◌≡◌, ◌<◌, ℕ, List, Option, Some, None, IfOk, is_ok, length, if◌then◌else◌};
 ghost use Rattle.std.specs.Io.{WritesAtMost};
 ghost use Rattle.std.specs.Io.KnownBytes.{WriteAppends};
+ghost use Rattle.krb_name.specs.Flow.{counted};
 
 use std::io::Write;
 use thiserror::Error;
 
-/// A write failed; the sink's count of failures has grown by one.
+/// A write failed, and the sink counted it.
 #[derive(Clone, Copy, Debug, PartialEq, Eq, Error)]
 #[error("the sink could not be written")]
 pub struct SinkFailed;
@@ -17,25 +18,22 @@ pub trait Sink {
     /// The bytes that it took, if the sink says which.
     ghost taken: { Self → Option (List ℕ) } = { λ _. None };
 
-    /// How many writes have failed.
+    /// How many writes have failed, or 2^64 - 1 if more have.
     ghost failure_count: { Self → ℕ };
 
-    /// Returns how many writes have failed.
+    /// Returns how many writes have failed, or 18,446,744,073,709,551,615 if more have.
     fn failures(&self) -> u64
         ensures { result ≡ failure_count self.now };
 
     /// Takes the first of `bytes`, and returns how many bytes it took: at most all of them, and at
     /// least one if there is one. The count of failures grows by one with each `Err`, which takes
-    /// no byte, and not otherwise.
-    ///
-    /// Condition: fewer than 18,446,744,073,709,551,615 writes to the sink have failed so far.
+    /// no byte, and not otherwise. It stays at 18,446,744,073,709,551,615 once it is there.
     fn write(&mut self, bytes: &[u8]) -> Result<usize, SinkFailed>
-        requires { failure_count self.old < 2 ^ 64 - 1 }
         ensures bound { WritesAtMost result bytes.now }
         ensures some { IfOk result (λ count. 0 < length bytes.now → 0 < count) }
         ensures bytes { WriteAppends (taken self.old) (taken self.new) result bytes.now }
         ensures failed { failure_count self.new
-            ≡ failure_count self.old + (if is_ok result then 0 else 1) };
+            ≡ counted (failure_count self.old) (if is_ok result then 0 else 1) };
 }
 
 impl<S: Sink> Sink for &mut S {
@@ -101,7 +99,7 @@ impl<W: Write> Sink for WriteSink<W> {
         match self.writer.write(bytes) {
             Ok(count) if count > 0 || bytes.is_empty() => Ok(count),
             _ => {
-                self.failures += 1;
+                self.failures = self.failures.saturating_add(1);
                 Err(SinkFailed)
             }
         }

@@ -1,8 +1,9 @@
 //! A source over bytes in memory.
 
-ghost use Rattle.std.specs.Prelude.{◌≡◌, ◌+◌, ◌^◌, ◌<◌, ◌-◌, ℕ, List, Some, Ok, is_ok, length, min, if◌then◌else◌};
+ghost use Rattle.std.specs.Prelude.{◌≡◌, ℕ, List, Some, Ok, is_ok, length, min, if◌then◌else◌};
 ghost use Rattle.std.specs.Io.{ReadsAtMost};
 ghost use Rattle.std.specs.Io.KnownBytes.{ReadConsumes};
+ghost use Rattle.krb_name.specs.Flow.{counted};
 
 use crate::source::{Source, SourceFailed};
 use std::marker::Model;
@@ -41,7 +42,7 @@ impl Source for SliceSource<'_> {
     fn read(&mut self, buffer: &mut [u8]) -> Result<usize, SourceFailed>
         ensures bound { ReadsAtMost result buffer.new }
         ensures bytes { ReadConsumes (Some self.old) (Some self.new) result buffer.new }
-        ensures failed { 0 ≡ 0 + (if is_ok result then 0 else 1) }
+        ensures failed { 0 ≡ counted 0 (if is_ok result then 0 else 1) }
         ensures lent { ◌≡◌ {A = ℕ} 0 0 }
         ensures count { result ≡ Ok (min (length buffer.old) (length self.old)) }
     {

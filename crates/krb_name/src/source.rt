@@ -1,13 +1,14 @@
 //! What bytes are read from.
 
-ghost use Rattle.std.specs.Prelude.{◌≡◌, ◌+◌, ◌-◌, ◌^◌, ◌<◌, ℕ, List, Option, Some, None, is_ok, if◌then◌else◌};
+ghost use Rattle.std.specs.Prelude.{◌≡◌, ℕ, List, Option, Some, None, is_ok, if◌then◌else◌};
 ghost use Rattle.std.specs.Io.{ReadsAtMost};
 ghost use Rattle.std.specs.Io.KnownBytes.{ReadConsumes};
+ghost use Rattle.krb_name.specs.Flow.{counted};
 
 use std::io::Read;
 use thiserror::Error;
 
-/// A read failed; the source's count of failures has grown by one.
+/// A read failed, and the source counted it.
 #[derive(Clone, Copy, Debug, PartialEq, Eq, Error)]
 #[error("the source could not be read")]
 pub struct SourceFailed;
@@ -17,28 +18,26 @@ pub trait Source {
     /// The bytes that are still to come, if the source says which.
     ghost remaining: { Self → Option (List ℕ) } = { λ _. None };
 
-    /// How many reads have failed.
+    /// How many reads have failed, or 2^64 - 1 if more have.
     ghost failure_count: { Self → ℕ };
 
     /// The name of the reference through which a borrowed source is used, so that it is kept; 0 for
     /// any other source.
     ghost lender: { Self → ℕ } = { λ _. 0 };
 
-    /// Returns how many reads have failed.
+    /// Returns how many reads have failed, or 18,446,744,073,709,551,615 if more have.
     fn failures(&self) -> u64
         ensures { result ≡ failure_count self.now };
 
     /// Reads into the start of `buffer`, and returns how many bytes came: at most as many as the
     /// buffer has room for. If it has room, `Ok(0)` means the end of the bytes. The count of
-    /// failures grows by one with each `Err`, which loses no byte, and not otherwise.
-    ///
-    /// Condition: fewer than 18,446,744,073,709,551,615 reads of the source have failed so far.
+    /// failures grows by one with each `Err`, which loses no byte, and not otherwise. It stays at
+    /// 18,446,744,073,709,551,615 once it is there.
     fn read(&mut self, buffer: &mut [u8]) -> Result<usize, SourceFailed>
-        requires { failure_count self.old < 2 ^ 64 - 1 }
         ensures bound { ReadsAtMost result buffer.new }
         ensures bytes { ReadConsumes (remaining self.old) (remaining self.new) result buffer.new }
         ensures failed { failure_count self.new
-            ≡ failure_count self.old + (if is_ok result then 0 else 1) }
+            ≡ counted (failure_count self.old) (if is_ok result then 0 else 1) }
         ensures lent { lender self.new ≡ lender self.old };
 }
 
@@ -95,7 +94,7 @@ impl<R: Read> Source for ReadSource<R> {
         match self.reader.read(buffer) {
             Ok(count) => Ok(count),
             Err(_) => {
-                self.failures += 1;
+                self.failures = self.failures.saturating_add(1);
                 Err(SourceFailed)
             }
         }

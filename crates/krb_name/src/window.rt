@@ -1,7 +1,7 @@
 //! The bytes of a source that are held.
 
 ghost use Rattle.std.specs.Prelude.{◌≡◌, ◌+◌, ◌-◌, ◌^◌, ◌<◌, ◌≤◌, [], length, is_ok, if◌then◌else◌};
-ghost use Rattle.krb_name.specs.Flow.{failed_reads};
+ghost use Rattle.krb_name.specs.Flow.{counted, failed_reads};
 ghost use Rattle.krb_name.specs.Window.{Keeps, Skips, Fills, Passes, RunsOut};
 ghost use Rattle.krb_name.specs.Inner.Window.{ReadsBehind, ComesOnce};
 
@@ -105,20 +105,18 @@ impl<S: Source> Window<S> {
     ///
     /// They are read in pieces of at most 65,536, and the buffer grows as they come.
     ///
-    /// Conditions: fewer than 18,446,744,073,709,551,615 reads of the source have failed so far,
-    /// and `count` and the bytes given so far are fewer than 18,446,744,073,709,551,616.
+    /// Condition: `count` and the bytes given so far are fewer than 18,446,744,073,709,551,616.
     ///
     /// # Errors
     /// After each of these, the bytes that came before it are held.
     /// - `Read`: a read failed.
     /// - `OutOfMemory`: there is no memory for the bytes.
     pub fn fill(&mut self, count: usize) -> Result<bool, ReadFault>
-        requires reads { S.failure_count self.old.source < 2 ^ 64 - 1 }
         requires count { self.old.given + count < 2 ^ 64 }
         ensures fills { Fills (S.remaining self.old.source) (S.remaining self.new.source)
             self.old self.new count result }
         ensures failed { S.failure_count self.new.source
-            ≡ S.failure_count self.old.source + failed_reads result }
+            ≡ counted (S.failure_count self.old.source) (failed_reads result) }
         ensures lent { S.lender self.new.source ≡ S.lender self.old.source }
     {
         let _peak = self.peak;
@@ -136,17 +134,16 @@ impl<S: Source> Window<S> {
     /// Takes `count` bytes of the source, keeps none of them, and returns whether so many came.
     /// Fewer come only if the source ends. Allocates no memory.
     ///
-    /// Conditions: as for `fill`.
+    /// Condition: that of `fill`.
     ///
     /// # Errors
     /// `SourceFailed`: a read failed.
     pub fn skip(&mut self, count: usize) -> Result<bool, SourceFailed>
-        requires reads { S.failure_count self.old.source < 2 ^ 64 - 1 }
         requires count { self.old.given + count < 2 ^ 64 }
         ensures passes { Passes (S.remaining self.old.source) (S.remaining self.new.source)
             self.old self.new count result }
         ensures failed { S.failure_count self.new.source
-            ≡ S.failure_count self.old.source + (if is_ok result then 0 else 1) }
+            ≡ counted (S.failure_count self.old.source) (if is_ok result then 0 else 1) }
         ensures lent { S.lender self.new.source ≡ S.lender self.old.source }
     {
         let mut left = count;
@@ -163,18 +160,16 @@ impl<S: Source> Window<S> {
     /// Reads the source to its end, or until it has given one byte more than `limit` in all, keeps
     /// none of the bytes, and returns whether it ended before that. Allocates no memory.
     ///
-    /// Conditions: fewer than 18,446,744,073,709,551,615 reads of the source have failed so far,
-    /// and `limit` is below 18,446,744,073,709,551,615.
+    /// Condition: `limit` is below 18,446,744,073,709,551,615.
     ///
     /// # Errors
     /// `SourceFailed`: a read failed.
     pub fn run_out(&mut self, limit: usize) -> Result<bool, SourceFailed>
-        requires reads { S.failure_count self.old.source < 2 ^ 64 - 1 }
         requires limit { limit < 2 ^ 64 - 1 }
         ensures runs_out { RunsOut (S.remaining self.old.source) (S.remaining self.new.source)
             self.old self.new limit result }
         ensures failed { S.failure_count self.new.source
-            ≡ S.failure_count self.old.source + (if is_ok result then 0 else 1) }
+            ≡ counted (S.failure_count self.old.source) (if is_ok result then 0 else 1) }
         ensures lent { S.lender self.new.source ≡ S.lender self.old.source }
     {
         while self.given() <= limit {
@@ -188,13 +183,12 @@ impl<S: Source> Window<S> {
 
     // Asks the source once for at most `most` bytes, which are then at hand.
     fn fill_some(&mut self, most: usize) -> Result<usize, ReadFault>
-        requires reads { S.failure_count self.old.source < 2 ^ 64 - 1 }
         requires some { 0 < most }
         requires most { self.old.given + most < 2 ^ 64 }
         ensures keeps { ComesOnce Keeps (S.remaining self.old.source) (S.remaining self.new.source)
             self.old self.new most result }
         ensures failed { S.failure_count self.new.source
-            ≡ S.failure_count self.old.source + failed_reads result }
+            ≡ counted (S.failure_count self.old.source) (failed_reads result) }
         ensures lent { S.lender self.new.source ≡ S.lender self.old.source }
     {
         let came = read_behind(&mut self.source, &mut self.bytes, most.min(PIECE))?;
@@ -205,13 +199,12 @@ impl<S: Source> Window<S> {
 
     // Asks the source once for at most `most` bytes, and keeps none of them.
     fn skip_some(&mut self, most: usize) -> Result<usize, SourceFailed>
-        requires reads { S.failure_count self.old.source < 2 ^ 64 - 1 }
         requires some { 0 < most }
         requires most { self.old.given + most < 2 ^ 64 }
         ensures skips { ComesOnce Skips (S.remaining self.old.source) (S.remaining self.new.source)
             self.old self.new most result }
         ensures failed { S.failure_count self.new.source
-            ≡ S.failure_count self.old.source + (if is_ok result then 0 else 1) }
+            ≡ counted (S.failure_count self.old.source) (if is_ok result then 0 else 1) }
         ensures lent { S.lender self.new.source ≡ S.lender self.old.source }
     {
         let mut passed = [0u8; PASSED];
@@ -227,13 +220,12 @@ fn read_behind<S: Source>(
     bytes: &mut Vec<u8>,
     most: usize,
 ) -> Result<usize, ReadFault>
-    requires reads { S.failure_count source.old < 2 ^ 64 - 1 }
     requires some { 0 < most }
     requires most { most ≤ 65536 }
     ensures behind { ReadsBehind (S.remaining source.old) (S.remaining source.new)
         bytes.old.items bytes.new.items most result }
     ensures failed { S.failure_count source.new
-        ≡ S.failure_count source.old + failed_reads result }
+        ≡ counted (S.failure_count source.old) (failed_reads result) }
     ensures lent { S.lender source.new ≡ S.lender source.old }
 {
     let old = bytes.len();

@@ -1,23 +1,20 @@
 //! Writing all bytes of a slice.
 
-ghost use Rattle.std.specs.Prelude.{◌≡◌, ◌+◌, ◌-◌, ◌^◌, ◌<◌, OnOk, OnErr, is_ok, if◌then◌else◌};
+ghost use Rattle.std.specs.Prelude.{◌≡◌, OnOk, OnErr, is_ok, if◌then◌else◌};
 ghost use Rattle.std.specs.Io.KnownBytes.{Appends};
-ghost use Rattle.krb_name.specs.Flow.{AppendsBeginning};
+ghost use Rattle.krb_name.specs.Flow.{counted, AppendsBeginning};
 
 use crate::sink::{Sink, SinkFailed};
 
 /// Writes all of `bytes`, in as many writes as that takes.
 ///
-/// Condition: fewer than 18,446,744,073,709,551,615 writes to the sink have failed so far.
-///
 /// # Errors
 /// `SinkFailed` at the first write that fails; the sink then took a beginning of `bytes`.
 pub fn write_all<S: Sink>(sink: &mut S, bytes: &[u8]) -> Result<(), SinkFailed>
-    requires { S.failure_count sink.old < 2 ^ 64 - 1 }
     ensures ok { OnOk result (Appends (S.taken sink.old) (S.taken sink.new) bytes.now) }
     ensures err { OnErr result (AppendsBeginning (S.taken sink.old) (S.taken sink.new) bytes.now) }
     ensures failed { S.failure_count sink.new
-        ≡ S.failure_count sink.old + (if is_ok result then 0 else 1) }
+        ≡ counted (S.failure_count sink.old) (if is_ok result then 0 else 1) }
 {
     let mut done = 0;
     while done < bytes.len() {

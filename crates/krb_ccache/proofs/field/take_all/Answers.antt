@@ -5,8 +5,8 @@ use Rattle.krb_ccache.specs.Inner.Row.{row_at}
 use Rattle.krb_ccache.proofs.WalkParts.{all_stop, all_walk}
 use Rattle.krb_ccache.proofs.field.take_all.Goals as goal
 
-pub take-requires-2-clause-within : goal.take-requires-2-clause-within
-take-requires-2-clause-within g c = (c.in_ok-left.ensures.walk true).within
+pub take-requires-2 : goal.take-requires-2
+take-requires-2 g c = record { within = (c.in_ok-left.ensures.walk true).within }
 
 pub returns-clause-walk : goal.returns-clause-walk
 returns-clause-walk g c = λ strict.

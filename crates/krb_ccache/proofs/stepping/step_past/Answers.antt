@@ -8,11 +8,11 @@ use Rattle.krb_ccache.proofs.StepLaws.{came, missed, halts_cleared, none_step, p
 use Rattle.krb_ccache.proofs.WalkEnds.{one_walks, one_halts, one_stands, none_stands}
 use Rattle.krb_ccache.proofs.stepping.step_past.Goals as goal
 
-pub none_past-requires-clause-within : goal.none_past-requires-clause-within
-none_past-requires-clause-within g c = (c.in-Ok.ensures.walk false).within
+pub none_past-requires : goal.none_past-requires
+none_past-requires g c = record { within = (c.in-Ok.ensures.walk false).within }
 
-pub none_past-requires-in-Err-clause-within : goal.none_past-requires-in-Err-clause-within
-none_past-requires-in-Err-clause-within g c = (c.in-Err.ensures.walk false).within
+pub none_past-requires-in-Err : goal.none_past-requires-in-Err
+none_past-requires-in-Err g c = record { within = (c.in-Err.ensures.walk false).within }
 
 pub returns-then-good-clause-step : goal.returns-then-good-clause-step
 returns-then-good-clause-step g c =

@@ -11,7 +11,7 @@ loop-at-preserved c =
     let etype = to_z w32 (of_z w32 c.args.etype) in
     let from = c.loop-at.from in
     let at = c.in-Some.at in
-    let found = c.in-Some.ensures.found in
+    let found = rw c.new-sought.ensures at c.in-Some.ensures.found in
     let one = c.index-as_slice-at.result in
     let is = rw c.as_slice.ensures at c.index-as_slice-at.is in
     let before = passed_over entries from at name etype c.args.kvno c.loop-at.picked found c.loop-at.invariant in
@@ -23,4 +23,4 @@ returns c =
     let entries = c.args.entries.now in
     let name = c.args.name.now in
     subst (λ (z : ℤ). IsPicked entries name z c.args.kvno c.loop-at.picked) (to_z-of_z w32 c.args.etype c.ranges.etype)
-    (none_left entries c.loop-at.from name _ c.args.kvno c.loop-at.picked c.in_default.ensures.none c.loop-at.invariant)
+    (none_left entries c.loop-at.from name _ c.args.kvno c.loop-at.picked (rw c.new-sought.ensures at c.in_default.ensures.none) c.loop-at.invariant)

@@ -1,4 +1,4 @@
-use Rattle.std.proofs.Common.{refl, add-zero, arith, ◌∙◌}
+use Rattle.std.proofs.Common.{refl, arith, ◌∙◌}
 use Rattle.std.proofs.lemmas.Result.{err_from_is_err_and}
 use Rattle.krb_keytab.proofs.StandLaws.{passes_none, passes_hole, next_end, next_kept, next_fault}
 use Rattle.krb_keytab.proofs.step.next_entry.Goals as goal
@@ -20,7 +20,7 @@ loop-kept-preserved g c =
     record {
       passes = passes_hole _ _ _ _ _ _ _ c.loop-kept.invariant.passes hole;
       limit = omega (arith, hole.moves.given, hole.meets.limit);
-      failures = rw add-zero at c.in_ok-read_record.ensures.failed ∙ c.loop-kept.invariant.failures;
+      failures = omega (arith, c.in_ok-read_record.ensures.failed, c.loop-kept.invariant.failures);
       lent = c.in_ok-read_record.ensures.lent ∙ c.loop-kept.invariant.lent;
     }
 

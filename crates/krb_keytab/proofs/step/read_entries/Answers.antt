@@ -1,4 +1,4 @@
-use Rattle.std.proofs.Common.{◌∙◌, add-zero, Option, Ok, subst}
+use Rattle.std.proofs.Common.{◌∙◌, arith, Option, Ok, subst}
 use Rattle.std.proofs.lemmas.Result.{err_from_is_err_and}
 use Rattle.krb_keytab.specs.Entry.{KeytabEntry}
 use Rattle.krb_keytab.specs.Inner.Meeting.{MeetsNext}
@@ -19,7 +19,7 @@ loop-entries-preserved g c =
     record {
       taken = entry_taken from mid to (g.F.Feed.at_hand c.loop-entries.feed) (g.F.Feed.at_hand c.read_entry.new.feed) c.loop-entries.entries c.push.new.self c.in-Some.entry c.loop-entries.invariant.taken meets c.in-Ok.ensures.ok;
       limit = meets.within;
-      failures = rw add-zero at c.in_ok-entry.ensures.failed ∙ c.loop-entries.invariant.failures;
+      failures = omega (arith, c.in_ok-entry.ensures.failed, c.loop-entries.invariant.failures);
       lent = c.in_ok-entry.ensures.lent ∙ c.loop-entries.invariant.lent;
     }
 

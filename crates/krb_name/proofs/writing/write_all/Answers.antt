@@ -1,4 +1,4 @@
-use Rattle.std.proofs.Common.{arith, ◌∙◌, add-zero}
+use Rattle.std.proofs.Common.{arith}
 use Rattle.std.proofs.lemmas.List.{length-take, length-drop}
 use Rattle.krb_name.proofs.Moves.{Appends-more}
 use Rattle.krb_name.proofs.writing.write_all.Goals as goal
@@ -11,5 +11,5 @@ loop-done-preserved g c =
     record {
       within = omega (arith, bound);
       written = Appends-more _ _ _ bytes done c.in_ok-done.field-0 c.loop-done.invariant.written c.in_ok-done.ensures.bytes;
-      failures = rw add-zero at c.in_ok-done.ensures.failed ∙ c.loop-done.invariant.failures;
+      failures = omega (arith, c.in_ok-done.ensures.failed, c.loop-done.invariant.failures);
     }

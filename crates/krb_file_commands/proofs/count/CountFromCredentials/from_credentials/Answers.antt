@@ -1,4 +1,4 @@
-use Rattle.std.proofs.Common.{◌≡◌, ◌∙◌, add-zero, arith, ap, length, refl, rules, Bool, Ok, Err}
+use Rattle.std.proofs.Common.{◌≡◌, ◌∙◌, arith, ap, length, refl, rules, Bool, Ok, Err}
 use Rattle.std.proofs.lemmas.Result.{err_from_is_err_and}
 use Rattle.krb_ccache.specs.Format.{IsCache}
 use Rattle.krb_ccache.specs.Value.{Cache}
@@ -29,7 +29,7 @@ loop-count-preserved g c =
       going = rw c.if-branch.true at pass.ended going;
       few = omega (arith, one.1.gave.some, c.loop-count.invariant.few);
       limit = omega (arith, one.1.gave.some, one.1.gave.limit, c.loop-count.invariant.few);
-      failures = rw add-zero at pass.failed going ∙ c.loop-count.invariant.failures;
+      failures = omega (arith, pass.failed going, c.loop-count.invariant.failures);
       lent = pass.lent ∙ c.loop-count.invariant.lent;
     }
 

@@ -1,4 +1,4 @@
-use Rattle.std.proofs.Common.{◌∙◌, add-zero, arith, ap, refl, rules, Bool, Ok, Err}
+use Rattle.std.proofs.Common.{◌∙◌, arith, ap, refl, rules, Bool, Ok, Err}
 use Rattle.std.proofs.lemmas.Result.{err_from_is_err_and}
 use Rattle.krb_keytab.specs.Format.{IsKeytab}
 use Rattle.krb_keytab.specs.declared.fault.KeytabFault.TheVariants.{OutOfMemory}
@@ -19,12 +19,13 @@ returns-in_err-pass-clause-made g c =
 pub loop-count-preserved : goal.loop-count-preserved
 loop-count-preserved g c =
     let more = c.in_ok-pass.ensures.more (ap (λ (b : Bool). Ok b) c.if-branch.true) in
+    let failed = rw c.loop-count.invariant.going at c.in_ok-pass.ensures.failed in
     record {
       counted = one_counted _ _ _ c.loop-count.reader c.pass.new.self c.loop-count.count c.loop-count.invariant.counted (rw c.if-branch.true at c.in_ok-pass.ensures.reads);
       going = rw (c.in_ok-pass.ensures.stage, c.if-branch.true) refl;
       few = omega (arith, more.0, c.loop-count.invariant.few);
       limit = omega (arith, more.0, more.1, c.loop-count.invariant.few);
-      failures = rw (c.loop-count.invariant.going, add-zero) at c.in_ok-pass.ensures.failed ∙ c.loop-count.invariant.failures;
+      failures = omega (arith, failed, c.loop-count.invariant.failures);
       lent = c.in_ok-pass.ensures.lent ∙ c.loop-count.invariant.lent;
     }
 

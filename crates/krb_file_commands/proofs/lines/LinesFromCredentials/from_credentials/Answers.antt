@@ -1,4 +1,4 @@
-use Rattle.std.proofs.Common.{◌≡◌, ◌∙◌, add-zero, ap, refl, rules, string_bytes, Option, Ok, Err}
+use Rattle.std.proofs.Common.{◌≡◌, ◌∙◌, arith, ap, refl, rules, string_bytes, Option, Ok, Err}
 use Rattle.std.proofs.lemmas.Result.{err_from_is_err_and}
 use Rattle.krb_name.proofs.FileLaws.{takes_file}
 use Rattle.krb_ccache.specs.Format.{IsCache}
@@ -40,7 +40,7 @@ loop-lines-preserved g c =
       listed = λ from opened. credential_listed g.S.Source.remaining from c.loop-lines.reader c.next.new.self _ _ c.in-Some.credential (c.loop-lines.invariant.listed from opened) next.given next.limit
           (λ value read. rw c.in-Some.is at next.item from value read) c.in_ok-write_credential.ensures;
       going = rw c.in-Some.is at next.ended going;
-      failures = rw add-zero at next.failed going ∙ c.loop-lines.invariant.failures;
+      failures = omega (arith, next.failed going, c.loop-lines.invariant.failures);
       lent = next.lent ∙ c.loop-lines.invariant.lent;
     }
 

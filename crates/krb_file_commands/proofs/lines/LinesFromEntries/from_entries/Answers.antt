@@ -1,4 +1,4 @@
-use Rattle.std.proofs.Common.{◌∙◌, add-zero, refl, rules, None, Ok, Err}
+use Rattle.std.proofs.Common.{◌∙◌, arith, refl, rules, None, Ok, Err}
 use Rattle.std.proofs.lemmas.Result.{err_from_is_err_and}
 use Rattle.krb_keytab.specs.Format.{IsKeytab}
 use Rattle.krb_keytab.specs.declared.fault.KeytabFault.TheVariants.{OutOfMemory}
@@ -23,12 +23,14 @@ returns-in_err-write_entry-clause-made g c =
     (entries_taken _ _ _ c.loop-lines.reader c.next.new.self _ _ c.loop-lines.invariant.listed (gives_reads _ _ _ _ c.next.result c.next.ensures.reads) c.next.ensures.limit))
 
 pub loop-lines-preserved : goal.loop-lines-preserved
-loop-lines-preserved g c = record {
-  listed = one_listed _ _ _ c.loop-lines.reader c.next.new.self _ _ c.in-Some.entry c.loop-lines.invariant.listed (rw c.in-Some.is at c.in_ok-entry.ensures.reads) c.in_ok-write_entry.ensures;
-  going = rw (c.in_ok-entry.ensures.stage, c.in-Some.is) refl;
-  failures = rw (c.loop-lines.invariant.going, add-zero) at c.in_ok-entry.ensures.failed ∙ c.loop-lines.invariant.failures;
-  lent = c.in_ok-entry.ensures.lent ∙ c.loop-lines.invariant.lent;
-}
+loop-lines-preserved g c =
+    let failed = rw c.loop-lines.invariant.going at c.in_ok-entry.ensures.failed in
+    record {
+      listed = one_listed _ _ _ c.loop-lines.reader c.next.new.self _ _ c.in-Some.entry c.loop-lines.invariant.listed (rw c.in-Some.is at c.in_ok-entry.ensures.reads) c.in_ok-write_entry.ensures;
+      going = rw (c.in_ok-entry.ensures.stage, c.in-Some.is) refl;
+      failures = omega (arith, failed, c.loop-lines.invariant.failures);
+      lent = c.in_ok-entry.ensures.lent ∙ c.loop-lines.invariant.lent;
+    }
 
 pub returns-clause-made : goal.returns-clause-made
 returns-clause-made g c =

@@ -1,4 +1,4 @@
-use Rattle.std.proofs.Common.{arith, ◌∙◌, ◌++◌, add-zero}
+use Rattle.std.proofs.Common.{arith, ◌∙◌, ◌++◌}
 use Rattle.krb_name.proofs.WindowLaws.{skips_more}
 use Rattle.krb_name.proofs.window.Window.run_out.Goals as goal
 
@@ -12,6 +12,6 @@ loop-self-preserved g c =
         skips = skips_more _ _ _ _ _ _ first.piece second.piece first.skips second.comes;
         one_past = λ within. omega (arith, second.comes.given, second.one.0, second.one.1, c.loop-self-test.true, c.given.ensures, c.given-in-loop-self.ensures);
       };
-      failures = rw add-zero at c.in_ok-skip_some.ensures.failed ∙ c.loop-self.invariant.failures;
+      failures = omega (arith, c.in_ok-skip_some.ensures.failed, c.loop-self.invariant.failures);
       lent = c.in_ok-skip_some.ensures.lent ∙ c.loop-self.invariant.lent;
     }
