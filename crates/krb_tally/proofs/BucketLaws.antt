@@ -1,8 +1,10 @@
 -- Items in the order of their times, and how many of them aren't before a moment.
 use Rattle.std.proofs.Common.{◌≡◌, ◌≢◌, ℕ, zero, suc, ℤ, ◌≤ℤ◌, ◌<ℤ◌, ◌<◌, ◌≤◌, ◌+◌, ◌-◌, Bool, true, false, not, cond, int_lt, List, [], ◌∷◌, ◌++◌, All, length, get_or, take, drop, refl, sym, ap, subst, ◌∙◌, add-one, arith, length-append}
 use Rattle.std.specs.List.{filter, insert, remove}
+use Rattle.std.specs.List.Sorted.{IsPermutation}
 use Rattle.std.proofs.lemmas.Int.{ints}
 use Rattle.std.proofs.lemmas.List.{drop_more, length-drop, take-append-drop, take_more}
+use Rattle.std.proofs.lemmas.List.Sorted.{IsPermutation-middle, IsPermutation-sym}
 use Rattle.std.proofs.lemmas.List.Elements.{All-append, All-cons, All-get_or, All-head, All-nil, All-tail, All-weaker, filter-append}
 use Rattle.krb_tally.specs.Times.{HasEqual, LacksEqual, number_since, since}
 use Rattle.krb_tally.specs.Inner.Buckets.{AddsIn, IsRising}
@@ -210,3 +212,10 @@ has_right when eq [] b item has = has
 has_right when eq (x ∷ a) b item has =
     let more = has_right when eq a b item has in
     record { one = more.one; there = (suc more.there.0, omega (arith, more.there.1), more.there.2); same_time = more.same_time; equal = more.equal }
+
+-- what is added is one more
+pub adds_one : {X : Type 0} (when : X → ℤ) (old new : List X) (item : X) → AddsIn when old item new → IsPermutation (item ∷ old) new
+adds_one when old new item more =
+    subst (λ (items : List _). IsPermutation (item ∷ items) new) (sym more.old_is)
+    (subst (λ (items : List _). IsPermutation (item ∷ (more.early ++ more.late)) items) (sym more.new_is)
+    (IsPermutation-sym (more.early ++ item ∷ more.late) (item ∷ (more.early ++ more.late)) (IsPermutation-middle more.early item more.late)))

@@ -45,6 +45,8 @@ impl<T: Timed + Drop> Bucket<T> {
         ensures len { result ≡ length self.now }
         ensures some { 0 < result }
         ensures most { result ≤ 512 }
+        ensures rising { IsRising T.timestamp self.now }
+        ensures sorted { IsSorted T.cmp self.now }
     {
         self.items.len()
     }
@@ -175,6 +177,17 @@ impl<T: Timed + Drop> Bucket<T> {
         ensures { self.new ≡ self.old }
     {
         self.items.shrink_to_fit();
+    }
+}
+
+impl Bucket<i64> {
+    /// Copies the times. Allocates room for as many.
+    pub(crate) fn copy(&self) -> Result<Bucket<i64>, AllocError>
+        ensures same { IfOk result (λ bucket. bucket ≡ self.now) }
+    {
+        Ok(Bucket {
+            items: self.items.clone()?,
+        })
     }
 }
 

@@ -15,10 +15,12 @@
 #![tactic(auto)]
 
 mod bucket;
+mod owned;
 mod tally;
 #[cfg(test)]
 mod tests;
 mod timed;
 
+pub use owned::Times;
 pub use tally::Tally;
 pub use timed::Timed;

@@ -50,6 +50,16 @@ impl<T: Timed + Drop> Tally<T> {
         }
     }
 
+    /// Makes a tally of a bucket's items.
+    pub(crate) fn of_bucket(alloc: Global, bucket: Bucket<T>) -> Result<Tally<T>, AllocError>
+        ensures { IfOk result (λ tally. tally ≡ bucket) }
+    {
+        let len = bucket.len();
+        let mut buckets = Vec::with_capacity(alloc, 1)?;
+        buckets.push(bucket)?;
+        Ok(Tally { buckets, len })
+    }
+
     /// Returns how many items there are.
     pub fn len(&self) -> usize
         ensures len { result ≡ length self.now }
