@@ -15,12 +15,13 @@
 #![tactic(auto)]
 
 mod bucket;
-mod owned;
+mod search;
 mod tally;
 #[cfg(test)]
 mod tests;
 mod timed;
+mod times;
 
-pub use owned::Times;
 pub use tally::Tally;
 pub use timed::Timed;
+pub use times::Times;

@@ -1,7 +1,7 @@
 -- How the times of one owner are kept.
 use Rattle.std.specs.Prelude.{ℤ, List, [], ◌∷◌}
-use Rattle.krb_tally.specs.declared.owned.Kept.{Kept}
-use Rattle.krb_tally.specs.declared.owned.Kept.TheVariants.{One, Few, Many}
+use Rattle.krb_tally.specs.declared.times.Kept.{Kept}
+use Rattle.krb_tally.specs.declared.times.Kept.TheVariants.{One, Few, Many}
 
 abbrev pub times_of : Kept → List ℤ
 times_of (One time) = time ∷ []

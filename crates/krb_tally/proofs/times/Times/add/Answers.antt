@@ -5,7 +5,7 @@ use Rattle.std.proofs.lemmas.Int.{ints}
 use Rattle.krb_tally.specs.Inner.Buckets.{AddsIn}
 use Rattle.krb_tally.specs.Inner.Kept.{times_of}
 use Rattle.krb_tally.proofs.BucketLaws.{adds_one}
-use Rattle.krb_tally.proofs.owned.Times.add.Goals as goal
+use Rattle.krb_tally.proofs.times.Times.add.Goals as goal
 
 -- one more time, as a call says it
 one_more : (when : ℤ → ℤ) (old was new now : List ℤ) (said time : ℤ) → said ≡ time → was ≡ old → new ≡ now → AddsIn when was said new → IsPermutation (time ∷ old) now

@@ -4,9 +4,9 @@ use Rattle.std.specs.List.Sorted.{IsPermutation}
 use Rattle.std.proofs.lemmas.Int.{ints}
 use Rattle.std.proofs.lemmas.List.Elements.{All-contains}
 use Rattle.krb_tally.specs.Inner.Kept.{times_of}
-use Rattle.krb_tally.specs.contracts.owned.Times.{the_view}
-use Rattle.krb_tally.proofs.owned.Times.remove.Goals.{in-One, in-Few, in-Many}
-use Rattle.krb_tally.proofs.owned.Times.remove.Goals as goal
+use Rattle.krb_tally.specs.contracts.times.Times.{the_view}
+use Rattle.krb_tally.proofs.times.Times.remove.Goals.{in-One, in-Few, in-Many}
+use Rattle.krb_tally.proofs.times.Times.remove.Goals as goal
 
 -- one time less, as a call says it
 one_less : (old was new now : List ℤ) (said time : ℤ) → said ≡ time → was ≡ old → now ≡ new → IsPermutation was (said ∷ new) → IsPermutation old (time ∷ now)
