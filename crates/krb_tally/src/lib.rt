@@ -12,6 +12,8 @@
 //! tally.remove(30);
 //! tally.since(20); // 1
 //! ```
+//!
+//! Where there are many owners of few times each, [`Times`] takes less memory for each.
 #![tactic(auto)]
 
 mod bucket;

@@ -9,11 +9,12 @@ use crate::tally::Tally;
 use std::alloc::{AllocError, Global};
 use std::marker::Model;
 
-/// The times of one owner, each as often as it was added: one or more, in any unit. A contract sees
-/// them as a list.
+/// The times of one owner, each as often as it was added. There is at least one. A contract sees
+/// them as a list, in some order.
 ///
-/// It is made for many owners that have one time or a few: one time takes 16 bytes and no memory of
-/// its own, and a few take two pieces of memory. More than 512 are in a [`Tally`].
+/// Most owners have one time: it takes 16 bytes, and nothing is allocated for it. Up to 512 times are
+/// in one bucket, and more are in a [`Tally`]; both are allocated. (How long a call takes, and how
+/// much memory, isn't proved.)
 #[derive(Debug, Drop)]
 pub struct Times {
     kept: Kept,
