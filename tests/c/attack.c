@@ -62,10 +62,10 @@ static void make(size_t limit, size_t limit_for_client)
     is("service", fevstunik_acceptor_new(&service, keytab.at, keytab.size, WEB, &options).code, FEVSTUNIK_OK);
 }
 
-/* At most 40 bytes for a request of known names, and 240 for the first of a client. */
+/* At most 40 bytes for a request of known names, and 224 for the first of a client. */
 static void sizes(long requests)
 {
-    size_t before, first;
+    size_t before;
     long at;
 
     /* (what the handles of the clients hold doesn't change any more after their first request) */
@@ -75,9 +75,9 @@ static void sizes(long requests)
     (void)sent(&clients[0], &service, START, 0, START);
     before = held;
     is("another client", sent(&clients[1], &service, START, 0, START), FEVSTUNIK_OK);
-    (void)sent(&clients[0], &service, START, 1, START);
-    first = held - before;
-    is("bytes of a client's first request", first <= 240 + 40, 1);
+    is("bytes of a client's first request", held - before <= 224, 1);
+    is("its second", sent(&clients[1], &service, START, 1, START), FEVSTUNIK_OK);
+    is("bytes of both", held - before <= 224 + 40, 1);
     before = held;
     for (at = 0; at < requests; at++)
         if (sent(&clients[0], &service, START + at / 1000 % 300, (uint32_t)(2 + at % 1000 + at / 300000 * 1000), START) != FEVSTUNIK_OK)

@@ -6,7 +6,7 @@ ghost use Rattle.krb_replay.specs.Inner.Order.{TwoNames, client_cmp};
 ghost use Rattle.krb_replay.specs.Inner.Times.{AddsTime, HasNoEmpty, SameTimes, TakesTime, number_by, times_by};
 
 use crate::pair::ByClient;
-use krb_tally::Tally;
+use krb_tally::Times;
 use std::alloc::{AllocError, Global};
 use std::collections::BTreeMap;
 
@@ -14,7 +14,7 @@ use std::collections::BTreeMap;
 /// each as often as a tuple has it.
 #[derive(Debug, Drop)]
 pub(crate) struct ClientTimes {
-    times: BTreeMap<ByClient, Tally<i64>>,
+    times: BTreeMap<ByClient, Times>,
     alloc: Global,
 }
 
@@ -56,13 +56,11 @@ impl ClientTimes {
     {
         if self.of(&client) > 0 {
             match self.times.get_mut(&client) {
-                Some(times) => return times.add(time),
+                Some(times) => return times.add(self.alloc, time),
                 None => return Err(AllocError),
             }
         }
-        let mut times = Tally::new(self.alloc);
-        times.add(time)?;
-        self.times.insert(client, times)?;
+        self.times.insert(client, Times::new(time))?;
         Ok(())
     }
 
@@ -74,10 +72,7 @@ impl ClientTimes {
     {
         if self.of(client) > 1 {
             match self.times.get_mut(client) {
-                Some(times) => {
-                    let _ = times.remove(time);
-                    return;
-                }
+                Some(times) => return times.remove(time),
                 None => return,
             }
         }

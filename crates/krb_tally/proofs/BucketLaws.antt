@@ -1,8 +1,10 @@
 -- Items in the order of their times, and how many of them aren't before a moment.
 use Rattle.std.proofs.Common.{◌≡◌, ◌≢◌, ℕ, zero, suc, ℤ, ◌≤ℤ◌, ◌<ℤ◌, ◌<◌, ◌≤◌, ◌+◌, ◌-◌, Bool, true, false, not, cond, int_lt, List, [], ◌∷◌, ◌++◌, All, length, get_or, take, drop, refl, sym, ap, subst, ◌∙◌, add-one, arith, length-append}
 use Rattle.std.specs.List.{filter, insert, remove}
+use Rattle.std.specs.List.Sorted.{IsPermutation}
 use Rattle.std.proofs.lemmas.Int.{ints}
 use Rattle.std.proofs.lemmas.List.{drop_more, length-drop, take-append-drop, take_more}
+use Rattle.std.proofs.lemmas.List.Sorted.{IsPermutation-middle, IsPermutation-sym}
 use Rattle.std.proofs.lemmas.List.Elements.{All-append, All-cons, All-get_or, All-head, All-nil, All-tail, All-weaker, filter-append}
 use Rattle.krb_tally.specs.Times.{HasEqual, LacksEqual, number_since, since}
 use Rattle.krb_tally.specs.Inner.Buckets.{AddsIn, IsRising}
@@ -120,6 +122,20 @@ module _ {X : Type 0} (when : X → ℤ) where
     search_less late =
         All-weaker (λ y. when (get_or items middle d) ≤ℤ when y) (λ y. moment ≤ℤ when y) (λ y from. omega (arith, ints)) (drop middle items) (from_on items middle d within rising)
 
+  -- what a search finds: those before its place are early, and those from it on are late
+  pub early_before : (items : List X) (at : ℕ) (moment : ℤ) → IsRising when items → at ≤ length items → (0 < at → (one : X) → when (get_or items (at - 1) one) <ℤ moment)
+      → All (λ y. when y <ℤ moment) (take at items)
+  early_before items zero moment rising most early k d inside = absurd (omega arith)
+  early_before items (suc at) moment rising most early k d inside =
+      subst (λ (n : ℕ). All (λ y. when y <ℤ moment) (take n items)) (add-one at)
+      (search_more items rising at d moment (omega arith) (let here : suc at - 1 ≡ at = omega arith in subst (λ (n : ℕ). when (get_or items n d) <ℤ moment) here (early (omega arith) d))) k d inside
+
+  pub late_from : (items : List X) (at : ℕ) (moment : ℤ) → IsRising when items → (at < length items → (one : X) → moment ≤ℤ when (get_or items at one))
+      → All (λ y. moment ≤ℤ when y) (drop at items)
+  late_from items at moment rising late k d inside =
+      let within : at < length items = let n = length-drop at items in omega arith in
+      search_less items rising at d moment within (late within d) k d inside
+
   -- an item is added at its place
   pub adds : (items : List X) (at : ℕ) (item : X) → All (λ x. when x <ℤ when item) (take at items) → All (λ x. when item ≤ℤ when x) (drop at items)
       → (new : List X) → new ≡ insert items at item → AddsIn when items item new
@@ -210,3 +226,10 @@ has_right when eq [] b item has = has
 has_right when eq (x ∷ a) b item has =
     let more = has_right when eq a b item has in
     record { one = more.one; there = (suc more.there.0, omega (arith, more.there.1), more.there.2); same_time = more.same_time; equal = more.equal }
+
+-- what is added is one more
+pub adds_one : {X : Type 0} (when : X → ℤ) (old new : List X) (item : X) → AddsIn when old item new → IsPermutation (item ∷ old) new
+adds_one when old new item more =
+    subst (λ (items : List _). IsPermutation (item ∷ items) new) (sym more.old_is)
+    (subst (λ (items : List _). IsPermutation (item ∷ (more.early ++ more.late)) items) (sym more.new_is)
+    (IsPermutation-sym (more.early ++ item ∷ more.late) (item ∷ (more.early ++ more.late)) (IsPermutation-middle more.early item more.late)))

@@ -1,5 +1,5 @@
 -- Items in an order, seen from one of them: what is before one item and what isn't.
-use Rattle.std.proofs.Common.{◌≡◌, ℕ, ℤ, pos, ◌≤ℤ◌, ◌<ℤ◌, Bool, true, false, true≢false, List, All, refl, sym, ap, subst, ◌∙◌, arith}
+use Rattle.std.proofs.Common.{◌≡◌, ℕ, ℤ, pos, ◌≤ℤ◌, ◌<ℤ◌, ◌<◌, ◌≤◌, length, Bool, true, false, true≢false, List, All, refl, sym, ap, subst, ◌∙◌, arith}
 use Rattle.std.specs.Cmp.{IsTotalOrder}
 use Rattle.std.specs.declared.cmp.Ordering.{Ordering}
 use Rattle.std.specs.declared.cmp.Ordering.TheVariants.{Less, Equal, Greater}
@@ -8,7 +8,7 @@ use Rattle.std.proofs.lemmas.Cmp.{alike_right, tied_itself}
 use Rattle.std.proofs.lemmas.Int.{ints}
 use Rattle.std.proofs.lemmas.List.Elements.{All-weaker}
 use Rattle.krb_tally.specs.Times.{LacksEqual}
-use Rattle.krb_tally.specs.Inner.Buckets.{AddsIn, Fits, place_from}
+use Rattle.krb_tally.specs.Inner.Buckets.{AddsIn, Fits, IsRising, IsSorted, place_from}
 
 at_most_2 : (r : Ordering) → pos (ordering_index r) ≤ℤ pos 2
 at_most_2 Less = omega (arith, ints)
@@ -147,3 +147,8 @@ module _ {X : Type 0} (cmp : X → X → Ordering) (eq : X → X → Bool) (ties
   lacks_places total when law items item lacks =
       All-weaker (λ x. when x ≡ when item → eq x item ≡ false) (λ x. place_from cmp item x ≡ pos 1 → ⊥)
       (λ x apart at. true≢false (sym (ties x item ∙ equal_there (cmp x item) at) ∙ apart (same_time cmp total when law x item (equal_there (cmp x item) at)))) items lacks
+
+-- what a bucket is, of items that keep the order of others
+pub is_bucket : {X : Type 0} (when : X → ℤ) (cmp : X → X → Ordering) (others items : List X) → 0 < length items → length items ≤ 512 → ((by : X → ℤ) → IsRising by others → IsRising by items)
+    → IsRising when others → IsSorted cmp others → (0 < length items) × ((length items ≤ 512) × (IsRising when items × IsSorted cmp items))
+is_bucket when cmp others items some most keep rising sorted = (some, (most, (keep when rising, record { from = λ one. keep (place_from cmp one) (sorted.from one) })))

@@ -336,6 +336,14 @@ module _ {X : Type 0} (when : X → ℤ) where
     pub ends_by : moment ≤ℤ when last → Reaches when buckets at moment
     ends_by late = reaches buckets at within rising last moment (subst (λ items. Contains items last) (get_or_read buckets at here within is []) there) late
 
+  -- the buckets before the place that a search finds
+  pub early_buckets : (buckets : List (List X)) (at : ℕ) (moment : ℤ) → (0 < at → All (λ x. when x <ℤ moment) (all_of (take (at - 1 + 1) buckets)))
+      → All (λ x. when x <ℤ moment) (all_of (take at buckets))
+  early_buckets buckets zero moment early k d inside = absurd (omega arith)
+  early_buckets buckets (suc at) moment early k d inside =
+      let here : suc at - 1 + 1 ≡ suc at = omega arith in
+      subst (λ (n : ℕ). All (λ x. when x <ℤ moment) (all_of (take n buckets))) here (early (omega arith)) k d inside
+
   pub end_fits : (buckets : List (List X)) (at : ℕ) (moment : ℤ) → length buckets ≤ at → All (λ x. when x <ℤ moment) (all_of (take at buckets)) → Fits when buckets moment at at
   end_fits buckets at moment end early = record {
     early = All-weaker (λ x. when x <ℤ moment) (λ x. when x ≤ℤ moment) (λ x upto. omega (arith, ints)) (all_of (take at buckets)) early;

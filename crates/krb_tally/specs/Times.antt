@@ -21,3 +21,7 @@ module _ {X : Type 0} (time : X → ℤ) where
     pub there : Contains items one
     pub same_time : time one ≡ time item
     pub equal : eq one item ≡ true
+
+-- a time is its own
+abbrev pub own_time : ℤ → ℤ
+own_time time = time

@@ -5,6 +5,7 @@ ghost use Rattle.std.specs.List.{remove};
 ghost use Rattle.krb_tally.specs.Times.{HasEqual, LacksEqual, number_since};
 ghost use Rattle.krb_tally.specs.Inner.Buckets.{AddsIn, IsAt, IsRising, IsSorted, place_from};
 
+use crate::search::search;
 use crate::timed::Timed;
 use std::alloc::{AllocError, Global};
 use std::marker::Model;
@@ -45,6 +46,8 @@ impl<T: Timed + Drop> Bucket<T> {
         ensures len { result ≡ length self.now }
         ensures some { 0 < result }
         ensures most { result ≤ 512 }
+        ensures rising { IsRising T.timestamp self.now }
+        ensures sorted { IsSorted T.cmp self.now }
     {
         self.items.len()
     }
@@ -178,6 +181,17 @@ impl<T: Timed + Drop> Bucket<T> {
     }
 }
 
+impl Bucket<i64> {
+    /// Copies the times. Allocates room for as many.
+    pub(crate) fn copy(&self) -> Result<Bucket<i64>, AllocError>
+        ensures same { IfOk result (λ bucket. bucket ≡ self.now) }
+    {
+        Ok(Bucket {
+            items: self.items.clone()?,
+        })
+    }
+}
+
 impl<T: Timed> Bucket<T> {
     /// Returns whether there is an equal item of the same time.
     pub(crate) fn has(&self, item: &T) -> bool
@@ -207,17 +221,14 @@ fn number_below<T: Timed>(items: &[T], item: &T) -> usize
     ensures before { All (λ one. place_from T.cmp item.now one <ℤ pos 1) (take result items.now) }
     ensures from { All (λ one. pos 1 ≤ℤ place_from T.cmp item.now one) (drop result items.now) }
 {
-    let mut low = 0;
-    let mut high = items.len();
-    while low < high {
-        let middle = low + (high - low) / 2;
-        if is_before(&items[middle], item) {
-            low = middle + 1;
-        } else {
-            high = middle;
-        }
-    }
-    low
+    search(
+        items.len(),
+        |at|
+            requires { at < length items.now }
+            ensures early { IsTrue result → (one : T) → place_from T.cmp item.entry.now (slice_index_or items.entry.now at one) <ℤ pos 1 }
+            ensures late { result ≡ false → (one : T) → pos 1 ≤ℤ place_from T.cmp item.entry.now (slice_index_or items.entry.now at one) }
+        { is_before(&items[at], item) },
+    )
 }
 
 // How many of the items, which are in order, have a time before `time`.
@@ -227,15 +238,12 @@ fn number_before<T: Timed>(items: &[T], time: i64) -> usize
     ensures before { All (λ item. T.timestamp item <ℤ time) (take result items.now) }
     ensures from { All (λ item. time ≤ℤ T.timestamp item) (drop result items.now) }
 {
-    let mut low = 0;
-    let mut high = items.len();
-    while low < high {
-        let middle = low + (high - low) / 2;
-        if items[middle].timestamp() < time {
-            low = middle + 1;
-        } else {
-            high = middle;
-        }
-    }
-    low
+    search(
+        items.len(),
+        |at|
+            requires { at < length items.now }
+            ensures early { IsTrue result → (one : T) → T.timestamp (slice_index_or items.entry.now at one) <ℤ time }
+            ensures late { result ≡ false → (one : T) → time ≤ℤ T.timestamp (slice_index_or items.entry.now at one) }
+        { items[at].timestamp() < time },
+    )
 }

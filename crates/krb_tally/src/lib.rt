@@ -12,13 +12,18 @@
 //! tally.remove(30);
 //! tally.since(20); // 1
 //! ```
+//!
+//! Where there are many owners of few times each, [`Times`] takes less memory for each.
 #![tactic(auto)]
 
 mod bucket;
+mod search;
 mod tally;
 #[cfg(test)]
 mod tests;
 mod timed;
+mod times;
 
 pub use tally::Tally;
 pub use timed::Timed;
+pub use times::Times;

@@ -6,6 +6,7 @@ ghost use Rattle.krb_tally.specs.Times.{HasEqual, LacksEqual, number_since};
 ghost use Rattle.krb_tally.specs.Inner.Buckets.{Fits, Halves, IsIn, IsPlace, IsRising, IsSorted, Reaches, TakesOut, all_of, place_from};
 
 use crate::bucket::{Bucket, is_before};
+use crate::search::search;
 use crate::timed::Timed;
 use std::alloc::{AllocError, Global};
 use std::marker::Model;
@@ -48,6 +49,16 @@ impl<T: Timed + Drop> Tally<T> {
             buckets: Vec::new(alloc),
             len: 0,
         }
+    }
+
+    /// Makes a tally of a bucket's items.
+    pub(crate) fn of_bucket(alloc: Global, bucket: Bucket<T>) -> Result<Tally<T>, AllocError>
+        ensures { IfOk result (λ tally. tally ≡ bucket) }
+    {
+        let len = bucket.len();
+        let mut buckets = Vec::with_capacity(alloc, 1)?;
+        buckets.push(bucket)?;
+        Ok(Tally { buckets, len })
     }
 
     /// Returns how many items there are.
@@ -152,17 +163,15 @@ fn bucket_of<T: Timed + Drop>(buckets: &[Bucket<T>], item: &T) -> usize
     ensures before { All (λ one. place_from T.cmp item.now one <ℤ pos 1) (all_of (take result buckets.now)) }
     ensures reached { result < length buckets.now → Reaches (place_from T.cmp item.now) buckets.now result (pos 1) }
 {
-    let mut low = 0;
-    let mut high = buckets.len();
-    while low < high {
-        let middle = low + (high - low) / 2;
-        if is_before(buckets[middle].last(), item) {
-            low = middle + 1;
-        } else {
-            high = middle;
-        }
-    }
-    low
+    search(
+        buckets.len(),
+        |at|
+            requires within { at < length buckets.now }
+            requires sorted { IsSorted T.cmp (all_of buckets.now) }
+            ensures early { IsTrue result → All (λ one. place_from T.cmp item.entry.now one <ℤ pos 1) (all_of (take (at + 1) buckets.entry.now)) }
+            ensures late { result ≡ false → Reaches (place_from T.cmp item.entry.now) buckets.entry.now at (pos 1) }
+        { is_before(buckets[at].last(), item) },
+    )
 }
 
 // The first of the items, which are in order.
@@ -198,17 +207,15 @@ fn bucket_for<T: Timed + Drop>(buckets: &[Bucket<T>], moment: i64) -> usize
     ensures before { All (λ item. T.timestamp item <ℤ moment) (all_of (take result buckets.now)) }
     ensures reached { result < length buckets.now → Reaches T.timestamp buckets.now result moment }
 {
-    let mut low = 0;
-    let mut high = buckets.len();
-    while low < high {
-        let middle = low + (high - low) / 2;
-        if buckets[middle].last().timestamp() < moment {
-            low = middle + 1;
-        } else {
-            high = middle;
-        }
-    }
-    low
+    search(
+        buckets.len(),
+        |at|
+            requires within { at < length buckets.now }
+            requires rising { IsRising T.timestamp (all_of buckets.now) }
+            ensures early { IsTrue result → All (λ item. T.timestamp item <ℤ moment) (all_of (take (at + 1) buckets.entry.now)) }
+            ensures late { result ≡ false → Reaches T.timestamp buckets.entry.now at moment }
+        { buckets[at].last().timestamp() < moment },
+    )
 }
 
 // How many items of the buckets aren't before `oldest`.

@@ -1,6 +1,6 @@
 //! What no clause says: with ample memory each call succeeds, also past one bucket.
 
-use crate::Tally;
+use crate::{Tally, Times};
 use std::test::Fail;
 
 // Times out of order, which split buckets. A tally that fails past its first bucket would pass each
@@ -88,5 +88,23 @@ fn takes_the_first(rt: HostRuntime) -> Result<(), Fail> {
     }
     assert!(rt; tally.pop_first().is_none());
     assert!(rt; tally.last().is_none());
+    Ok(())
+}
+
+// The times of one owner: one, a few, and more than a bucket takes.
+#[test]
+fn counts_the_times_of_one_owner(rt: HostRuntime) -> Result<(), Fail> {
+    let mut times = Times::new(0);
+    assert_eq!(rt; times.len(), 1);
+    assert_eq!(rt; times.since(0), 1);
+    assert_eq!(rt; times.since(1), 0);
+    for n in 1..1500u32 {
+        times.add(rt.alloc(), i64::from(n * 7 % 1500))?;
+        assert_eq!(rt; times.len(), n as usize + 1);
+        assert_eq!(rt; times.since(0), n as usize + 1);
+    }
+    for n in 0..1500u32 {
+        assert_eq!(rt; times.since(i64::from(n)), 1500 - n as usize);
+    }
     Ok(())
 }

@@ -3,6 +3,7 @@ use Rattle.std.specs.Int.{w64}
 use Rattle.std.specs.Option.{unwrap_or}
 use Rattle.std.specs.List.Sorted.{IsPermutation}
 use Rattle.std.proofs.lemmas.Int.{ints}
+use Rattle.std.proofs.lemmas.List.Sorted.{IsPermutation-refl}
 use Rattle.krb_replay.specs.Inner.Order.{client_cmp, client_total}
 use Rattle.krb_replay.specs.Inner.Times.{times_by}
 use Rattle.krb_replay.proofs.TimesLaws.{from_err, from_ok, more_times, none_there, still_times}
@@ -33,6 +34,6 @@ returns-clause-ok c =
     let t : to_z w64 (of_z w64 c.args.time) ≡ c.args.time = omega (arith, ints) in
     let none : times_by client_cmp c.args.self.now.times c.args.client ≡ [] =
     none_there (times_by client_cmp c.args.self.now.times c.args.client) (let few = c.if-of-gt0.false in let count = c.of.ensures in omega arith) in
-    more_times client_cmp client_total c.args.self.now.times c.insert.new.self c.args.client c.add-2.new.self c.args.time c.in_ok-insert.ensures.updates
-    (subst (λ (times : List ℤ). IsPermutation (c.args.time ∷ times) c.add-2.new.self) (c.new-times.ensures ∙ sym none)
-    (subst (λ (time : ℤ). IsPermutation (time ∷ c.new-times.result) c.add-2.new.self) t c.in_ok-add.ensures.ok))
+    more_times client_cmp client_total c.args.self.now.times c.insert.new.self c.args.client c.new.result c.args.time c.in_ok-insert.ensures.updates
+    (subst (λ (times : List ℤ). IsPermutation (c.args.time ∷ times) c.new.result) (sym none)
+    (subst (λ (times : List ℤ). IsPermutation (c.args.time ∷ []) times) (sym (c.new.ensures ∙ ap (λ (time : ℤ). time ∷ []) t)) (IsPermutation-refl (c.args.time ∷ []))))

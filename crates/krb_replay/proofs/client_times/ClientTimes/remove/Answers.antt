@@ -1,7 +1,7 @@
-use Rattle.std.proofs.Common.{◌≡◌, ◌≢◌, ◌∙◌, ℤ, Option, Some, None, List, [], ◌∷◌, All, Contains, IsSome, MatchOption, ap, arith, refl, subst, sym}
+use Rattle.std.proofs.Common.{◌≡◌, ◌∙◌, ℤ, Option, Some, None, List, [], ◌∷◌, Contains, IsSome, ap, length, arith, of_z, refl, subst, sym, to_z}
+use Rattle.std.specs.Int.{w64}
 use Rattle.std.specs.Option.{unwrap_or}
 use Rattle.std.specs.List.Sorted.{IsPermutation}
-use Rattle.std.proofs.lemmas.List.Elements.{All-contains}
 use Rattle.std.proofs.lemmas.List.Sorted.{length_permutation}
 use Rattle.std.proofs.lemmas.Int.{ints}
 use Rattle.krb_replay.specs.Inner.Order.{client_cmp, client_total}
@@ -9,19 +9,27 @@ use Rattle.krb_replay.specs.Inner.Times.{times_by}
 use Rattle.krb_replay.proofs.TimesLaws.{alone_moves, less_then_same, less_times, none_is_not_empty, same_times, some_are_not_empty}
 use Rattle.krb_replay.proofs.client_times.ClientTimes.remove.Goals as goal
 
--- what is there is removed
-removed : (answer : Option ℤ) (old new : List ℤ) (said time : ℤ) → said ≡ time → MatchOption answer (All (λ item. item ≢ said) old) (λ item. item ≡ said)
-    → MatchOption answer (new ≡ old) (λ item. IsPermutation old (item ∷ new)) → Contains old time → IsPermutation old (time ∷ new)
-removed None old new said time t lacks same there = absurd (All-contains (λ item. item ≢ said) old time lacks there (sym t))
-removed (Some item) old new said time t is others there = subst (λ (one : ℤ). IsPermutation old (one ∷ new)) (is ∙ t) others
+pub remove-requires-clause-there : goal.remove-requires-clause-there
+remove-requires-clause-there c =
+    let t : to_z w64 (of_z w64 c.args.time) ≡ c.args.time = omega (arith, ints) in
+    let was : times_by client_cmp c.args.self.now.times c.args.client.now ≡ c.in-Some.times.now = ap (λ (found : Option (List ℤ)). unwrap_or found []) (sym c.in-Some.ensures.value) in
+    subst (λ (time : ℤ). Contains c.in-Some.times.now time) (sym t) (subst (λ (times : List ℤ). Contains times c.args.time) was c.requires)
+
+pub remove-requires-clause-others : goal.remove-requires-clause-others
+remove-requires-clause-others c =
+    let was : times_by client_cmp c.args.self.now.times c.args.client.now ≡ c.in-Some.times.now = ap (λ (found : Option (List ℤ)). unwrap_or found []) (sym c.in-Some.ensures.value) in
+    let same = ap (λ (times : List ℤ). length times) was in
+    let count = c.of.ensures in
+    let above = c.if-of-gt1.true in
+    omega arith
 
 pub returns-in-Some : goal.returns-in-Some
 returns-in-Some c =
     let was : times_by client_cmp c.args.self.now.times c.args.client.now ≡ c.in-Some.times.now = ap (λ (found : Option (List ℤ)). unwrap_or found []) (sym c.in-Some.ensures.value) in
+    let t : to_z w64 (of_z w64 c.args.time) ≡ c.args.time = omega (arith, ints) in
     let moved : IsPermutation (times_by client_cmp c.args.self.now.times c.args.client.now) (c.args.time ∷ c.remove.new.self) =
     subst (λ (times : List ℤ). IsPermutation times (c.args.time ∷ c.remove.new.self)) (sym was)
-    (removed c.remove.result c.in-Some.times.now c.remove.new.self _ c.args.time (omega (arith, ints)) c.remove.ensures.item c.remove.ensures.others
-    (subst (λ (times : List ℤ). Contains times c.args.time) was c.requires)) in
+    (subst (λ (time : ℤ). IsPermutation c.in-Some.times.now (time ∷ c.remove.new.self)) t c.remove.ensures) in
     less_times client_cmp client_total c.args.self.now.times (c.get_mut.follows.lender c.remove.new.self) c.args.client.now (Some c.remove.new.self) c.args.time
     ((c.get_mut.follows.holds c.remove.new.self).3 (subst (λ (found : Option (List ℤ)). IsSome found) c.in-Some.ensures.value refl)) moved
     (some_are_not_empty c.remove.new.self

@@ -1,0 +1,13 @@
+use Rattle.std.proofs.Common.{◌≡◌, ◌∙◌, ◌∷◌, ℤ, List, arith, get_or, of_z, subst, sym, to_z}
+use Rattle.std.specs.Int.{w64}
+use Rattle.std.specs.List.{remove}
+use Rattle.std.specs.List.Sorted.{IsPermutation}
+use Rattle.std.proofs.lemmas.Int.{ints}
+use Rattle.std.proofs.lemmas.List.Sorted.{IsPermutation-remove}
+use Rattle.krb_tally.proofs.times.remove_from.Goals as goal
+
+pub returns-in-Some : goal.returns-in-Some
+returns-in-Some c =
+    let t : to_z w64 (of_z w64 c.args.time) ≡ c.args.time = omega (arith, ints) in
+    subst (λ (items : List ℤ). IsPermutation c.args.times.now (c.args.time ∷ items)) (sym c.take.ensures.others)
+    (IsPermutation-remove c.args.times.now c.in-Some.at c.args.time c.in-Some.ensures.within (sym (c.in-Some.ensures.here c.args.time ∙ t)))

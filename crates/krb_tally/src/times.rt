@@ -1,0 +1,131 @@
+//! The times of one owner, of whom there may be many.
+
+ghost use Rattle.std.specs.Prelude.{◌≡◌, ◌∷◌, ◌<◌, [], Contains, IfOk, OnErr, OnOk, length};
+ghost use Rattle.std.specs.List.Sorted.{IsPermutation};
+ghost use Rattle.krb_tally.specs.Times.{own_time, number_since};
+
+use crate::bucket::Bucket;
+use crate::tally::Tally;
+use std::alloc::{AllocError, Global};
+use std::marker::Model;
+
+/// The times of one owner, each as often as it was added. There is at least one. A contract sees
+/// them as a list, in some order.
+///
+/// Most owners have one time: it takes 16 bytes, and nothing is allocated for it. Up to 512 times are
+/// in one bucket, and more are in a [`Tally`]; both are allocated. (How long a call takes, and how
+/// much memory, isn't proved.)
+#[derive(Debug, Drop)]
+pub struct Times {
+    kept: Kept,
+}
+
+#[derive(Debug, Drop)]
+enum Kept {
+    One(i64),
+    Few(Box<Bucket<i64>>),
+    Many(Box<Tally<i64>>),
+}
+
+impl Model for Times {
+    ghost use Rattle.std.specs.Prelude.{List, ℤ};
+    ghost use Rattle.krb_tally.specs.Inner.Kept.{times_of};
+
+    ghost Value = { List ℤ };
+
+    ghost view = { λ times. times_of times.kept };
+}
+
+impl Times {
+    /// Makes the times of an owner that has one. Allocates nothing.
+    pub fn new(time: i64) -> Times
+        ensures { result ≡ time ∷ [] }
+    {
+        Times {
+            kept: Kept::One(time),
+        }
+    }
+
+    /// Returns how many times there are.
+    pub fn len(&self) -> usize
+        ensures { result ≡ length self.now }
+    {
+        match &self.kept {
+            Kept::One(_) => 1,
+            Kept::Few(times) => times.len(),
+            Kept::Many(times) => times.len(),
+        }
+    }
+
+    /// Returns how many times aren't before `oldest`.
+    pub fn since(&self, oldest: i64) -> usize
+        ensures { result ≡ number_since own_time oldest self.now }
+    {
+        match &self.kept {
+            Kept::One(time) => usize::from(*time >= oldest),
+            Kept::Few(times) => times.since(oldest),
+            Kept::Many(times) => times.since(oldest),
+        }
+    }
+
+    /// Adds a time.
+    ///
+    /// # Errors
+    /// `AllocError`: there is no memory. The times are as before.
+    pub fn add(&mut self, alloc: Global, time: i64) -> Result<(), AllocError>
+        ensures ok { OnOk result (IsPermutation (time ∷ self.old) self.new) }
+        ensures err { OnErr result (self.new ≡ self.old) }
+    {
+        match &mut self.kept {
+            Kept::One(first) => {
+                let mut times = Bucket::new(alloc, *first)?;
+                times.add(time)?;
+                self.kept = Kept::Few(Box::new(alloc, times)?);
+                Ok(())
+            }
+            Kept::Few(times) => {
+                if times.is_full() {
+                    self.kept = Kept::Many(one_more(alloc, times, time)?);
+                    return Ok(());
+                }
+                times.add(time)
+            }
+            Kept::Many(times) => times.add(time),
+        }
+    }
+
+    /// Removes a time. There are others.
+    pub fn remove(&mut self, time: i64)
+        requires there { Contains self.old time }
+        requires others { 1 < length self.old }
+        ensures { IsPermutation self.old (time ∷ self.new) }
+    {
+        match &mut self.kept {
+            Kept::One(_) => {}
+            Kept::Few(times) => remove_from(times, time),
+            Kept::Many(times) => {
+                let _ = times.remove(time);
+            }
+        }
+    }
+}
+
+// Copies the times of a full bucket, and adds one.
+fn one_more(alloc: Global, times: &Bucket<i64>, time: i64) -> Result<Box<Tally<i64>>, AllocError>
+    ensures { IfOk result (λ more. IsPermutation (time ∷ times.now) more.value) }
+{
+    let mut more = Tally::of_bucket(alloc, times.copy()?)?;
+    more.add(time)?;
+    Ok(Box::new(alloc, more)?)
+}
+
+// Removes a time of a bucket. There are others.
+fn remove_from(times: &mut Bucket<i64>, time: i64)
+    requires there { Contains times.old time }
+    requires others { 1 < length times.old }
+    ensures { IsPermutation times.old (time ∷ times.new) }
+{
+    if let Some(at) = times.find(time) {
+        let _ = times.take(at);
+    }
+}
