@@ -1,4 +1,4 @@
-//! Session keys with the keys that are derived from them.
+//! Session keys with the keys that are derived from them, and credentials with theirs.
 
 ghost use Rattle.std.specs.Prelude.{◌≡◌, ◌≢◌, ◌↔◌, IfErr, IfOk, IsTrue};
 ghost use Rattle.krb_enc.specs.Key.{IsUsable, profile_of};
@@ -81,4 +81,13 @@ impl ReadyKey {
     {
         &self.keys
     }
+}
+
+/// A credential, and its session key with the keys that are derived from it: what a request is made
+/// with.
+#[derive(Drop)]
+pub(crate) struct ReadyCredential<'a> {
+    pub(crate) credential: &'a Credential,
+    pub(crate) key: &'a ReadyKey,
+    ghost key_is: { key.now ≡ credential_key credential.now },
 }

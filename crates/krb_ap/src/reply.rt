@@ -43,8 +43,8 @@ impl Accepted {
         writing();
         krb_msg::laws::reply_size();
         let plain = self.reply_part(alloc, &options)?;
-        let keys = self.session_key.for_usage(usage::AP_REP);
-        let cipher = seal(alloc, &keys, confounder, plain.as_slice())?;
+        let keys = &self.session_key.for_usage(usage::AP_REP);
+        let cipher = seal(alloc, keys, confounder, plain.as_slice())?;
         let reply = ApRep {
             enc_part: encrypted(&self.session_key, cipher),
         };
