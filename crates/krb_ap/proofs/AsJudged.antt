@@ -1,5 +1,5 @@
 -- How an opened request is judged: at the moment that counts, by a memory that stands for a history.
-use Rattle.std.proofs.Common.{◌≡◌, ℕ, ℤ, List, sym, ap, subst, refl, inl, inr, Option, Ok, Err, Result}
+use Rattle.std.proofs.Common.{◌≡◌, ℕ, ℤ, List, sym, ap, subst, inl, inr, Option, Ok, Err, Result}
 use Rattle.std.specs.Prelude.{IfErr, IfOk}
 use Rattle.krb_der.specs.Kind.{ValueOf}
 use Rattle.krb_msg.specs.Module.{ap_req, enc_ticket_part, authenticator}
@@ -18,7 +18,7 @@ use Rattle.krb_ap.specs.Inner.Stages.{AnswersNew, IsOfTimes, TimesRefuse}
 use Rattle.krb_ap.specs.declared.accepted.Accepted.{Accepted}
 use Rattle.krb_ap.specs.declared.judging.Judged.{Judged}
 use Rattle.krb_ap.specs.declared.refusal.Refusal.{Refusal}
-use Rattle.krb_ap.specs.declared.refusal.Refusal.TheVariants.{Skew, JustStarted, Repeat, OutOfMemory}
+use Rattle.krb_ap.specs.declared.refusal.Refusal.TheVariants.{Skew, Repeat, OutOfMemory}
 use Rattle.krb_ap.proofs.Late.{times_named}
 use Rattle.krb_ap.proofs.OfOpened.{far, just_started, repeated, times_cause, times_accept}
 use Rattle.krb_ap.proofs.TurnedAway.{near_is_recent}

@@ -14,7 +14,7 @@ returns-in-Ok c = record {
   plain = c.in_ok-plain.plain.items;
   plain_is = c.in_ok-plain.ensures.written;
   text = c.in_ok-cipher.cipher.items;
-  text_is = sealed_by _ _ c.args.self.now.session_key reply_usage _ _ _ _ c.for_usage.ensures refl c.as_slice.ensures.value c.in_ok-cipher.ensures.sealed;
+  text_is = sealed_by _ _ c.args.self.now.session_key reply_usage _ _ _ _ c.for_usage-keys.ensures refl c.as_slice.ensures.value c.in_ok-cipher.ensures.sealed;
   bytes_are = subst (λ (v : ValueOf ap_rep). IsWritten ap_rep v c.in-Ok.bytes.items)
       (copied_reply c.args.self.now.session_key c.in_ok-cipher.cipher.items _ c.encrypted.ensures)
       (record { message = c.in-Ok.ensures.ok; written = c.in-Ok.ensures.written });

@@ -2,7 +2,7 @@ use Rattle.std.proofs.Common.{[]}
 use Rattle.krb_msg.specs.Borrowed.{ap_req_of, enc_ticket_part_of, authenticator_of}
 use Rattle.krb_msg.specs.Module.{authenticator, enc_ticket_part}
 use Rattle.krb_ap.specs.Setup.{arrival}
-use Rattle.krb_ap.specs.Opened.{AsksWithin, Authenticated, Keyed, OpenedAs, Ticketed, entry_key, session_key, authenticator_usage, ticket_usage}
+use Rattle.krb_ap.specs.Opened.{AsksWithin, Authenticated, Keyed, Ticketed, entry_key, session_key, authenticator_usage, ticket_usage}
 use Rattle.krb_ap.proofs.Truth.{err_is, if_ok, is_not, is_so}
 use Rattle.krb_ap.proofs.TurnedAway.{authenticator_shut, key_unusable, opens_nothing, opens_to_none, other_client, ticket_shut, turned_away, wanted, wants_by}
 use Rattle.krb_ap.proofs.AsJudged.{judged_far, judged_new, judged_repeat, serves}

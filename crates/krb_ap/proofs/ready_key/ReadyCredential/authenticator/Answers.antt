@@ -7,7 +7,7 @@ use Rattle.krb_ap.specs.Written.{IsWritten}
 use Rattle.krb_ap.specs.Opened.{authenticator_usage}
 use Rattle.krb_ap.specs.Credentials.{credential_key}
 use Rattle.krb_ap.proofs.Building.{copied, sealed_by, untold}
-use Rattle.krb_ap.proofs.ready_credential.ReadyCredential.authenticator.Goals as goal
+use Rattle.krb_ap.proofs.ready_key.ReadyCredential.authenticator.Goals as goal
 
 pub returns-in-Err-TooLong-clause-fault : goal.returns-in-Err-TooLong-clause-fault
 returns-in-Err-TooLong-clause-fault c = λ named. (

@@ -7,12 +7,12 @@ use Rattle.krb_msg.specs.Module.{ap_req, ticket as ticket_kind}
 use Rattle.krb_msg.specs.Owned.{owned_encrypted_of}
 use Rattle.krb_ap.specs.Written.{IsWritten}
 use Rattle.krb_ap.specs.Request.{request_for}
-use Rattle.krb_ap.specs.Inner.Requests.{HasTicket, IsUnbuilt}
+use Rattle.krb_ap.specs.Inner.Requests.{IsUnbuilt}
 use Rattle.krb_ap.specs.declared.request_fault.RequestFault.{RequestFault}
 use Rattle.krb_ap.proofs.Building.{copied_request, told_type, too_long_to_build}
 use Rattle.krb_ap.proofs.Truth.{err_is}
-use Rattle.krb_ap.proofs.ready_credential.ReadyCredential.request.Goals as goal
-use Rattle.krb_ap.proofs.ready_credential.ReadyCredential.request.Goals.{In-Ok, After-encode}
+use Rattle.krb_ap.proofs.ready_key.ReadyCredential.request.Goals as goal
+use Rattle.krb_ap.proofs.ready_key.ReadyCredential.request.Goals.{In-Ok, After-encode}
 
 ticket_of : (c : In-Ok) → IsMessage ticket_kind c.in-Ok.ticket c.args.self.now.credential.now.ticket
 ticket_of c = subst (λ (b : List ℕ). IsMessage ticket_kind c.in-Ok.ticket b) c.as_slice.ensures c.in-Ok.ensures.found
