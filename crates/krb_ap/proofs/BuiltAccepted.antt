@@ -1,5 +1,6 @@
--- A built request is accepted.
-use Rattle.std.proofs.Common.{◌≡◌, ℕ, ℤ, List, Bool, true, false, refl, sym, ap, subst, inl, inr, arith}
+-- A built request is accepted, or why it is refused.
+use Rattle.std.proofs.Common.{◌≡◌, ◌<◌, lit<, ℕ, ℤ, List, Bool, true, false, refl, sym, ap, subst, inl, inr, arith}
+use Rattle.std.specs.Prelude.{◌↔◌, IsTrue}
 use Rattle.krb_name.specs.declared.principal.Principal.{Principal}
 use Rattle.krb_der.specs.Kind.{ValueOf}
 use Rattle.krb_der.specs.Flags.{HasBit}
@@ -11,19 +12,23 @@ use Rattle.krb_msg.specs.Fields.{ticket_service, part_client}
 use Rattle.krb_keytab.specs.Entry.{KeytabEntry}
 use Rattle.krb_ccache.specs.Value.{Cache}
 use Rattle.krb_ccache.specs.declared.credential.Credential.{Credential}
-use Rattle.krb_ap.specs.Bit.{has_bit}
 use Rattle.krb_ap.specs.Setup.{Setup, Arrival, arrival}
-use Rattle.krb_ap.specs.Opened.{OpensAs, OpensAuthenticator, OpenedAs, authenticator_usage, stamp_at}
-use Rattle.krb_ap.specs.Times.{Near}
+use Rattle.krb_ap.specs.Opened.{OpensAs, OpensAuthenticator, OpenedAs, authenticator_usage, sent_at, stamp_at, stamp_of}
+use Rattle.krb_ap.specs.Times.{Near, IsEarly, IsLate, IsPathTrusted, IsDataIgnorable}
 use Rattle.krb_ap.specs.Quiet.{Settled}
 use Rattle.krb_ap.specs.History.{effective, IsShown}
 use Rattle.krb_ap.specs.Taken.{Taken, Accept, taken_from}
 use Rattle.krb_ap.specs.Written.{IsSealed}
 use Rattle.krb_ap.specs.Credentials.{credential_key}
 use Rattle.krb_ap.specs.Request.{Awaited, IsRequest, IsBuilt, awaited_for, request_for, authenticator_for, options_for}
-use Rattle.krb_ap.specs.Headline.{Agrees, HasTicket, MayBeTaken}
+use Rattle.krb_ap.specs.Headline.{Agrees, HasTicket, MayBeRefused, MayBeTaken}
+use Rattle.krb_ap.specs.Causes.{Cause, OfOpened, place}
 use Rattle.krb_ap.specs.Inner.Facts.{Facts}
 use Rattle.krb_ap.specs.declared.request.RequestOptions.{RequestOptions}
+use Rattle.krb_ap.specs.declared.refusal.Refusal.{Refusal}
+use Rattle.krb_ap.specs.declared.refusal.Refusal.TheVariants.{MessageType, Malformed, UserToUser, TicketEtype, NotUs, NoKey, BadKeyVersion, TicketIntegrity, SessionKey, AuthenticatorIntegrity, BadMatch, Skew, JustStarted, Repeat, NotYetValid, Expired, Transited, Authorization, OutOfMemory}
+use Rattle.krb_ap.proofs.OneOpening.{of_opened}
+use Rattle.krb_ap.proofs.Stages.{opened as opened_clears}
 
 -- ---- the options of a request
 
@@ -31,9 +36,9 @@ ordinary : (reply : Bool) → ¬ HasBit (options_for reply) use_session_key
 ordinary true h = absurd (omega (arith, h.1))
 ordinary false h = absurd (omega (arith, h.1))
 
-asked : (reply : Bool) → has_bit (options_for reply) mutual_required ≡ reply
-asked true = refl
-asked false = refl
+asked : (reply : Bool) → IsTrue reply ↔ HasBit (options_for reply) mutual_required
+asked true = (λ e. (omega arith, refl), λ h. refl)
+asked false = (λ e. absurd cc, λ h. absurd (omega (arith, h.1)))
 
 -- ---- what is sealed opens
 
@@ -70,8 +75,8 @@ module _ (credential : Credential) (at : ℤ) (confounder : List ℕ) (options :
       opens = subst (λ (k : KeyValue). OpensAs k authenticator_usage built.text authenticator told_auth) (sym has.key) opens_told;
     }
 
-    pub told_agrees : Agrees (taken_from told_request part told_auth) (awaited_for credential at options)
-    told_agrees = record {
+    pub told_agrees : (reply : Bool) → Agrees (taken_from told_request part told_auth reply) (awaited_for credential at options)
+    told_agrees reply = record {
       client = record { realm = has.client.realm; components = has.client.components };
       key = has.key;
       at = sym built.text_is.told.at_is;
@@ -124,7 +129,7 @@ module _ (facts : Facts) (setup : Setup) (history : List Arrival) (moment : ℤ)
   }
 
   abbrev taken : Taken
-  taken = taken_from message part auth
+  taken = taken_from message part auth options.mutual
 
   accept : HasTicket setup credential built.ticket part → MayBeTaken setup history moment at built.ticket part → Accept setup history (arrival bytes moment) taken
   accept has may = record {
@@ -138,12 +143,12 @@ module _ (facts : Facts) (setup : Setup) (history : List Arrival) (moment : ℤ)
     alive = may.alive;
     trusted = may.trusted;
     ignorable = record { of_ticket = may.ignorable; of_authenticator = tt };
-    taken_is = refl;
+    taken_is = record { told = refl; wants_reply = asked options.mutual };
   }
 
   agrees : HasTicket setup credential built.ticket part → Agrees taken awaited
   agrees has = subst (λ (a : Awaited). Agrees taken a) (sym request.awaited_is)
-      (told_agrees credential at confounder options bytes built setup built.ticket part has)
+      (told_agrees credential at confounder options bytes built setup built.ticket part has options.mutual)
 
   pub accepted_by : (ticket : ValueOf ticket_kind) → HasTicket setup credential ticket part → MayBeTaken setup history moment at ticket part
       → (t : Taken) × Accept setup history (arrival bytes moment) t × (t.client ≡ part_client part) × (t.service ≡ ticket_service ticket)
@@ -155,6 +160,47 @@ module _ (facts : Facts) (setup : Setup) (history : List Arrival) (moment : ℤ)
         accept built_in (subst (λ (t : ValueOf ticket_kind). MayBeTaken setup history moment at t part) same may),
         refl,
         ap ticket_service (sym same),
-        asked options.mutual,
+        refl,
         agrees built_in,
       )
+
+  -- ---- why it is refused
+
+  of : (P : ValueOf ap_req → ValueOf enc_ticket_part → ValueOf authenticator → Type 0) → OpenedAs setup bytes message part auth → OfOpened setup bytes P
+      → P message part auth
+  of P o h = of_opened facts setup bytes message part auth P o h
+
+  module _ (o : OpenedAs setup bytes message part auth) where
+    before : (r : Refusal) → place r < place Skew → Cause setup history (arrival bytes moment) r → ⊥
+    before r early cause = opened_clears facts setup history (arrival bytes moment) message part auth o r early cause.holds
+
+    by_cause : (r : Refusal) → Cause setup history (arrival bytes moment) r → MayBeRefused setup history moment at built.ticket part r
+    by_cause Skew cause = λ near. of (λ r p a. ¬ Near (sent_at a) (effective history moment) setup.skew) o cause.holds
+        (subst (λ (t : ℤ). Near t (effective history moment) setup.skew) built.text_is.told.at_is near)
+    by_cause JustStarted cause = λ settled. of (λ r p a. ¬ Settled setup (effective history moment) (sent_at a)) o cause.holds
+        (subst (λ (t : ℤ). Settled setup (effective history moment) t) built.text_is.told.at_is settled)
+    by_cause Repeat cause = subst (λ (t : ℤ). IsShown setup history (stamp_at (ticket_service built.ticket) (part_client part) t)) (sym built.text_is.told.at_is)
+        (of (λ r p a. IsShown setup history (stamp_of r p a)) o cause.holds)
+    by_cause NotYetValid cause = of (λ r p a. IsEarly p (effective history moment) setup.skew) o cause.holds
+    by_cause Expired cause = of (λ r p a. IsLate p (effective history moment) setup.skew) o cause.holds
+    by_cause Transited cause = of (λ r p a. ¬ IsPathTrusted r p) o cause.holds
+    by_cause Authorization cause = λ ignorable. of (λ r p a. ¬ IsDataIgnorable p a) o cause.holds (record { of_ticket = ignorable; of_authenticator = tt })
+    by_cause MessageType cause = before MessageType (lit< tt) cause
+    by_cause (Malformed fault) cause = before (Malformed fault) (lit< tt) cause
+    by_cause UserToUser cause = before UserToUser (lit< tt) cause
+    by_cause TicketEtype cause = before TicketEtype (lit< tt) cause
+    by_cause NotUs cause = before NotUs (lit< tt) cause
+    by_cause NoKey cause = before NoKey (lit< tt) cause
+    by_cause BadKeyVersion cause = before BadKeyVersion (lit< tt) cause
+    by_cause TicketIntegrity cause = before TicketIntegrity (lit< tt) cause
+    by_cause SessionKey cause = before SessionKey (lit< tt) cause
+    by_cause AuthenticatorIntegrity cause = before AuthenticatorIntegrity (lit< tt) cause
+    by_cause BadMatch cause = before BadMatch (lit< tt) cause
+    by_cause OutOfMemory cause = cause.holds
+
+  pub refused_by : (ticket : ValueOf ticket_kind) → HasTicket setup credential ticket part → (r : Refusal) → Cause setup history (arrival bytes moment) r
+      → MayBeRefused setup history moment at ticket part r
+  refused_by ticket has r cause =
+      let same : ticket ≡ built.ticket = facts.one_value ticket_kind is_ticket ticket built.ticket credential.ticket has.ticket_is built.ticket_is in
+      subst (λ (t : ValueOf ticket_kind). MayBeRefused setup history moment at t part r) (sym same)
+      (by_cause (opened (subst (λ (t : ValueOf ticket_kind). HasTicket setup credential t part) same has)) r cause)

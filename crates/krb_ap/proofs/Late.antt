@@ -1,15 +1,17 @@
 -- A near and new request: what is asked of its ticket.
-use Rattle.std.proofs.Common.{◌≡◌, ◌≢◌, ℕ, ℤ, List, pos, ◌+ℤ◌, inl, inr}
-use Rattle.std.specs.Prelude.{◌≤ℤ◌}
+use Rattle.std.proofs.Common.{◌≡◌, ◌≢◌, ℕ, ℤ, List, pos, ◌+ℤ◌, inl, inr, subst, Option, Some, None}
+use Rattle.std.specs.Prelude.{◌≤ℤ◌, MatchOption}
 use Rattle.krb_name.specs.declared.principal.Principal.{Principal}
 use Rattle.krb_der.specs.Kind.{ValueOf}
 use Rattle.krb_msg.specs.Module.{ap_req, enc_ticket_part, authenticator}
 use Rattle.krb_msg.specs.Fields.{part_times}
 use Rattle.krb_replay.specs.Stamp.{Stamp}
-use Rattle.krb_ap.specs.Opened.{stamp_at}
+use Rattle.krb_ap.specs.Setup.{Setup}
+use Rattle.krb_ap.specs.Opened.{sent_at, stamp_at}
+use Rattle.krb_ap.specs.Quiet.{Settled}
 use Rattle.krb_ap.specs.Causes.{TellsPlaceWithin}
 use Rattle.krb_ap.specs.Times.{Alive, IsEarly, IsLate, second_at, start_of}
-use Rattle.krb_ap.specs.Inner.Stages.{TimesRefuse}
+use Rattle.krb_ap.specs.Inner.Stages.{IsInTime, IsOfTimes, RefusesNew, TimesRefuse}
 use Rattle.krb_ap.proofs.Decided.{order}
 use Rattle.krb_ap.specs.declared.refusal.Refusal.{Refusal}
 use Rattle.krb_ap.specs.declared.refusal.Refusal.TheVariants.{OutOfMemory}
@@ -45,3 +47,11 @@ times_placed skew now request part auth r bytes h = elim h [
   | inl x ↦ rw x.0 tt
   | inr rest ↦ elim rest [ inl x ↦ rw x.0 tt | inr others ↦ elim others [ inl x ↦ rw x.0 tt | inr x ↦ rw x.0 tt ] ]
 ]
+
+-- why a new request is refused once the quiet start is over
+pub times_of_new : (setup : Setup) (now : ℤ) (request : ValueOf ap_req) (part : ValueOf enc_ticket_part) (auth : ValueOf authenticator) (skew : ℕ)
+    → skew ≡ setup.skew → (r : Option Refusal) → Settled setup now (sent_at auth)
+    → MatchOption r (IsOfTimes skew now request part auth) (TimesRefuse skew now request part auth)
+    → MatchOption r (IsInTime setup now request part auth) (RefusesNew setup now request part auth)
+times_of_new setup now request part auth skew e None settled h = (settled, subst (λ (s : ℕ). IsOfTimes s now request part auth) e h)
+times_of_new setup now request part auth skew e (Some r) settled h = inr (settled, subst (λ (s : ℕ). TimesRefuse s now request part auth r) e h)

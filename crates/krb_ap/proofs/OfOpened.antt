@@ -1,8 +1,8 @@
 -- An opened request: which row answers it, or that it is accepted.
 use Rattle.std.proofs.Common.{◌≡◌, ◌≢◌, ℕ, ℤ, pos, ◌+ℤ◌, ◌<◌, List, refl, sym, subst, inl, inr, ◌⊎◌, arith, Option, Some, None}
-use Rattle.std.specs.Prelude.{◌<ℤ◌, IfSome}
+use Rattle.std.specs.Prelude.{◌<ℤ◌, ◌↔◌, Bool, IfSome, IsTrue}
 use Rattle.krb_der.specs.Kind.{ValueOf}
-use Rattle.krb_msg.specs.Bits.{invalid, transited_policy_checked}
+use Rattle.krb_msg.specs.Bits.{invalid, mutual_required, transited_policy_checked}
 use Rattle.krb_msg.specs.Module.{ap_req, enc_ticket_part, authenticator, authorization_data}
 use Rattle.krb_msg.specs.Fields.{part_fields, request_fields, authenticator_fields, type_of, part_client, ticket_service, part_times}
 use Rattle.krb_replay.specs.Stamp.{Stamp}
@@ -11,7 +11,7 @@ use Rattle.krb_ap.specs.Opened.{OpenedAs, sent_at, stamp_of}
 use Rattle.krb_ap.specs.Times.{Near, IsEarly, IsLate, IsPathTrusted, IsDataIgnorable, MayBeIgnored, second_at, start_of}
 use Rattle.krb_ap.specs.Quiet.{Settled}
 use Rattle.krb_ap.specs.History.{effective, Shows, IsShown}
-use Rattle.krb_ap.specs.Taken.{Taken, taken_from, Accept}
+use Rattle.krb_ap.specs.Taken.{Taken, IsMutual, IsTakenFrom, taken_from, Accept}
 use Rattle.krb_ap.specs.Causes.{Cause, Holds, IsRemembered, OfOpened, place}
 use Rattle.krb_ap.specs.Inner.Facts.{Facts}
 use Rattle.krb_ap.specs.Inner.Decisions.{Decisions}
@@ -22,6 +22,7 @@ use Rattle.krb_ap.proofs.Late.{alive}
 use Rattle.krb_ap.proofs.OneOpening.{of_opened}
 use Rattle.krb_ap.proofs.Stages.{opened}
 use Rattle.krb_ap.proofs.Table.{Clear, pass}
+use Rattle.krb_ap.proofs.Truth.{truth_of}
 use Rattle.krb_ap.proofs.TurnedAway.{shown_near, shown_stamp, turned_away}
 use Rattle.krb_ap.specs.declared.refusal.Refusal.{Refusal}
 use Rattle.krb_ap.specs.declared.refusal.Refusal.TheVariants.{Skew, JustStarted, Repeat, NotYetValid, Expired, Transited, Authorization, OutOfMemory}
@@ -132,7 +133,7 @@ module _ (facts : Facts) (setup : Setup) (history : List Arrival) (bytes : List 
             of_cause : {s : Refusal} → s ≡ r → Cause setup history (arrival bytes moment) s → Cause setup history (arrival bytes moment) r
             of_cause same cause = subst (λ (x : Refusal). Cause setup history (arrival bytes moment) x) same cause
 
-        pub times_accept : (taken : Taken) → taken ≡ taken_from request part auth → IsOfTimes setup.skew (effective history moment) request part auth
+        pub times_accept : (taken : Taken) → IsTakenFrom request part auth taken → IsOfTimes setup.skew (effective history moment) request part auth
             → Accept setup history (arrival bytes moment) taken
         times_accept taken e h = record {
           request = request;
@@ -170,6 +171,9 @@ module _ (facts : Facts) (setup : Setup) (history : List Arrival) (bytes : List 
       | inr none ↦ inr (λ h. none (h.of_ticket, h.of_authenticator))
     ]
 
+    reply : (b : Bool) × (IsTrue b ↔ IsMutual request)
+    reply = truth_of (d.bit (request_fields request).options mutual_required)
+
     by_times : Near (sent_at auth) (effective history moment) setup.skew → Settled setup (effective history moment) (sent_at auth) → ¬ IsShown setup history (stamp_of request part auth)
         → ((t : Taken) × Accept setup history (arrival bytes moment) t) ⊎ ((r : Refusal) × Cause setup history (arrival bytes moment) r)
     by_times is_near is_settled new = elim early [
@@ -181,8 +185,9 @@ module _ (facts : Facts) (setup : Setup) (history : List Arrival) (bytes : List 
           | inl path ↦ elim ignorable [
             | inr h ↦ inr (Authorization, times_cause is_near is_settled new Authorization (inr (inr (inr (refl, (begun, (lasting, (path, h))))))))
             | inl ignored ↦ inl (
-              taken_from request part auth,
-              times_accept is_near is_settled new (taken_from request part auth) refl (record { early = begun; late = lasting; trusted = path; ignorable = ignored }),
+              taken_from request part auth reply.0,
+              times_accept is_near is_settled new (taken_from request part auth reply.0) (record { told = refl; wants_reply = reply.1 })
+                  (record { early = begun; late = lasting; trusted = path; ignorable = ignored }),
             )
           ]
         ]

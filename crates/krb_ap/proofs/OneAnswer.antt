@@ -1,8 +1,8 @@
 -- A call has one answer: accepted with what is then known, or one cause.
-use Rattle.std.proofs.Common.{◌≡◌, ◌≢◌, ◌<◌, List, sym, subst, ◌∙◌, inl, inr, ◌⊎◌, arith, Ok, Err, Result}
+use Rattle.std.proofs.Common.{◌≡◌, ◌≢◌, ◌<◌, List, ap, sym, subst, ◌∙◌, inl, inr, ◌⊎◌, arith, Ok, Err, Result}
 use Rattle.std.specs.Prelude.{MatchResult, IsErrAnd}
 use Rattle.krb_ap.specs.Setup.{Setup, Arrival}
-use Rattle.krb_ap.specs.Taken.{Taken, taken_from, Accept}
+use Rattle.krb_ap.specs.Taken.{Taken, taken_from, Accept, IsMutual, IsTakenFrom}
 use Rattle.krb_ap.specs.Causes.{Holds, place, Cause}
 use Rattle.krb_ap.specs.Answer.{Answers, taken_of}
 use Rattle.krb_ap.specs.Inner.Facts.{Facts}
@@ -10,6 +10,7 @@ use Rattle.krb_ap.proofs.OneOpening.{of_same, one_authenticated, SameOpening}
 use Rattle.krb_ap.proofs.Decided.{one_first}
 use Rattle.krb_ap.proofs.OfOpened.{accepted_is_clear}
 use Rattle.krb_ap.proofs.Afterwards.{memory_or_not}
+use Rattle.krb_ap.proofs.Truth.{same_truth}
 use Rattle.krb_ap.specs.declared.accepted.Accepted.{Accepted}
 use Rattle.krb_ap.specs.declared.refusal.Refusal.{Refusal}
 use Rattle.krb_ap.specs.declared.refusal.Refusal.TheVariants.{OutOfMemory}
@@ -30,7 +31,11 @@ module _ (facts : Facts) (setup : Setup) (history : List Arrival) (call : Arriva
   one_taken one other a b =
       let same : SameOpening a.request b.request a.part b.part a.auth b.auth =
       one_authenticated facts setup call.bytes a.request b.request a.part b.part a.auth b.auth a.opened.authenticated b.opened.authenticated in
-      of_same a.request b.request a.part b.part a.auth b.auth (λ r p x. other ≡ taken_from r p x) same b.taken_is ∙ sym a.taken_is
+      let known : IsTakenFrom a.request a.part a.auth other =
+      of_same a.request b.request a.part b.part a.auth b.auth (λ r p x. IsTakenFrom r p x other) same b.taken_is in
+      known.told
+      ∙ (ap (taken_from a.request a.part a.auth) (same_truth other.wants_reply one.wants_reply (IsMutual a.request) known.wants_reply a.taken_is.wants_reply)
+      ∙ sym a.taken_is.told)
 
   -- and its cause has one place
   pub one_place : (r s : Refusal) → Cause setup history call r → Cause setup history call s → place r ≡ place s

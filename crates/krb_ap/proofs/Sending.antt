@@ -1,5 +1,5 @@
 -- What a service takes from a built request, and what a client opens a reply to.
-use Rattle.std.proofs.Common.{◌≡◌, ℕ, ℤ, List, refl, sym, ◌∙◌, ap, subst}
+use Rattle.std.proofs.Common.{◌≡◌, ℕ, ℤ, List, sym, ◌∙◌, ap, subst}
 use Rattle.krb_der.specs.Kind.{ValueOf}
 use Rattle.krb_der.specs.Spells.{IsMessage}
 use Rattle.krb_enc.specs.Key.{KeyValue}
@@ -9,7 +9,7 @@ use Rattle.krb_time.specs.Moments.{micros_of}
 use Rattle.krb_ccache.specs.declared.credential.Credential.{Credential}
 use Rattle.krb_ap.specs.Setup.{Setup, Arrival}
 use Rattle.krb_ap.specs.Opened.{OpensAs, Asks, Ticketed, OpensAuthenticator, OpenedAs, authenticator_usage, stamp_at, stamp_of}
-use Rattle.krb_ap.specs.Taken.{Taken, Accept, taken_from}
+use Rattle.krb_ap.specs.Taken.{Taken, Accept, IsTakenFrom, taken_from}
 use Rattle.krb_ap.specs.Credentials.{credential_key}
 use Rattle.krb_ap.specs.Request.{IsBuilt, awaited_for}
 use Rattle.krb_ap.specs.Headline.{Agrees, HasTicket}
@@ -73,9 +73,9 @@ module _ (facts : Facts) (setup : Setup) (credential : Credential) (ticket : Val
       let second : OpensAuthenticator message part a = subst (λ (x : ValueOf enc_ticket_part). OpensAuthenticator message x a) same first in
       record { request = request; part = same; auth = one_auth facts message part auth a auth_opens second }
 
-  taken_told : (r : ValueOf ap_req) (p : ValueOf enc_ticket_part) (a : ValueOf authenticator) → SameOpening message r part p auth a
-      → taken_from r p a ≡ taken_from message part auth
-  taken_told r p a same = of_same message r part p auth a (λ x y z. taken_from r p a ≡ taken_from x y z) same refl
+  taken_told : (r : ValueOf ap_req) (p : ValueOf enc_ticket_part) (a : ValueOf authenticator) (taken : Taken) → SameOpening message r part p auth a
+      → IsTakenFrom r p a taken → taken ≡ taken_from message part auth taken.wants_reply
+  taken_told r p a taken same known = of_same message r part p auth a (λ x y z. taken ≡ taken_from x y z taken.wants_reply) same known.told
 
   -- the service knows what the client awaits
   pub taken_agrees : (history : List Arrival) (call : Arrival) (taken : Taken) → call.bytes ≡ bytes → Accept setup history call taken
@@ -83,8 +83,8 @@ module _ (facts : Facts) (setup : Setup) (credential : Credential) (ticket : Val
   taken_agrees history call taken e a =
       let opened : OpenedAs setup bytes a.request a.part a.auth = subst (λ (b : List ℕ). OpenedAs setup b a.request a.part a.auth) e a.opened in
       subst (λ (t : Taken). Agrees t (awaited_for credential at options))
-      (sym (a.taken_is ∙ taken_told a.request a.part a.auth (opened_as a.request a.part a.auth opened)))
-      (told_agrees credential at confounder options bytes built setup ticket part has)
+      (sym (taken_told a.request a.part a.auth taken (opened_as a.request a.part a.auth opened) a.taken_is))
+      (told_agrees credential at confounder options bytes built setup ticket part has taken.wants_reply)
 
   -- and remembers it by the ticket's names and the client's moment
   pub stamp_taken : (history : List Arrival) (call : Arrival) (taken : Taken) → call.bytes ≡ bytes → (a : Accept setup history call taken)

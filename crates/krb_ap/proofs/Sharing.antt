@@ -21,12 +21,12 @@ has_its_stamp setup history call taken a = record {
   part = a.part;
   auth = a.auth;
   opened = a.opened;
-  stamp_is = ap taken_stamp a.taken_is;
+  stamp_is = ap taken_stamp a.taken_is.told;
 }
 
 pub has_no_other : Facts → (setup : Setup) (history : List Arrival) (call : Arrival) (taken : Taken) (stamp : Stamp) → Accept setup history call taken
     → HasStamp setup call.bytes stamp → stamp ≡ taken_stamp taken
-has_no_other facts setup history call taken stamp a has = one_stamp facts setup history call taken stamp a has ∙ sym (ap taken_stamp a.taken_is)
+has_no_other facts setup history call taken stamp a has = one_stamp facts setup history call taken stamp a has ∙ sym (ap taken_stamp a.taken_is.told)
 
 -- ---- what was forgotten isn't accepted
 
@@ -39,7 +39,7 @@ too_late time shows at own skew le near ahead past = omega (arith, ints)
 accepted_until : (setup : Setup) (history : List Arrival) (call : Arrival) (taken : Taken) → Accept setup history call taken
     → effective history call.moment ≤ℤ ((taken_stamp taken).time +ℤ pos setup.skew)
 accepted_until setup history call taken a =
-    subst (λ (s : Stamp). effective history call.moment ≤ℤ (s.time +ℤ pos setup.skew)) (sym (ap taken_stamp a.taken_is)) a.near.not_before
+    subst (λ (s : Stamp). effective history call.moment ≤ℤ (s.time +ℤ pos setup.skew)) (sym (ap taken_stamp a.taken_is.told)) a.near.not_before
 
 late_for : (skew : ℕ) (asked : Asked) (shows at : ℤ) → kept_until (asked_stamp asked) skew <ℤ at → ClocksAgree skew asked shows at → ¬ InTime asked shows
 late_for skew asked shows at past agree in_time =

@@ -1,6 +1,6 @@
 -- Tests that say a fact.
-use Rattle.std.proofs.Common.{◌≡◌, Bool, true, false}
-use Rattle.std.specs.Prelude.{Result, Ok, Err, IfOk, IsTrue, ◌↔◌}
+use Rattle.std.proofs.Common.{◌≡◌, Bool, true, false, ap, refl, sym, ◌⊎◌, inl, inr}
+use Rattle.std.specs.Prelude.{Result, Ok, Err, IfOk, IsErr, IsErrAnd, IsTrue, ◌↔◌}
 
 pub is_so : (b : Bool) (P : Type 0) → (IsTrue b ↔ P) → b ≡ true → P
 is_so b P h e = h.0 e
@@ -11,7 +11,23 @@ true_is_not_false b p q = cc
 pub is_not : (b : Bool) (P : Type 0) → (IsTrue b ↔ P) → b ≡ false → ¬ P
 is_not b P h e p = true_is_not_false b (h.1 p) e
 
+-- what is decided has a truth value
+pub truth_of : {P : Type 0} → P ⊎ ¬ P → (b : Bool) × (IsTrue b ↔ P)
+truth_of (inl p) = (true, (λ e. p, λ q. refl))
+truth_of (inr none) = (false, (λ e. absurd cc, λ q. absurd (none q)))
+
+-- truth values of one statement are one
+pub same_truth : (a b : Bool) (P : Type 0) → (IsTrue a ↔ P) → (IsTrue b ↔ P) → a ≡ b
+same_truth true b P h i = sym (i.1 (h.0 refl))
+same_truth false true P h i = h.1 (i.0 refl)
+same_truth false false P h i = refl
+
 -- what holds, holds of each success
 pub if_ok : {T E P : Type 0} (r : Result T E) → P → IfOk r (λ _. P)
 if_ok (Ok x) p = p
 if_ok (Err e) p = tt
+
+-- what a `?` returns
+pub err_is : {T E : Type 0} {e : E} (r : Result T E) → IsErr r × IsErrAnd r (λ y. y ≡ e) → r ≡ Err e
+err_is (Ok x) h = absurd h.1
+err_is (Err y) h = ap Err h.1

@@ -35,16 +35,9 @@ opens_to_none facts key usage cipher plain k opens none v o =
 pub opens_nothing : (key : KeyValue) (usage : ℕ) (cipher : List ℕ) (k : Kind) → IsShut key usage cipher → (v : ValueOf k) → ¬ OpensAs key usage cipher k v
 opens_nothing key usage cipher k shut v o = shut o.plain o.opens
 
-pub wants_by : (setup : Setup) (request : ValueOf ap_req) (entries : List KeytabEntry) (server : Principal) (r : Refusal)
-    → entries ≡ setup.entries → server ≡ service_of request → Wants entries server (sealed_ticket request) r
-    → Wants setup.entries (service_of request) (sealed_ticket request) r
-wants_by setup request entries server r e s w =
-    subst (λ (n : Principal). Wants setup.entries n (sealed_ticket request) r) s
-    (subst (λ (l : List KeytabEntry). Wants l server (sealed_ticket request) r) e w)
-
-pub near_by : (a b n m : ℤ) (s t : ℕ) → a ≡ b → n ≡ m → s ≡ t → Near b m t → Near a n s
-near_by a b n m s t e f h near =
-    subst (λ (x : ℤ). Near x n s) (sym e) (subst (λ (x : ℤ). Near b x s) (sym f) (subst (λ (x : ℕ). Near b m x) (sym h) near))
+pub wants_by : (setup : Setup) (request : ValueOf ap_req) (server : Principal) (r : Refusal) → server ≡ service_of request
+    → Wants setup.entries server (sealed_ticket request) r → Wants setup.entries (service_of request) (sealed_ticket request) r
+wants_by setup request server r s w = subst (λ (n : Principal). Wants setup.entries n (sealed_ticket request) r) s w
 
 module _ (facts : Facts) (setup : Setup) (history : List Arrival) (bytes : List ℕ) (moment : ℤ) (Has : Stamp → Type 0) where
   -- what a cause before the opening turns away shows nothing

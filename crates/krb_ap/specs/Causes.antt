@@ -1,6 +1,6 @@
 -- Why a service refuses an arrival: a table of causes. The first that holds is the answer. The
 -- order is our own; the codes are of RFC 4120, section 7.5.9.
-use Rattle.std.specs.Prelude.{◌≡◌, ◌≢◌, ◌<◌, ◌≤◌, ℕ, ℤ, pos, Bool, true, false, IsTrue, List, ◌∷◌, length, Option, Some, None, IfSome, codes}
+use Rattle.std.specs.Prelude.{◌≡◌, ◌≢◌, ◌<◌, ◌≤◌, ℕ, ℤ, Bool, true, false, IsTrue, List, ◌∷◌, length, Option, Some, None, IfSome, codes}
 use Rattle.krb_der.specs.Kind.{ValueOf, tag_of}
 use Rattle.krb_der.specs.Spells.{IsMessage}
 use Rattle.krb_der.specs.Fault.{IsFault}
@@ -11,6 +11,7 @@ use Rattle.krb_msg.specs.Module.{ap_req, enc_ticket_part, authenticator}
 use Rattle.krb_msg.specs.Fields.{request_fields, encrypted_fields}
 use Rattle.krb_keytab.specs.Entry.{KeytabEntry}
 use Rattle.krb_keytab.specs.Pick.{no_name, no_key, no_version}
+use Rattle.krb_ap.specs.ErrorCodes.{kdc_err_etype_nosupp, krb_ap_err_bad_integrity, krb_ap_err_tkt_expired, krb_ap_err_tkt_nyv, krb_ap_err_repeat, krb_ap_err_not_us, krb_ap_err_badmatch, krb_ap_err_skew, krb_ap_err_msg_type, krb_ap_err_badkeyver, krb_ap_err_nokey, krb_err_generic}
 use Rattle.krb_ap.specs.Setup.{Setup, Arrival, decided_now}
 use Rattle.krb_ap.specs.Opened.{Asks, Keyed, Ticketed, Authenticated, OpenedAs, OpensAs, OpensAuthenticator, SameClient, IsChoiceFor, sealed_ticket, session_key, entry_key, ticket_usage, sent_at, stamp_of}
 use Rattle.krb_ap.specs.Times.{Near, IsEarly, IsLate, IsPathTrusted, IsDataIgnorable}
@@ -85,66 +86,45 @@ pub record Row : Type 1 where
 abbrev pub row_of : ℕ → List ℕ → Option ℤ → Bool → (Setup → List Arrival → Arrival → Type 0) → Row
 row_of place name code remembered holds = record { place = place; name = name; code = code; remembered = remembered; holds = holds }
 
-abbrev pub kerberos : ℕ → Option ℤ
-kerberos code = Some (pos code)
-
 -- The codes are RFC 4120's. If the RFC names none for a cause, the choice is ours: KRB_ERR_GENERIC
 -- for malformed requests and for what we don't look at, KDC_ERR_ETYPE_NOSUPP for types that we
 -- don't know, KRB_AP_ERR_NOKEY for user-to-user requests. A wrong version number or a wrong message
--- type after a good tag is malformed here, though RFC 4120 has 39 and 40 for them. KRB_AP_ERR_NOKEY
--- for a missing key is the RFC's own (3.2.3).
+-- type after a good tag is malformed here, though RFC 4120 has KRB_AP_ERR_BADVERSION and
+-- KRB_AP_ERR_MSG_TYPE for them. KRB_AP_ERR_NOKEY for a missing key is the RFC's own (3.2.3).
 abbrev pub row : Refusal → Row
--- KRB_AP_ERR_MSG_TYPE
-row MessageType = row_of 100 (codes "MessageType") (kerberos 40) false (λ setup history call. BeginsOtherwise (tag_of ap_req) call.bytes)
--- KRB_ERR_GENERIC
-row (Malformed fault) = row_of 200 (codes "Malformed") (kerberos 60) false
+row MessageType = row_of 100 (codes "MessageType") (Some krb_ap_err_msg_type) false (λ setup history call. BeginsOtherwise (tag_of ap_req) call.bytes)
+row (Malformed fault) = row_of 200 (codes "Malformed") (Some krb_err_generic) false
     (λ setup history call. ((request : ValueOf ap_req) → ¬ IsMessage ap_req request call.bytes) × IsFault ap_req call.bytes fault)
--- KRB_AP_ERR_NOKEY
-row UserToUser = row_of 300 (codes "UserToUser") (kerberos 45) false
+row UserToUser = row_of 300 (codes "UserToUser") (Some krb_ap_err_nokey) false
     (λ setup history call. OfRequest call.bytes (λ request. HasBit (request_fields request).options use_session_key))
--- KDC_ERR_ETYPE_NOSUPP
-row TicketEtype = row_of 400 (codes "TicketEtype") (kerberos 14) false
+row TicketEtype = row_of 400 (codes "TicketEtype") (Some kdc_err_etype_nosupp) false
     (λ setup history call. OfRequest call.bytes (λ request. ¬ IsKnown (encrypted_fields (sealed_ticket request)).etype))
--- KRB_AP_ERR_NOT_US
-row NotUs = row_of 500 (codes "NotUs") (kerberos 35) false
+row NotUs = row_of 500 (codes "NotUs") (Some krb_ap_err_not_us) false
     (λ setup history call. OfAsked call.bytes (λ request. IsChoiceFor setup request no_name))
--- KRB_AP_ERR_NOKEY
-row NoKey = row_of 600 (codes "NoKey") (kerberos 45) false
+row NoKey = row_of 600 (codes "NoKey") (Some krb_ap_err_nokey) false
     (λ setup history call. OfAsked call.bytes (λ request. IsChoiceFor setup request no_key))
--- KRB_AP_ERR_BADKEYVER
-row BadKeyVersion = row_of 700 (codes "BadKeyVersion") (kerberos 44) false
+row BadKeyVersion = row_of 700 (codes "BadKeyVersion") (Some krb_ap_err_badkeyver) false
     (λ setup history call. OfAsked call.bytes (λ request. IsChoiceFor setup request no_version))
--- KRB_AP_ERR_BAD_INTEGRITY
-row TicketIntegrity = row_of 800 (codes "TicketIntegrity") (kerberos 31) false (λ setup history call. IsTicketShut setup call.bytes)
--- KDC_ERR_ETYPE_NOSUPP
-row SessionKey = row_of 900 (codes "SessionKey") (kerberos 14) false
+row TicketIntegrity = row_of 800 (codes "TicketIntegrity") (Some krb_ap_err_bad_integrity) false (λ setup history call. IsTicketShut setup call.bytes)
+row SessionKey = row_of 900 (codes "SessionKey") (Some kdc_err_etype_nosupp) false
     (λ setup history call. OfTicket setup call.bytes (λ request part. ¬ IsUsable (session_key part)))
--- KRB_AP_ERR_BAD_INTEGRITY
-row AuthenticatorIntegrity = row_of 1_000 (codes "AuthenticatorIntegrity") (kerberos 31) false
+row AuthenticatorIntegrity = row_of 1_000 (codes "AuthenticatorIntegrity") (Some krb_ap_err_bad_integrity) false
     (λ setup history call. OfTicket setup call.bytes (λ request part. (auth : ValueOf authenticator) → ¬ OpensAuthenticator request part auth))
--- KRB_AP_ERR_BADMATCH
-row BadMatch = row_of 1_100 (codes "BadMatch") (kerberos 36) false
+row BadMatch = row_of 1_100 (codes "BadMatch") (Some krb_ap_err_badmatch) false
     (λ setup history call. OfAuthenticator setup call.bytes (λ part auth. ¬ SameClient part auth))
--- KRB_AP_ERR_SKEW
-row Skew = row_of 1_200 (codes "Skew") (kerberos 37) false
+row Skew = row_of 1_200 (codes "Skew") (Some krb_ap_err_skew) false
     (λ setup history call. OfOpened setup call.bytes (λ request part auth. ¬ Near (sent_at auth) (effective history call.moment) setup.skew))
--- KRB_AP_ERR_SKEW
-row JustStarted = row_of 1_250 (codes "JustStarted") (kerberos 37) true
+row JustStarted = row_of 1_250 (codes "JustStarted") (Some krb_ap_err_skew) true
     (λ setup history call. OfOpened setup call.bytes (λ request part auth. ¬ Settled setup (effective history call.moment) (sent_at auth)))
--- KRB_AP_ERR_REPEAT
-row Repeat = row_of 1_300 (codes "Repeat") (kerberos 34) false
+row Repeat = row_of 1_300 (codes "Repeat") (Some krb_ap_err_repeat) false
     (λ setup history call. OfOpened setup call.bytes (λ request part auth. IsShown setup history (stamp_of request part auth)))
--- KRB_AP_ERR_TKT_NYV
-row NotYetValid = row_of 1_400 (codes "NotYetValid") (kerberos 33) true
+row NotYetValid = row_of 1_400 (codes "NotYetValid") (Some krb_ap_err_tkt_nyv) true
     (λ setup history call. OfOpened setup call.bytes (λ request part auth. IsEarly part (effective history call.moment) setup.skew))
--- KRB_AP_ERR_TKT_EXPIRED
-row Expired = row_of 1_500 (codes "Expired") (kerberos 32) true
+row Expired = row_of 1_500 (codes "Expired") (Some krb_ap_err_tkt_expired) true
     (λ setup history call. OfOpened setup call.bytes (λ request part auth. IsLate part (effective history call.moment) setup.skew))
--- KRB_ERR_GENERIC
-row Transited = row_of 1_600 (codes "Transited") (kerberos 60) true
+row Transited = row_of 1_600 (codes "Transited") (Some krb_err_generic) true
     (λ setup history call. OfOpened setup call.bytes (λ request part auth. ¬ IsPathTrusted request part))
--- KRB_ERR_GENERIC
-row Authorization = row_of 1_700 (codes "Authorization") (kerberos 60) true
+row Authorization = row_of 1_700 (codes "Authorization") (Some krb_err_generic) true
     (λ setup history call. OfOpened setup call.bytes (λ request part auth. ¬ IsDataIgnorable part auth))
 row OutOfMemory = row_of 1_800 (codes "OutOfMemory") None false (λ setup history call. ⊥)
 

@@ -15,13 +15,15 @@ use Rattle.krb_keytab.specs.Pick.{chosen, IsChoice}
 use Rattle.krb_ccache.specs.declared.credential.Credential.{Credential}
 use Rattle.krb_ap.specs.Setup.{Setup, Arrival}
 use Rattle.krb_ap.specs.Opened.{OpensAs, entry_key, session_key, stamp_at, ticket_usage}
-use Rattle.krb_ap.specs.Times.{Near, Alive, MayBeIgnored}
+use Rattle.krb_ap.specs.Times.{Near, Alive, IsEarly, IsLate, MayBeIgnored}
 use Rattle.krb_ap.specs.Quiet.{Settled}
 use Rattle.krb_ap.specs.History.{effective, IsShown}
 use Rattle.krb_ap.specs.Taken.{Taken}
 use Rattle.krb_ap.specs.Written.{key_value}
 use Rattle.krb_ap.specs.Credentials.{credential_key}
 use Rattle.krb_ap.specs.Request.{Awaited}
+use Rattle.krb_ap.specs.declared.refusal.Refusal.{Refusal}
+use Rattle.krb_ap.specs.declared.refusal.Refusal.TheVariants.{Skew, JustStarted, Repeat, NotYetValid, Expired, Transited, Authorization}
 
 -- the key that the keytab has for the credential's ticket opens it to this part, which has the
 -- credential's client and key
@@ -42,6 +44,18 @@ pub record MayBeTaken (setup : Setup) (history : List Arrival) (moment at : ℤ)
   pub ignorable : MayBeIgnored (part_fields part).authorization
   pub settled : Settled setup (effective history moment) at
   pub unshown : ¬ IsShown setup history (stamp_at (ticket_service ticket) (part_client part) at)
+
+-- why it is refused: the same, each for itself
+abbrev pub MayBeRefused : Setup → List Arrival → ℤ → ℤ → ValueOf ticket_kind → ValueOf enc_ticket_part → Refusal → Type 0
+MayBeRefused setup history moment at ticket part Skew = ¬ Near at (effective history moment) setup.skew
+MayBeRefused setup history moment at ticket part JustStarted = ¬ Settled setup (effective history moment) at
+MayBeRefused setup history moment at ticket part Repeat = IsShown setup history (stamp_at (ticket_service ticket) (part_client part) at)
+MayBeRefused setup history moment at ticket part NotYetValid = IsEarly part (effective history moment) setup.skew
+MayBeRefused setup history moment at ticket part Expired = IsLate part (effective history moment) setup.skew
+MayBeRefused setup history moment at ticket part Transited =
+    ¬ (((part_client part).realm ≡ (ticket_service ticket).realm) ⊎ HasBit (part_fields part).flags transited_policy_checked)
+MayBeRefused setup history moment at ticket part Authorization = ¬ MayBeIgnored (part_fields part).authorization
+MayBeRefused setup history moment at ticket part _ = ⊥
 
 -- what the service knows is what the client awaits: its own name (of the ticket's name type), key,
 -- moment, subkey and sequence number

@@ -2,8 +2,8 @@ pub mod Setup
 pub mod Opened
 pub mod Times
 pub mod History
-pub mod Bit
 pub mod Taken
+pub mod ErrorCodes
 pub mod Causes
 pub mod Answer
 pub mod Undecided

@@ -1,8 +1,8 @@
 -- What a service accepts, and what it then knows (RFC 4120, section 3.2.3).
-use Rattle.std.specs.Prelude.{◌≡◌, ℕ, ℤ, List, Option, Bool}
+use Rattle.std.specs.Prelude.{◌≡◌, ◌↔◌, ℕ, ℤ, List, Option, Bool, IsTrue}
 use Rattle.krb_name.specs.declared.principal.Principal.{Principal}
 use Rattle.krb_der.specs.Kind.{leaf, octets, ValueOf}
-use Rattle.krb_ap.specs.Bit.{has_bit}
+use Rattle.krb_der.specs.Flags.{HasBit}
 use Rattle.krb_enc.specs.Key.{KeyValue}
 use Rattle.krb_msg.specs.Bits.{mutual_required}
 use Rattle.krb_msg.specs.Module.{typed, ap_req, enc_ticket_part, authenticator}
@@ -43,11 +43,12 @@ pub record Taken : Type 0 where
 abbrev pub taken_stamp : Taken → Stamp
 taken_stamp taken = stamp_at taken.service taken.client (micros_of taken.ctime taken.cusec)
 
-abbrev pub is_mutual : ValueOf ap_req → Bool
-is_mutual request = has_bit (request_fields request).options mutual_required
+-- the request asks for a reply
+abbrev pub IsMutual : ValueOf ap_req → Type 0
+IsMutual request = HasBit (request_fields request).options mutual_required
 
-abbrev pub taken_from : ValueOf ap_req → ValueOf enc_ticket_part → ValueOf authenticator → Taken
-taken_from request part auth = record {
+abbrev pub taken_from : ValueOf ap_req → ValueOf enc_ticket_part → ValueOf authenticator → Bool → Taken
+taken_from request part auth wants_reply = record {
   client = part_client part;
   service = service_of request;
   session_key = session_key part;
@@ -64,8 +65,13 @@ taken_from request part auth = record {
   authenticator_authorization = (authenticator_fields auth).authorization;
   ctime = (authenticator_fields auth).ctime;
   cusec = (authenticator_fields auth).cusec;
-  wants_reply = is_mutual request;
+  wants_reply = wants_reply;
 }
+
+-- this is what is known of a request that is opened so
+pub record IsTakenFrom (request : ValueOf ap_req) (part : ValueOf enc_ticket_part) (auth : ValueOf authenticator) (taken : Taken) : Type 0 where
+  pub told : taken ≡ taken_from request part auth taken.wants_reply
+  pub wants_reply : IsTrue taken.wants_reply ↔ IsMutual request
 
 -- After a history, bytes that arrive at a moment are accepted, and this is what is then known: they
 -- are opened, near, alive, trusted and not shown before, and the quiet start is over.
@@ -80,7 +86,7 @@ pub record IsAccepted (setup : Setup) (history : List Arrival) (bytes : List ℕ
   pub alive : Alive part (effective history moment) setup.skew
   pub trusted : IsPathTrusted request part
   pub ignorable : IsDataIgnorable part auth
-  pub taken_is : taken ≡ taken_from request part auth
+  pub taken_is : IsTakenFrom request part auth taken
 
 abbrev pub Accept : Setup → List Arrival → Arrival → Taken → Type 0
 Accept setup history call taken = IsAccepted setup history call.bytes call.moment taken

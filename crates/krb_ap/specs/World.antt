@@ -192,7 +192,8 @@ pub record IsHeldToo (credential : Credential) (w : World) (sent : Sent) (agreem
   pub same : HoldSame credential (record { sent = sent; agreement = agreement }) reply
 
 -- in each world in which this request was sent, and these bytes are a packet, the service too holds
--- what was agreed
+-- what was agreed, if the key that the keytab has for the credential's ticket opens it to the
+-- credential's client and key
 abbrev pub IsHeldInEachWorld : Awaited → List ℕ → Agreement → Type 0
 IsHeldInEachWorld awaited bytes agreement = (setup : Setup) (credential : Credential) (ticket : ValueOf ticket_kind) (part : ValueOf enc_ticket_part)
     (events : List Event) (w : World) (sent : Sent) → HasTicket setup credential ticket part → Comes credential (nothing_yet setup) events w

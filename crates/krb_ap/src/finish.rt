@@ -57,7 +57,8 @@ impl Pending {
     /// - `Mismatch`: its time isn't the request's, to the microsecond.
     pub fn finish(&self, alloc: Global, reply: &[u8]) -> Result<Agreed, FinishFault>
         ensures agreed { IfOk result (λ agreed. IsAgreed self.now reply.now (agreement_of agreed)) }
-        // In each world of `specs/World` in which the request was sent: the service held for it what is agreed.
+        // In each world of `specs/World` in which the request was sent and these bytes are a packet, if the key that the
+        // keytab has opens the ticket to the credential's client and key: the service held for it what is agreed.
         ensures held { IfOk result (λ agreed. IsHeldInEachWorld self.now reply.now (agreement_of agreed)) }
         ensures fault { IfErr result (λ fault. fault ≢ OutOfMemory → FinishCause self.now reply.now fault) }
         ensures offset { IfErr result (λ fault. IfSome (finish_offset_of fault) (λ at. at ≤ length reply.now)) }

@@ -7,8 +7,8 @@ ghost use Rattle.krb_ap.specs.declared.request_fault.RequestFault.TheVariants.{O
 
 use crate::credentials::used;
 use crate::pending::Pending;
-use crate::ready_key::ReadyKey;
-use crate::request::{RequestOptions, request_with};
+use crate::ready_key::{ReadyCredential, ReadyKey};
+use crate::request::RequestOptions;
 use crate::request_fault::RequestFault;
 use krb_ccache::{CCache, Credential};
 use krb_msg::{Moment, Principal};
@@ -74,12 +74,15 @@ impl Initiator {
     {
         let credential = used(&self.cache, service, at)?;
         if let Some(key) = key_of(&self.keys, credential) {
-            return request_with(alloc, credential, key, at, confounder, options);
+            let ready = ReadyCredential { credential, key };
+            return ready.request(alloc, at, confounder, options);
         }
-        let key = ReadyKey::of(credential);
-        let made = request_with(alloc, credential, &key, at, confounder, options);
+        let derived = ReadyKey::of(credential);
+        let key = &derived;
+        let ready = ReadyCredential { credential, key };
+        let made = ready.request(alloc, at, confounder, options);
         // If there is no memory to keep the key, the next request derives it again.
-        let _ = self.keys.push(key);
+        let _ = self.keys.push(derived);
         made
     }
 }

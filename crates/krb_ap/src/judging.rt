@@ -1,27 +1,24 @@
 //! What a service decides about a request, before it remembers or answers anything.
 
-ghost use Rattle.std.specs.Prelude.{◌≡◌, ◌↔◌, ℕ, List, IfErr, IfOk, IsErrOf, IsTrue, OnOk};
-ghost use Rattle.std.specs.Option.{option_map};
+ghost use Rattle.std.specs.Prelude.{◌≡◌, ◌↔◌, ℕ, List, IfErr, IfOk, IsErrOf, IsFalse, IsTrue, MatchOption, OnOk};
 ghost use Rattle.krb_enc.specs.Key.{IsUsable};
 ghost use Rattle.krb_keytab.specs.Pick.{chosen, IsChoice};
 ghost use Rattle.krb_keytab.specs.Size.{IsNoLarger};
-ghost use Rattle.krb_msg.specs.Borrowed.{ap_req_of, authenticator_of, enc_ticket_part_of, encrypted_of, ticket_of, typed_of};
-ghost use Rattle.krb_msg.specs.Fields.{encrypted_fields, part_client, ticket_service};
-ghost use Rattle.krb_msg.specs.Owned.{owned_list_of, owned_typed_of};
-ghost use Rattle.krb_ap.specs.Opened.{Asks, AsksFor, AsksWithin, OpenedAs, entry_key, sent_at, service_of, stamp_at};
+ghost use Rattle.krb_msg.specs.Borrowed.{ap_req_of, authenticator_of, enc_ticket_part_of, encrypted_of, ticket_of};
+ghost use Rattle.krb_msg.specs.Fields.{encrypted_fields, ticket_service};
+ghost use Rattle.krb_ap.specs.Opened.{AsksFor, AsksWithin, entry_key, sent_at};
 ghost use Rattle.krb_ap.specs.Quiet.{Settled};
-ghost use Rattle.krb_ap.specs.Taken.{taken_from};
 ghost use Rattle.krb_ap.specs.Times.{Near};
-ghost use Rattle.krb_ap.specs.Answer.{taken_of};
 ghost use Rattle.krb_ap.specs.Inner.Judging.{IsNamed, IsPlacedWithin, Judges};
-ghost use Rattle.krb_ap.specs.Inner.Stages.{Wants, key_in};
+ghost use Rattle.krb_ap.specs.Inner.Stages.{AnswersNew, IsInTime, RefusesNew, Wants, key_in};
 ghost use Rattle.krb_ap.specs.declared.refusal.Refusal.TheVariants.{OutOfMemory};
 
 use crate::accepted::Accepted;
 use crate::inner_laws::facts;
-use crate::keys::{owned_key, usable_key};
+use crate::keys::is_usable;
+use crate::opened::Opened;
 use crate::opening::{
-    check_client, check_key, check_type, is_larger, read_authenticator, read_request, read_ticket,
+    is_larger, is_of_type, is_same_client, read_authenticator, read_request, read_ticket, require,
     service,
 };
 use crate::refusal::Refusal;
@@ -29,12 +26,9 @@ use crate::session_keys::SessionKeys;
 use crate::ticket_keys::TicketKeys;
 use crate::times::{is_near, is_past, refusal_of_times};
 use krb_keytab::{Entry, Keytab, Picked};
-use krb_msg::{
-    ApReqRef, AuthenticatorRef, EncTicketRef, EncryptedRef, MUTUAL_REQUIRED, Moment, Principal,
-    TicketRef, Typed, TypedListRef, TypedRef,
-};
+use krb_msg::{EncryptedRef, Moment, Principal, TicketRef};
 use krb_replay::{ReplayMemory, Skew, Tuple};
-use std::alloc::{AllocError, Global};
+use std::alloc::Global;
 use std::marker::Model;
 
 /// A request that is to be remembered, and the answer to it.
@@ -109,71 +103,29 @@ impl Judge {
         self.tickets
             .open(alloc, entry, request.ticket.enc_part.cipher)?;
         let part = read_ticket(self.tickets.plain())?;
-        check_key(&part.key)?;
-        check_type(&request.authenticator, &part.key)?;
+        require(is_usable(&part.key), Refusal::SessionKey)?;
+        require(
+            is_of_type(&request.authenticator, &part.key),
+            Refusal::AuthenticatorIntegrity,
+        )?;
         let plain = self
             .session
             .open(alloc, &part.key, request.authenticator.cipher)?;
         let auth = read_authenticator(plain.as_slice())?;
-        check_client(&part, &auth)?;
-        self.rules
-            .judge_opened(alloc, &request, server, &part, &auth, now, memory)
+        require(is_same_client(&part, &auth), Refusal::BadMatch)?;
+        let opened = Opened {
+            request: &request,
+            part: &part,
+            auth: &auth,
+        };
+        require(self.rules.is_near(&opened, now), Refusal::Skew)?;
+        let tuple = opened.tuple(alloc, server)?;
+        require(self.rules.is_new(&tuple, now, memory), Refusal::Repeat)?;
+        self.rules.judge_new(alloc, &opened, tuple, now)
     }
 }
 
 impl Rules {
-    // What to remember of a request that is opened, and the answer to it; or why it is refused
-    // without being remembered. `server` is the service that it is for.
-    #[inline(never)]
-    fn judge_opened<M: ReplayMemory>(
-        &self,
-        alloc: Global,
-        request: &ApReqRef,
-        server: Principal,
-        part: &EncTicketRef,
-        auth: &AuthenticatorRef,
-        now: Moment,
-        memory: &M,
-    ) -> Result<Judged, Refusal>
-        requires usable { IsUsable (key_in part.now.key) }
-        requires server { server ≡ service_of (ap_req_of request.now) }
-        ensures judged { (bytes : List ℕ)
-            → OpenedAs self.now bytes (ap_req_of request.now) (enc_ticket_part_of part.now) (authenticator_of auth.now)
-            → Judges self.now (M.has memory.now) (M.newest memory.now) bytes now result }
-        ensures named { IsNamed result }
-        ensures placed { (bytes : List ℕ) → IsPlacedWithin bytes result }
-        ensures service { (bytes : List ℕ) → Asks bytes (ap_req_of request.now)
-            → IfOk result (λ j. IfOk j.answer (λ x. AsksFor bytes x.service)) }
-    {
-        facts();
-        krb_der::laws::within();
-        let sent = Moment::at(auth.ctime, auth.cusec);
-        self.check_near(sent, now)?;
-        let tuple = tuple_of(alloc, server, part, auth)?;
-        if !self.is_settled(now, sent) {
-            return Ok(Judged {
-                tuple,
-                answer: Err(Refusal::JustStarted),
-            });
-        }
-        if memory.contains(&tuple) {
-            return Err(Refusal::Repeat);
-        }
-        match refusal_of_times(request, part, auth, now, self.skew()) {
-            Some(refusal) => Ok(Judged {
-                tuple,
-                answer: Err(refusal),
-            }),
-            None => {
-                let accepted = accepted(alloc, request, part, auth)?;
-                Ok(Judged {
-                    tuple,
-                    answer: Ok(accepted),
-                })
-            }
-        }
-    }
-
     /// Refuses a ticket for a service whose name is larger than each of the keytab. It allocates no
     /// memory.
     fn check_size(&self, ticket: &TicketRef) -> Result<(), Refusal>
@@ -202,21 +154,53 @@ impl Rules {
         }
     }
 
-    fn skew(&self) -> Skew
-        ensures { result ≡ self.now.skew }
+    // Whether the client's time is near.
+    fn is_near(&self, opened: &Opened, now: Moment) -> bool
+        ensures { IsTrue result ↔ Near (sent_at (authenticator_of opened.now.auth.now)) now self.now.skew }
     {
-        self.skew
+        is_near(opened.sent_at(), now, self.skew)
     }
 
-    fn check_near(&self, sent: Moment, now: Moment) -> Result<(), Refusal>
-        ensures near { OnOk result (Near sent now self.now.skew) }
-        ensures far { IfErr result (λ refusal. (refusal ≡ Refusal.Skew) × (¬ Near sent now self.now.skew)) }
+    // Whether a request wasn't seen before. During the quiet start each one counts as new.
+    fn is_new<M: ReplayMemory>(&self, tuple: &Tuple, now: Moment, memory: &M) -> bool
+        ensures new { IsTrue result → Settled self.now now tuple.now.time → ¬ M.has memory.now tuple.now }
+        ensures seen { IsFalse result → Settled self.now now tuple.now.time × M.has memory.now tuple.now }
     {
-        if is_near(sent, now, self.skew) {
-            Ok(())
-        } else {
-            Err(Refusal::Skew)
+        !(self.is_settled(now, tuple.time()) && memory.contains(tuple))
+    }
+
+    /// What to remember of a new request, and the answer to it.
+    #[inline(never)]
+    fn judge_new(
+        &self,
+        alloc: Global,
+        opened: &Opened,
+        tuple: Tuple,
+        now: Moment,
+    ) -> Result<Judged, Refusal>
+        requires { IsUsable (key_in opened.now.part.now.key) }
+        ensures tuple { IfOk result (λ j. j.tuple ≡ tuple) }
+        ensures answer { IfOk result (λ j.
+            AnswersNew self.now now (ap_req_of opened.now.request.now) (enc_ticket_part_of opened.now.part.now) (authenticator_of opened.now.auth.now) j.answer) }
+        ensures memory { IfErr result (λ refusal. refusal ≡ OutOfMemory) }
+    {
+        let answer = match self.refusal_of_new(opened, now) {
+            Some(refusal) => Err(refusal),
+            None => Ok(opened.accepted(alloc)?),
+        };
+        Ok(Judged { tuple, answer })
+    }
+
+    // Why a new request is refused all the same, if it is.
+    fn refusal_of_new(&self, opened: &Opened, now: Moment) -> Option<Refusal>
+        ensures { MatchOption result
+            (IsInTime self.now now (ap_req_of opened.now.request.now) (enc_ticket_part_of opened.now.part.now) (authenticator_of opened.now.auth.now))
+            (RefusesNew self.now now (ap_req_of opened.now.request.now) (enc_ticket_part_of opened.now.part.now) (authenticator_of opened.now.auth.now)) }
+    {
+        if !self.is_settled(now, opened.sent_at()) {
+            return Some(Refusal::JustStarted);
         }
+        refusal_of_times(opened, now, self.skew)
     }
 
     // Whether both the moment that counts and the client's are past the quiet start.
@@ -224,71 +208,5 @@ impl Rules {
         ensures { IsTrue result ↔ Settled self.now now sent }
     {
         is_past(self.start, now, self.skew) && is_past(self.start, sent, self.skew)
-    }
-}
-
-// What is remembered of a request for this server.
-#[inline(never)]
-fn tuple_of(
-    alloc: Global,
-    server: Principal,
-    part: &EncTicketRef,
-    auth: &AuthenticatorRef,
-) -> Result<Tuple, AllocError>
-    ensures { IfOk result (λ tuple. tuple
-        ≡ stamp_at server (part_client (enc_ticket_part_of part.now)) (sent_at (authenticator_of auth.now))) }
-{
-    let client = part.cname.to_principal(alloc, part.crealm)?;
-    Tuple::new(alloc, server, client, auth.ctime, auth.cusec)
-}
-
-/// What is known of an accepted request.
-#[inline(never)]
-fn accepted(
-    alloc: Global,
-    request: &ApReqRef,
-    part: &EncTicketRef,
-    auth: &AuthenticatorRef,
-) -> Result<Accepted, AllocError>
-    requires { IsUsable (key_in part.now.key) }
-    ensures service { IfOk result (λ x. x.service ≡ service_of (ap_req_of request.now)) }
-    ensures known { IfOk result (λ x. taken_of x ≡ taken_from (ap_req_of request.now) (enc_ticket_part_of part.now) (authenticator_of auth.now)) }
-{
-    Ok(Accepted {
-        client: part.cname.to_principal(alloc, part.crealm)?,
-        service: service(alloc, &request.ticket)?,
-        session_key: usable_key(part.key.etype, part.key.bytes),
-        flags: part.flags,
-        transited: part.transited.to_owned(alloc)?,
-        authtime: part.authtime,
-        starttime: part.starttime,
-        endtime: part.endtime,
-        addresses: owned_list(alloc, &part.caddr)?,
-        ticket_authorization: owned_list(alloc, &part.authorization)?,
-        subkey: owned_key(alloc, &auth.subkey)?,
-        seq: auth.seq_number,
-        checksum: owned_typed(alloc, &auth.checksum)?,
-        authenticator_authorization: owned_list(alloc, &auth.authorization)?,
-        ctime: auth.ctime,
-        cusec: auth.cusec,
-        mutual: request.options.has(MUTUAL_REQUIRED),
-    })
-}
-
-fn owned_list(alloc: Global, list: &Option<TypedListRef>) -> Result<Option<Vec<Typed>>, AllocError>
-    ensures { IfOk result (λ made. option_map (λ l. owned_list_of l.items) made ≡ list.now) }
-{
-    match list {
-        Some(list) => Ok(Some(list.to_owned(alloc)?)),
-        None => Ok(None),
-    }
-}
-
-fn owned_typed(alloc: Global, typed: &Option<TypedRef>) -> Result<Option<Typed>, AllocError>
-    ensures { IfOk result (λ made. option_map owned_typed_of made ≡ option_map typed_of typed.now) }
-{
-    match typed {
-        Some(typed) => Ok(Some(typed.to_owned(alloc)?)),
-        None => Ok(None),
     }
 }

@@ -81,6 +81,21 @@ pub(crate) fn seal(
     Ok(keys.seal(alloc, confounder, plain)?)
 }
 
+/// Seals a plain text with keys that are used once. By value, since they are large: one copy of them
+/// is on the stack while they are derived.
+#[inline(never)]
+pub(crate) fn seal_once(
+    alloc: Global,
+    keys: UsageKey,
+    confounder: &[u8; 16],
+    plain: &[u8],
+) -> Result<Vec<u8>, AllocError>
+    ensures sealed { IfOk result (λ text. IsSealed keys.key keys.usage confounder.now plain.now text.items) }
+    ensures length { IfOk result (λ text. length text.items ≤ 40 + length plain.now) }
+{
+    seal(alloc, &keys, confounder, plain)
+}
+
 /// The sealed text for a key: with the key's type, and without a version number.
 pub(crate) fn encrypted(key: &Key, cipher: Vec<u8>) -> Encrypted
     ensures { owned_encrypted_of result ≡ encrypted_value (record { etype = key.now.etype; kvno = None; cipher = cipher.items }) }

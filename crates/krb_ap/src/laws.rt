@@ -14,7 +14,7 @@ ghost use Rattle.krb_ap.specs.Request.{Awaited, IsRequest, Prevents};
 ghost use Rattle.krb_ap.specs.Finish.{Agreement, FinishCause, IsAgreed, finish_place};
 ghost use Rattle.krb_ap.specs.declared.finish_fault.FinishFault.{FinishFault};
 ghost use Rattle.krb_ap.specs.declared.request_fault.RequestFault.{RequestFault};
-ghost use Rattle.krb_ap.specs.Headline.{Agrees, HasTicket, MayBeTaken};
+ghost use Rattle.krb_ap.specs.Headline.{Agrees, HasTicket, MayBeRefused, MayBeTaken};
 ghost use Rattle.krb_ap.specs.declared.request.RequestOptions.{RequestOptions};
 ghost use Rattle.krb_ap.specs.Taken.{Accept, Taken, taken_stamp};
 ghost use Rattle.krb_ap.specs.Causes.{Cause, IsRemembered, place};
@@ -81,6 +81,19 @@ pub fn built_is_accepted()
         → (taken : Taken) × Accept setup history (arrival bytes moment) taken × (taken.client ≡ part_client part)
         × (taken.service ≡ ticket_service ticket)
         × (taken.wants_reply ≡ options.mutual) × Agrees taken awaited }
+{
+    facts();
+}
+
+/// States why a service refuses a request that a client built, if the key that its keytab has for
+/// the ticket opens the ticket to the credential's client and key: for a time, as a repeat, or for
+/// what is asked of the ticket. It is never malformed, and everything in it opens and matches.
+pub fn built_may_be_refused()
+    ensures { (setup : Setup) (history : List Arrival) (moment : ℤ) (cache : Cache) (service : Principal) (at : ℤ) (confounder : List ℕ)
+        (options : RequestOptions) (bytes : List ℕ) (awaited : Awaited) (ticket : ValueOf ticket_kind) (part : ValueOf enc_ticket_part)
+        (cause : Refusal) → (request : IsRequest cache service at confounder options bytes awaited)
+        → HasTicket setup request.credential ticket part
+        → Cause setup history (arrival bytes moment) cause → MayBeRefused setup history moment at ticket part cause }
 {
     facts();
 }

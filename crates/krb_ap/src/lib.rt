@@ -50,6 +50,7 @@ mod inner_laws;
 mod judging;
 mod keys;
 pub mod laws;
+mod opened;
 mod opening;
 mod pending;
 mod ready_key;

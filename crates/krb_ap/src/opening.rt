@@ -1,29 +1,35 @@
-//! The steps of opening a request, which `judging` puts in order: its form, a sealed part under a
-//! key, and whether ticket and authenticator name one client.
+//! The steps of opening a request, which `judging` puts in order.
 
-ghost use Rattle.std.specs.Prelude.{◌≡◌, ◌≢◌, ◌<◌, ◌↔◌, ℕ, ℤ, IfOk, IfErr, IsTrue, OnOk};
+ghost use Rattle.std.specs.Prelude.{◌≡◌, ◌≢◌, ◌<◌, ◌↔◌, false, IfOk, IfErr, IsTrue, OnOk};
 ghost use Rattle.krb_der.specs.Spells.{IsMessage};
-ghost use Rattle.krb_enc.specs.Key.{IsKnown, IsUsable, profile_of};
+ghost use Rattle.krb_enc.specs.Key.{IsKnown, profile_of};
 ghost use Rattle.krb_enc.specs.Opens.{Opens};
-ghost use Rattle.krb_msg.specs.Borrowed.{ap_req_of, authenticator_of, enc_ticket_part_of, name_of};
+ghost use Rattle.krb_msg.specs.Borrowed.{ap_req_of, authenticator_of, enc_ticket_part_of, ticket_of};
 ghost use Rattle.krb_msg.specs.Fields.{ticket_service};
-ghost use Rattle.krb_msg.specs.Borrowed.{ticket_of};
 ghost use Rattle.krb_keytab.specs.Size.{name_size};
 ghost use Rattle.krb_msg.specs.Module.{ap_req, authenticator, enc_ticket_part};
 ghost use Rattle.krb_ap.specs.Causes.{BeginsOtherwise, place};
 ghost use Rattle.krb_ap.specs.Opened.{Asks, SameClient};
-ghost use Rattle.krb_ap.specs.Inner.Stages.{IsCauseOfBytes, IsNone, IsShut, key_in};
-ghost use Rattle.krb_ap.specs.declared.refusal.Refusal.TheVariants.{AuthenticatorIntegrity, BadMatch, OutOfMemory, SessionKey, Skew, TicketIntegrity};
+ghost use Rattle.krb_ap.specs.Inner.Stages.{IsCauseOfBytes, IsNone, IsShut};
+ghost use Rattle.krb_ap.specs.declared.refusal.Refusal.TheVariants.{AuthenticatorIntegrity, OutOfMemory, Skew, TicketIntegrity};
 
 use crate::inner_laws::facts;
-use crate::keys::is_usable;
 use crate::refusal::Refusal;
-use krb_enc::{OpenFault, UsageKey, etype};
+use krb_enc::etype::{AES128_CTS_HMAC_SHA256_128, AES256_CTS_HMAC_SHA384_192};
+use krb_enc::{OpenFault, UsageKey};
 use krb_msg::{
     ApReqRef, AuthenticatorRef, EncTicketRef, EncryptedRef, KeyRef, NameRef, Principal, TicketRef,
     USE_SESSION_KEY, tag,
 };
 use std::alloc::{AllocError, Global};
+
+/// Refuses unless this holds.
+pub(crate) fn require(holds: bool, refusal: Refusal) -> Result<(), Refusal>
+    ensures so { OnOk result (IsTrue holds) }
+    ensures not_so { IfErr result (λ answered. (answered ≡ refusal) × (holds ≡ false)) }
+{
+    if holds { Ok(()) } else { Err(refusal) }
+}
 
 /// Reads a request of the ordinary kind (not user-to-user). It allocates no memory.
 pub(crate) fn read_request<'a>(bytes: &'a [u8]) -> Result<ApReqRef<'a>, Refusal>
@@ -62,8 +68,7 @@ pub(crate) fn begins_otherwise(bytes: &[u8], tag: u8) -> bool
 fn is_known(sealed: &EncryptedRef) -> bool
     ensures { IsTrue result ↔ IsKnown sealed.now.etype }
 {
-    sealed.etype == etype::AES128_CTS_HMAC_SHA256_128
-        || sealed.etype == etype::AES256_CTS_HMAC_SHA384_192
+    sealed.etype == AES128_CTS_HMAC_SHA256_128 || sealed.etype == AES256_CTS_HMAC_SHA384_192
 }
 
 /// Whether the name of the service that a ticket is for is larger than `most`. It reads no more of
@@ -103,29 +108,11 @@ pub(crate) fn read_ticket<'a>(plain: &'a [u8]) -> Result<EncTicketRef<'a>, Refus
     }
 }
 
-/// Refuses a session key that isn't usable. It allocates no memory.
-pub(crate) fn check_key(key: &KeyRef) -> Result<(), Refusal>
-    ensures usable { OnOk result (IsUsable (key_in key.now)) }
-    ensures refused { IfErr result (λ refusal. (refusal ≡ SessionKey) × (¬ IsUsable (key_in key.now))) }
+/// Whether a text is sealed with a key's encryption type.
+pub(crate) fn is_of_type(sealed: &EncryptedRef, key: &KeyRef) -> bool
+    ensures { IsTrue result ↔ (sealed.now.etype ≡ key.now.etype) }
 {
-    if is_usable(key) {
-        Ok(())
-    } else {
-        Err(Refusal::SessionKey)
-    }
-}
-
-/// Refuses an authenticator of another encryption type than the session key's. It allocates no
-/// memory.
-pub(crate) fn check_type(sealed: &EncryptedRef, key: &KeyRef) -> Result<(), Refusal>
-    ensures same { OnOk result (sealed.now.etype ≡ key.now.etype) }
-    ensures refused { IfErr result (λ refusal. (refusal ≡ AuthenticatorIntegrity) × (¬ (sealed.now.etype ≡ key.now.etype))) }
-{
-    if sealed.etype == key.etype {
-        Ok(())
-    } else {
-        Err(Refusal::AuthenticatorIntegrity)
-    }
+    sealed.etype == key.etype
 }
 
 /// Reads the plain text of an authenticator. It allocates no memory.
@@ -137,19 +124,6 @@ pub(crate) fn read_authenticator<'a>(plain: &'a [u8]) -> Result<AuthenticatorRef
     match AuthenticatorRef::parse(plain) {
         Ok(auth) => Ok(auth),
         Err(_) => Err(Refusal::AuthenticatorIntegrity),
-    }
-}
-
-/// Refuses an authenticator that names another client than the ticket. It allocates no memory.
-pub(crate) fn check_client(part: &EncTicketRef, auth: &AuthenticatorRef) -> Result<(), Refusal>
-    ensures same { OnOk result (SameClient (enc_ticket_part_of part.now) (authenticator_of auth.now)) }
-    ensures refused { IfErr result (λ refusal. (refusal ≡ BadMatch)
-        × (¬ SameClient (enc_ticket_part_of part.now) (authenticator_of auth.now))) }
-{
-    if is_same_client(part, auth) {
-        Ok(())
-    } else {
-        Err(Refusal::BadMatch)
     }
 }
 
@@ -173,7 +147,8 @@ pub(crate) fn open_under(
     }
 }
 
-fn is_same_client(part: &EncTicketRef, auth: &AuthenticatorRef) -> bool
+/// Whether a ticket and an authenticator name one client.
+pub(crate) fn is_same_client(part: &EncTicketRef, auth: &AuthenticatorRef) -> bool
     ensures { IsTrue result ↔ SameClient (enc_ticket_part_of part.now) (authenticator_of auth.now) }
 {
     part.crealm == auth.crealm && has_same_components(&part.cname, &auth.cname)

@@ -1,4 +1,4 @@
-//! Session keys with the keys that are derived from them.
+//! Session keys with the keys that are derived from them, and credentials with theirs.
 
 ghost use Rattle.std.specs.Prelude.{◌≡◌, ◌≢◌, ◌↔◌, IfErr, IfOk, IsTrue};
 ghost use Rattle.krb_enc.specs.Key.{IsUsable, profile_of};
@@ -37,20 +37,14 @@ impl Model for ReadyKey {
 }
 
 impl ReadyKey {
-    /// Derives the keys from a session key.
-    pub(crate) fn new(key: Key) -> ReadyKey
-        ensures { result ≡ key }
-    {
-        let keys = key.for_usage(usage::AUTHENTICATOR);
-        ReadyKey { key, keys }
-    }
-
     /// Derives the keys from a credential's session key.
     pub(crate) fn of(credential: &Credential) -> ReadyKey
         requires { IsUsable (credential_key credential.now) }
         ensures { result ≡ credential_key credential.now }
     {
-        ReadyKey::new(usable_key(i32::from(credential.etype), credential.key.as_slice()))
+        let key = usable_key(i32::from(credential.etype), credential.key.as_slice());
+        let keys = key.for_usage(usage::AUTHENTICATOR);
+        ReadyKey { key, keys }
     }
 
     /// Returns whether this is the credential's session key.
@@ -58,13 +52,7 @@ impl ReadyKey {
         ensures { IsTrue result ↔ (self.now ≡ credential_key credential.now) }
     {
         let etype = i32::from(credential.etype);
-        self.is_for(etype, credential.key.as_slice())
-    }
-
-    /// Returns whether this is the key of type `etype` with the bytes `key`.
-    pub(crate) fn is_for(&self, etype: i32, key: &[u8]) -> bool
-        ensures { IsTrue result ↔ (self.now ≡ record { etype = etype; bytes = key.now }) }
-    {
+        let key = credential.key.as_slice();
         self.keys.is_for(etype, key, usage::AUTHENTICATOR)
     }
 
@@ -81,4 +69,12 @@ impl ReadyKey {
     {
         &self.keys
     }
+}
+
+/// What a request is made with: a credential, and its session key with the keys derived from it.
+#[derive(Drop)]
+pub(crate) struct ReadyCredential<'a> {
+    pub(crate) credential: &'a Credential,
+    pub(crate) key: &'a ReadyKey,
+    ghost key_is: { key.now ≡ credential_key credential.now },
 }

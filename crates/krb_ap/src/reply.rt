@@ -1,6 +1,6 @@
 //! The service's side: building a reply.
 
-ghost use Rattle.std.specs.Prelude.{◌≡◌, ◌≤◌, List, ℕ, IfOk, length};
+ghost use Rattle.std.specs.Prelude.{◌≤◌, IfOk, length};
 ghost use Rattle.krb_msg.specs.Module.{enc_ap_rep_part};
 ghost use Rattle.krb_ap.specs.Answer.{taken_of};
 ghost use Rattle.krb_ap.specs.Reply.{IsReply, reply_part_for};
@@ -8,7 +8,7 @@ ghost use Rattle.krb_ap.specs.Written.{IsWritten};
 
 use crate::accepted::Accepted;
 use crate::inner_laws::writing;
-use crate::keys::{encrypted, raw_key, seal};
+use crate::keys::{encrypted, raw_key, seal_once};
 use krb_enc::Key;
 use krb_msg::{ApRep, EncApRepPart, EncodeFault, usage};
 use std::alloc::{AllocError, Global};
@@ -44,7 +44,7 @@ impl Accepted {
         krb_msg::laws::reply_size();
         let plain = self.reply_part(alloc, &options)?;
         let keys = self.session_key.for_usage(usage::AP_REP);
-        let cipher = seal(alloc, &keys, confounder, plain.as_slice())?;
+        let cipher = seal_once(alloc, keys, confounder, plain.as_slice())?;
         let reply = ApRep {
             enc_part: encrypted(&self.session_key, cipher),
         };
@@ -56,6 +56,7 @@ impl Accepted {
     }
 
     // What is sealed.
+    #[inline(never)]
     fn reply_part(&self, alloc: Global, options: &ReplyOptions) -> Result<Vec<u8>, AllocError>
         ensures written { IfOk result (λ plain.
             IsWritten enc_ap_rep_part (reply_part_for (taken_of self.now) options.now) plain.items) }

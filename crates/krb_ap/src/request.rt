@@ -1,12 +1,9 @@
 //! The client's side: building a request.
 
 ghost use Rattle.std.specs.Prelude.{◌≡◌, ◌≢◌, ℕ, List, IfOk, IfErr, IsErrOf};
-ghost use Rattle.krb_der.specs.Spells.{IsMessage};
 ghost use Rattle.std.specs.Option.{option_map};
 ghost use Rattle.krb_msg.specs.Owned.{owned_typed_of};
-ghost use Rattle.krb_msg.specs.Module.{ticket as ticket_kind};
-ghost use Rattle.krb_ap.specs.Credentials.{credential_key};
-ghost use Rattle.krb_ap.specs.Request.{HasGoodTicket, IsBuilt, IsPlain, IsRequest, Prevents, awaited_for, context_checksum, context_flags, options_for};
+ghost use Rattle.krb_ap.specs.Request.{HasGoodTicket, IsAuthenticator, IsBuilt, IsPlain, IsRequest, Prevents, awaited_for, context_checksum, context_flags, options_for};
 ghost use Rattle.krb_ap.specs.Inner.Requests.{HasTicket, IsUnbuilt};
 ghost use Rattle.krb_ap.specs.declared.request_fault.RequestFault.TheVariants.{TooLong, OutOfMemory};
 
@@ -14,7 +11,7 @@ use crate::credentials::used;
 use crate::inner_laws::{facts, writing};
 use crate::keys::{encrypted, raw_key, seal};
 use crate::pending::Pending;
-use crate::ready_key::ReadyKey;
+use crate::ready_key::{ReadyCredential, ReadyKey};
 use crate::request_fault::RequestFault;
 use krb_ccache::{CCache, Credential};
 use krb_enc::Key;
@@ -83,71 +80,85 @@ pub fn make_request(
     ensures memory { IsErrOf result OutOfMemory → HasGoodTicket cache.now service.now at }
 {
     let credential = used(cache, service, at)?;
-    let key = ReadyKey::of(credential);
-    request_with(alloc, credential, &key, at, confounder, options)
+    let key = &ReadyKey::of(credential);
+    let ready = ReadyCredential { credential, key };
+    ready.request(alloc, at, confounder, options)
 }
 
-/// The request with this credential, whose session key is at hand, and what is kept of it.
-pub(crate) fn request_with(
-    alloc: Global,
-    credential: &Credential,
-    key: &ReadyKey,
-    at: Moment,
-    confounder: &[u8; 16],
-    options: RequestOptions,
-) -> Result<(Vec<u8>, Pending), RequestFault>
-    requires key { key.now ≡ credential_key credential.now }
-    ensures built { IfOk result (λ made. IsBuilt credential.now at confounder.now options made.0.items) }
-    ensures awaited { IfOk result (λ made. made.1 ≡ awaited_for credential.now at options) }
-    ensures fault { IfErr result (λ fault. fault ≢ OutOfMemory
-        → IsUnbuilt credential.now at confounder.now options fault) }
-    ensures memory { IsErrOf result OutOfMemory → HasTicket credential.now }
-{
-    let ticket = match SpelledTicket::parse(credential.ticket.as_slice()) {
-        Ok(ticket) => ticket,
-        Err(_) => return Err(RequestFault::BadTicket),
-    };
-    let (bytes, client) = build(alloc, credential, key, ticket, at, confounder, &options)?;
-    let pending = Pending {
-        client,
-        key: key.key().copy(),
-        at,
-        subkey: options.subkey,
-        seq: options.seq,
-    };
-    Ok((bytes, pending))
-}
+impl ReadyCredential<'_> {
+    /// The request with this credential, and what is kept of it.
+    pub(crate) fn request(
+        &self,
+        alloc: Global,
+        at: Moment,
+        confounder: &[u8; 16],
+        options: RequestOptions,
+    ) -> Result<(Vec<u8>, Pending), RequestFault>
+        ensures built { IfOk result (λ made. IsBuilt self.now.credential.now at confounder.now options made.0.items) }
+        ensures awaited { IfOk result (λ made. made.1 ≡ awaited_for self.now.credential.now at options) }
+        ensures fault { IfErr result (λ fault. fault ≢ OutOfMemory
+            → IsUnbuilt self.now.credential.now at confounder.now options fault) }
+        ensures memory { IsErrOf result OutOfMemory → HasTicket self.now.credential.now }
+    {
+        facts();
+        writing();
+        let ticket = match SpelledTicket::parse(self.credential.ticket.as_slice()) {
+            Ok(ticket) => ticket,
+            Err(_) => return Err(RequestFault::BadTicket),
+        };
+        let (cipher, client) = self.authenticator(alloc, at, confounder, &options)?;
+        let request = ApReqOver {
+            options: flags(options.mutual),
+            ticket,
+            authenticator: encrypted(self.key.key(), cipher),
+        };
+        let bytes = match request.encode(alloc) {
+            Ok(bytes) => bytes,
+            Err(EncodeFault::TooLong) => return Err(RequestFault::TooLong),
+            Err(EncodeFault::OutOfMemory) => return Err(RequestFault::OutOfMemory),
+        };
+        let pending = Pending {
+            client,
+            key: self.key.key().copy(),
+            at,
+            subkey: options.subkey,
+            seq: options.seq,
+        };
+        Ok((bytes, pending))
+    }
 
-// The request with this ticket, and a copy of the credential's client.
-fn build(
-    alloc: Global,
-    credential: &Credential,
-    key: &ReadyKey,
-    ticket: SpelledTicket,
-    at: Moment,
-    confounder: &[u8; 16],
-    options: &RequestOptions,
-) -> Result<(Vec<u8>, Principal), RequestFault>
-    requires key { key.now ≡ credential_key credential.now }
-    requires ticket { IsMessage ticket_kind ticket credential.now.ticket }
-    ensures built { IfOk result (λ made. IsBuilt credential.now at confounder.now options.now made.0.items) }
-    ensures client { IfOk result (λ made. made.1 ≡ credential.now.client) }
-    ensures fault { IfErr result (λ fault. fault ≢ OutOfMemory → (fault ≡ TooLong)
-        × ((bytes : List ℕ) → ¬ IsBuilt credential.now at confounder.now options.now bytes)) }
-{
-    facts();
-    writing();
-    let (plain, client) = authenticator(alloc, credential, at, options)?;
-    let cipher = seal(alloc, key.keys(), confounder, &plain)?;
-    let request = ApReqOver {
-        options: flags(options.mutual),
-        ticket,
-        authenticator: encrypted(key.key(), cipher),
-    };
-    match request.encode(alloc) {
-        Ok(bytes) => Ok((bytes, client)),
-        Err(EncodeFault::TooLong) => Err(RequestFault::TooLong),
-        Err(EncodeFault::OutOfMemory) => Err(RequestFault::OutOfMemory),
+    // The sealed authenticator, and the copy of the credential's client that it was made of.
+    fn authenticator(
+        &self,
+        alloc: Global,
+        at: Moment,
+        confounder: &[u8; 16],
+        options: &RequestOptions,
+    ) -> Result<(Vec<u8>, Principal), RequestFault>
+        ensures sealed { IfOk result (λ made. IsAuthenticator self.now.credential.now at confounder.now options.now made.0.items) }
+        ensures client { IfOk result (λ made. made.1 ≡ self.now.credential.now.client) }
+        ensures fault { IfErr result (λ fault. fault ≢ OutOfMemory → (fault ≡ TooLong)
+            × ((plain : List ℕ) → ¬ IsPlain self.now.credential.now at options.now plain)) }
+    {
+        writing();
+        let (ctime, cusec) = at.parts();
+        prove!(cusec.get() < 1_000_000);
+        let authenticator = Authenticator {
+            client: self.credential.client.clone()?,
+            checksum: checksum_of(alloc, options.mutual, options.context)?,
+            cusec,
+            ctime,
+            subkey: raw_key(alloc, &options.subkey)?,
+            seq_number: options.seq,
+            authorization: None,
+        };
+        let plain = match authenticator.encode(alloc) {
+            Ok(plain) => plain,
+            Err(EncodeFault::TooLong) => return Err(RequestFault::TooLong),
+            Err(EncodeFault::OutOfMemory) => return Err(RequestFault::OutOfMemory),
+        };
+        let cipher = seal(alloc, self.key.keys(), confounder, &plain)?;
+        Ok((cipher, authenticator.client))
     }
 }
 
@@ -190,35 +201,4 @@ fn checksum_of(
         kind: CONTEXT,
         bytes,
     }))
-}
-
-// The authenticator's bytes, and the copy of the credential's client that it was made of.
-fn authenticator(
-    alloc: Global,
-    credential: &Credential,
-    at: Moment,
-    options: &RequestOptions,
-) -> Result<(Vec<u8>, Principal), RequestFault>
-    ensures told { IfOk result (λ made. IsPlain credential.now at options.now made.0.items) }
-    ensures client { IfOk result (λ made. made.1 ≡ credential.now.client) }
-    ensures fault { IfErr result (λ fault. fault ≢ OutOfMemory → (fault ≡ TooLong)
-        × ((plain : List ℕ) → ¬ IsPlain credential.now at options.now plain)) }
-{
-    writing();
-    let (ctime, cusec) = at.parts();
-    prove!(cusec.get() < 1_000_000);
-    let authenticator = Authenticator {
-        client: credential.client.clone()?,
-        checksum: checksum_of(alloc, options.mutual, options.context)?,
-        cusec,
-        ctime,
-        subkey: raw_key(alloc, &options.subkey)?,
-        seq_number: options.seq,
-        authorization: None,
-    };
-    match authenticator.encode(alloc) {
-        Ok(plain) => Ok((plain, authenticator.client)),
-        Err(EncodeFault::TooLong) => Err(RequestFault::TooLong),
-        Err(EncodeFault::OutOfMemory) => Err(RequestFault::OutOfMemory),
-    }
 }

@@ -9,7 +9,7 @@ ghost use Rattle.krb_ap.specs.declared.refusal.Refusal.TheVariants.{OutOfMemory,
 
 use crate::opening::open_under;
 use crate::refusal::Refusal;
-use krb_enc::{Key, UsageKey};
+use krb_enc::UsageKey;
 use krb_msg::usage;
 use std::alloc::Global;
 use std::marker::Model;
@@ -42,14 +42,13 @@ impl Model for ServiceKey {
 }
 
 impl ServiceKey {
-    /// Caches the keys of a service key in place of others. They opened no ticket yet. It allocates no
-    /// memory.
+    /// Caches keys in place of others. They opened no ticket yet. It allocates no memory.
     #[inline(never)]
-    pub(crate) fn cache(cached: &mut Option<ServiceKey>, alloc: Global, key: &Key)
-        ensures { MatchOption cached.new ⊥ (λ keys. keys.keys ≡ ready_key key.now) }
+    pub(crate) fn cache(cached: &mut Option<ServiceKey>, alloc: Global, keys: UsageKey)
+        ensures { MatchOption cached.new ⊥ (λ own. own.keys ≡ keys) }
     {
         *cached = Some(ServiceKey {
-            keys: key.for_usage(usage::TICKET),
+            keys,
             ticket: None,
             plain: Vec::new(alloc),
         });

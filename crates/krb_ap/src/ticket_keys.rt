@@ -14,6 +14,7 @@ use crate::keys::usable_key;
 use crate::refusal::Refusal;
 use crate::service_key::ServiceKey;
 use krb_keytab::Entry;
+use krb_msg::usage;
 use std::alloc::Global;
 
 /// The service key that was used last, with its keys for tickets and the ticket that it opened last.
@@ -58,7 +59,10 @@ impl TicketKeys {
         let etype = i32::from(entry.etype());
         match &self.cached {
             Some(keys) if keys.is_for(etype, entry.key()) => {}
-            _ => ServiceKey::cache(&mut self.cached, alloc, &usable_key(etype, entry.key())),
+            _ => {
+                let key = usable_key(etype, entry.key());
+                ServiceKey::cache(&mut self.cached, alloc, key.for_usage(usage::TICKET));
+            }
         }
     }
 

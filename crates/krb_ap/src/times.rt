@@ -6,10 +6,11 @@ ghost use Rattle.krb_msg.specs.Borrowed.{ap_req_of, authenticator_of, enc_ticket
 ghost use Rattle.krb_ap.specs.Times.{Near, second_at, IsEarly, IsLate, IsPathTrusted, IsDataIgnorable, MayBeIgnored};
 ghost use Rattle.krb_ap.specs.Inner.Stages.{IsOfTimes, TimesRefuse};
 
+use crate::opened::Opened;
 use crate::refusal::Refusal;
 use krb_msg::{
-    ApReqRef, AuthenticatorRef, EncTicketRef, INVALID, Microseconds, Moment, Seconds,
-    TRANSITED_POLICY_CHECKED, TypedListRef, TypedRef,
+    ApReqRef, EncTicketRef, INVALID, Microseconds, Moment, Seconds, TRANSITED_POLICY_CHECKED,
+    TypedListRef, TypedRef,
 };
 use krb_replay::Skew;
 
@@ -48,27 +49,22 @@ fn start_of(second: Seconds) -> Moment
 }
 
 /// Why a request is refused though its time is near and it is new, if it is.
-pub(crate) fn refusal_of_times(
-    request: &ApReqRef,
-    part: &EncTicketRef,
-    auth: &AuthenticatorRef,
-    now: Moment,
-    skew: Skew,
-) -> Option<Refusal>
+pub(crate) fn refusal_of_times(opened: &Opened, now: Moment, skew: Skew) -> Option<Refusal>
     ensures { MatchOption result
-        (IsOfTimes skew now (ap_req_of request.now) (enc_ticket_part_of part.now) (authenticator_of auth.now))
-        (TimesRefuse skew now (ap_req_of request.now) (enc_ticket_part_of part.now) (authenticator_of auth.now)) }
+        (IsOfTimes skew now (ap_req_of opened.now.request.now) (enc_ticket_part_of opened.now.part.now) (authenticator_of opened.now.auth.now))
+        (TimesRefuse skew now (ap_req_of opened.now.request.now) (enc_ticket_part_of opened.now.part.now) (authenticator_of opened.now.auth.now)) }
 {
+    let part = opened.part;
     if is_early(part, now, skew) {
         return Some(Refusal::NotYetValid);
     }
     if is_late(part, now, skew) {
         return Some(Refusal::Expired);
     }
-    if !is_path_trusted(request, part) {
+    if !is_path_trusted(opened.request, part) {
         return Some(Refusal::Transited);
     }
-    if !is_ignorable(&part.authorization) || !is_ignorable(&auth.authorization) {
+    if !is_ignorable(&part.authorization) || !is_ignorable(&opened.auth.authorization) {
         return Some(Refusal::Authorization);
     }
     None

@@ -1,5 +1,5 @@
 -- The words of private contracts: what the stages of a decision say.
-use Rattle.std.specs.Prelude.{◌≡◌, ◌⊎◌, ℕ, ℤ, List}
+use Rattle.std.specs.Prelude.{◌≡◌, ◌⊎◌, ℕ, ℤ, List, Result, Ok, Err}
 use Rattle.krb_name.specs.declared.principal.Principal.{Principal}
 use Rattle.krb_der.specs.Kind.{Kind, ValueOf}
 use Rattle.krb_der.specs.Spells.{IsMessage}
@@ -12,11 +12,15 @@ use Rattle.krb_msg.specs.declared.key.KeyRef.{KeyRef}
 use Rattle.krb_keytab.specs.Entry.{KeytabEntry}
 use Rattle.krb_keytab.specs.Pick.{no_name, no_key, no_version, IsChoice}
 use Rattle.krb_ap.specs.Setup.{Setup, Arrival, arrival}
-use Rattle.krb_ap.specs.Opened.{ticket_usage}
+use Rattle.krb_ap.specs.Opened.{sent_at, ticket_usage}
+use Rattle.krb_ap.specs.Quiet.{Settled}
+use Rattle.krb_ap.specs.Taken.{IsTakenFrom}
+use Rattle.krb_ap.specs.Answer.{taken_of}
 use Rattle.krb_ap.specs.Times.{IsEarly, IsLate, IsPathTrusted, IsDataIgnorable}
 use Rattle.krb_ap.specs.Causes.{Cause}
+use Rattle.krb_ap.specs.declared.accepted.Accepted.{Accepted}
 use Rattle.krb_ap.specs.declared.refusal.Refusal.{Refusal}
-use Rattle.krb_ap.specs.declared.refusal.Refusal.TheVariants.{NotUs, NoKey, BadKeyVersion, NotYetValid, Expired, Transited, Authorization}
+use Rattle.krb_ap.specs.declared.refusal.Refusal.TheVariants.{NotUs, NoKey, BadKeyVersion, JustStarted, NotYetValid, Expired, Transited, Authorization}
 
 -- a cause that rests on the bytes alone, and one that rests on what the service decides by too
 abbrev pub IsCauseOfBytes : List ℕ → Refusal → Type 0
@@ -58,3 +62,18 @@ TimesRefuse skew now request part auth refusal =
     ⊎ (((refusal ≡ Expired) × ((¬ IsEarly part now skew) × IsLate part now skew))
     ⊎ (((refusal ≡ Transited) × ((¬ IsEarly part now skew) × ((¬ IsLate part now skew) × (¬ IsPathTrusted request part))))
     ⊎ ((refusal ≡ Authorization) × ((¬ IsEarly part now skew) × ((¬ IsLate part now skew) × (IsPathTrusted request part × (¬ IsDataIgnorable part auth)))))))
+
+-- a new request that isn't refused all the same: the quiet start is over, and its times and ticket
+-- are good
+abbrev pub IsInTime : Setup → ℤ → ValueOf ap_req → ValueOf enc_ticket_part → ValueOf authenticator → Type 0
+IsInTime setup now request part auth = Settled setup now (sent_at auth) × IsOfTimes setup.skew now request part auth
+
+-- one that is
+abbrev pub RefusesNew : Setup → ℤ → ValueOf ap_req → ValueOf enc_ticket_part → ValueOf authenticator → Refusal → Type 0
+RefusesNew setup now request part auth refusal =
+    ((refusal ≡ JustStarted) × (¬ Settled setup now (sent_at auth))) ⊎ (Settled setup now (sent_at auth) × TimesRefuse setup.skew now request part auth refusal)
+
+-- the answer to a new request
+abbrev pub AnswersNew : Setup → ℤ → ValueOf ap_req → ValueOf enc_ticket_part → ValueOf authenticator → Result Accepted Refusal → Type 0
+AnswersNew setup now request part auth (Ok accepted) = IsInTime setup now request part auth × IsTakenFrom request part auth (taken_of accepted)
+AnswersNew setup now request part auth (Err refusal) = RefusesNew setup now request part auth refusal

@@ -1,6 +1,5 @@
 use Rattle.std.proofs.Common.{◌≡◌, Err, ap, sym, subst, ◌∙◌}
 use Rattle.std.specs.Option.{option_map}
-use Rattle.std.proofs.lemmas.Result.{err_from_is_err_and}
 use Rattle.krb_der.specs.Kind.{ValueOf}
 use Rattle.krb_msg.specs.Borrowed.{ap_rep_of, enc_ap_rep_part_of}
 use Rattle.krb_msg.specs.Module.{enc_ap_rep_part}
@@ -10,7 +9,7 @@ use Rattle.krb_ap.specs.Request.{Awaited}
 use Rattle.krb_ap.specs.Finish.{FinishCause, IsOpenedReply, IsReplyOfType, OpensReply}
 use Rattle.krb_ap.specs.declared.finish_fault.FinishFault.{FinishFault}
 use Rattle.krb_ap.specs.declared.finish_fault.FinishFault.TheVariants.{OutOfMemory}
-use Rattle.krb_ap.proofs.Truth.{is_so, is_not}
+use Rattle.krb_ap.proofs.Truth.{err_is, is_so, is_not}
 use Rattle.krb_ap.proofs.Finishing.{fault_of, reply_shut, of_another, opens_reply, opens_to_other, copied_agreement}
 use Rattle.krb_ap.proofs.Offsets.{finish_within, shut_within}
 use Rattle.krb_ap.proofs.pending.Pending.finish.Goals as goal
@@ -33,24 +32,16 @@ opened c = record {
 }
 
 pub returns-in_err-message-clause-fault : goal.returns-in_err-message-clause-fault
-returns-in_err-message-clause-fault c =
-    let p = err_from_is_err_and c.from_residual.result c.from_residual.ensures.1 in
-    rw (p.1, p.2) (λ named. c.in_err-message.ensures.refused _)
+returns-in_err-message-clause-fault c = rw (err_is _ c.from_residual.ensures) (λ named. c.in_err-message.ensures.refused _)
 
 pub returns-in_err-message-clause-offset : goal.returns-in_err-message-clause-offset
-returns-in_err-message-clause-offset c =
-    let p = err_from_is_err_and c.from_residual.result c.from_residual.ensures.1 in
-    rw (p.1, p.2) (finish_within c.within.ensures c.args.self.now c.args.reply.now c.in_err-message.field-0.0 (c.in_err-message.ensures.refused c.args.self.now))
+returns-in_err-message-clause-offset c = rw (err_is _ c.from_residual.ensures) (finish_within c.within.ensures c.args.self.now c.args.reply.now c.in_err-message.field-0.0 (c.in_err-message.ensures.refused c.args.self.now))
 
 pub returns-in_err-plain-clause-offset : goal.returns-in_err-plain-clause-offset
-returns-in_err-plain-clause-offset c =
-    let p = err_from_is_err_and c.from_residual-in_err-plain.result c.from_residual-in_err-plain.ensures.1 in
-    rw (p.1, p.2) (shut_within c.args.reply.now c.in_err-plain.field-0.0 (λ named. (c.in_err-plain.ensures.shut named).0))
+returns-in_err-plain-clause-offset c = rw (err_is _ c.from_residual-in_err-plain.ensures) (shut_within c.args.reply.now c.in_err-plain.field-0.0 (λ named. (c.in_err-plain.ensures.shut named).0))
 
 pub returns-in_err-plain-clause-fault : goal.returns-in_err-plain-clause-fault
-returns-in_err-plain-clause-fault c =
-    let p = err_from_is_err_and c.from_residual-in_err-plain.result c.from_residual-in_err-plain.ensures.1 in
-    rw (p.1, p.2) (λ named.
+returns-in_err-plain-clause-fault c = rw (err_is _ c.from_residual-in_err-plain.ensures) (λ named.
     subst (λ (f : FinishFault). FinishCause c.args.self.now c.args.reply.now f) (sym (c.in_err-plain.ensures.shut named).0)
     (reply_shut c.facts.ensures c.args.self.now c.args.reply.now (ap_rep_of c.in_ok-message.message) c.in_ok-message.ensures.read
     (subst (λ (a : Awaited). (part : ValueOf enc_ap_rep_part) → ¬ OpensReply a.key (ap_rep_of c.in_ok-message.message) part) c.self.view_is
@@ -86,21 +77,17 @@ pub returns-clause-held : goal.returns-clause-held
 returns-clause-held c = c.both_agree.ensures.each c.args.self.now c.args.reply.now _ (returns-clause-agreed c)
 
 pub returns-in_err-message-clause-memory : goal.returns-in_err-message-clause-memory
-returns-in_err-message-clause-memory c =
-    let p = err_from_is_err_and c.from_residual.result c.from_residual.ensures.1 in
-    rw (p.1, p.2) (λ memory.
+returns-in_err-message-clause-memory c = rw (err_is _ c.from_residual.ensures) (λ memory.
     absurd (subst (λ (f : FinishFault). FinishCause c.args.self.now c.args.reply.now f) (fault_of c.in_err-message.field-0.0 OutOfMemory memory)
     (c.in_err-message.ensures.refused c.args.self.now)).holds)
 
 pub returns-in_err-plain-clause-memory : goal.returns-in_err-plain-clause-memory
-returns-in_err-plain-clause-memory c =
-    let p = err_from_is_err_and c.from_residual-in_err-plain.result c.from_residual-in_err-plain.ensures.1 in
-    rw (p.1, p.2) (λ memory. record {
-      reply = ap_rep_of c.in_ok-message.message;
-      message = c.in_ok-message.ensures.read;
-      same_type = subst (λ (a : Awaited). (encrypted_fields (reply_enc_part (ap_rep_of c.in_ok-message.message))).etype ≡ a.key.etype) c.self.view_is
-          (c.in_err-plain.ensures.memory (ap Err (fault_of c.in_err-plain.field-0.0 OutOfMemory memory)));
-    })
+returns-in_err-plain-clause-memory c = rw (err_is _ c.from_residual-in_err-plain.ensures) (λ memory. record {
+  reply = ap_rep_of c.in_ok-message.message;
+  message = c.in_ok-message.ensures.read;
+  same_type = subst (λ (a : Awaited). (encrypted_fields (reply_enc_part (ap_rep_of c.in_ok-message.message))).etype ≡ a.key.etype) c.self.view_is
+      (c.in_err-plain.ensures.memory (ap Err (fault_of c.in_err-plain.field-0.0 OutOfMemory memory)));
+})
 
 pub returns-in_err-clone-clause-memory : goal.returns-in_err-clone-clause-memory
 returns-in_err-clone-clause-memory c = λ memory. of_type (goal.at.returns-in_err-clone-clause-memory c).In_ok-plain
