@@ -1,5 +1,5 @@
 -- The checksum of an authenticator, of type 0x8003 (RFC 4121, section 4.1.1): which bytes it is, and what is wrong with others.
-use Rattle.std.specs.Prelude.{◌≡◌, ◌≢◌, ℕ, ◌/◌, ◌%◌, ◌^◌, ◌<◌, ◌≤◌, List, ◌++◌, length, take, Option, Some, None}
+use Rattle.std.specs.Prelude.{◌≡◌, ◌≢◌, ℕ, ℤ, pos, ◌/◌, ◌%◌, ◌^◌, ◌<◌, ◌≤◌, List, ◌++◌, length, take, Option, Some, None}
 use Rattle.std.specs.Int.{w16, w32, to_le_bytes}
 use Rattle.std.specs.Borrow.{Bor}
 use Rattle.krb_gss.specs.declared.flags.ContextFlag.{ContextFlag}
@@ -35,11 +35,18 @@ bytes_if (Some message) = Some message.now
 abbrev pub content_of : Checksum → Content
 content_of c = record { flags = c.flags.0; bindings = c.bindings; delegation = bytes_if c.delegation; extensions = c.extensions.now }
 
+-- the type of this checksum
+abbrev pub checksum_type : ℤ
+checksum_type = pos 0x8003
+
 -- Lgth, which is 16, Bnd and Flags, and what is after them
+abbrev pub with_front : ℕ → List ℕ → List ℕ → List ℕ
+with_front flags bindings after = to_le_bytes w32 16 ++ (bindings ++ (to_le_bytes w32 flags ++ after))
+
 pub record HasFront (flags : ℕ) (bindings after bytes : List ℕ) : Type 0 where
   pub number : flags < 2 ^ 32
   pub sixteen : length bindings ≡ 16
-  pub whole : bytes ≡ to_le_bytes w32 16 ++ (bindings ++ (to_le_bytes w32 flags ++ after))
+  pub whole : bytes ≡ with_front flags bindings after
 
 -- DlgOpt, which is 1, Dlgth and Deleg, which are there exactly if the flag says so; and after them the extensions
 abbrev pub HasDelegation : ℕ → Option (List ℕ) → List ℕ → List ℕ → Type 0

@@ -8,6 +8,9 @@ use crate::{ContextFlag, ContextFlags};
 use std::alloc::{AllocError, Global};
 use thiserror::Error;
 
+/// The type of this checksum.
+pub const CHECKSUM_TYPE: i32 = 0x8003;
+
 /// What a client says in the checksum of its authenticator.
 #[derive(Clone, Copy, Debug, PartialEq, Eq)]
 pub struct Checksum<'a> {

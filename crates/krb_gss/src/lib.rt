@@ -62,7 +62,7 @@ mod wrapping;
 
 pub use answered::{Answered, open_answer};
 pub use answering::Answer;
-pub use checksum::{Checksum, ChecksumFault, ChecksumWriteFault};
+pub use checksum::{CHECKSUM_TYPE, Checksum, ChecksumFault, ChecksumWriteFault};
 pub use fault::TokenFault;
 pub use flags::{ContextFlag, ContextFlags};
 pub use list_mic::{Checked, Reply, later_mic, wrap_checked};
