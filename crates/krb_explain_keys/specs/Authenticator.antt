@@ -1,9 +1,9 @@
 -- The lines of an authenticator that was opened (RFC 4120, section 5.5.1): the client, the time, the checksum's type and what it says of
 -- channel bindings (RFC 4121, section 4.1.1), the subkey's type, and the types of authorization data.
-use Rattle.std.specs.Prelude.{◌≡◌, ◌≢◌, ◌⊎◌, ℕ, ℤ, pos, ◌-ℤ◌, List, [], ◌∷◌, ◌++◌, Option, Some, None, codes, replicate}
+use Rattle.std.specs.Prelude.{◌≡◌, ◌≢◌, ◌⊎◌, ℕ, ℤ, ◌-ℤ◌, List, [], ◌∷◌, ◌++◌, Option, Some, None, codes, replicate}
 use Rattle.std.specs.Fmt.{decimal, signed_decimal}
 use Rattle.krb_der.specs.Kind.{ValueOf}
-use Rattle.krb_gss.specs.Checksum.{Content, IsChecksum}
+use Rattle.krb_gss.specs.Checksum.{Content, IsChecksum, checksum_type}
 use Rattle.krb_msg.specs.Module.{authenticator, checksum, encryption_key}
 use Rattle.krb_msg.specs.Fields.{authenticator_fields, authenticator_client, type_of, bytes_of}
 use Rattle.krb_time.specs.Moments.{micros_of}
@@ -36,8 +36,8 @@ pub record AreBindingLines (bytes : List ℕ) (lines : List (List ℕ)) : Type 0
 
 -- of a checksum of another type there is nothing to say
 pub record MayHaveBindings (type : ℤ) (bytes : List ℕ) (lines : List (List ℕ)) : Type 0 where
-  pub of_gss : type ≡ pos 0x8003 → AreBindingLines bytes lines
-  pub of_others : type ≢ pos 0x8003 → lines ≡ []
+  pub of_gss : type ≡ checksum_type → AreBindingLines bytes lines
+  pub of_others : type ≢ checksum_type → lines ≡ []
 
 pub record AreTypedLines (type : ℤ) (bytes : List ℕ) (lines : List (List ℕ)) : Type 0 where
   pub bindings : List (List ℕ)

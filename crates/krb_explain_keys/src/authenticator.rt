@@ -8,13 +8,10 @@ ghost use Rattle.krb_explain_keys.specs.Authenticator.{AreAuthenticatorLines, Ar
 use crate::age::age_text;
 use crate::data::types_text;
 use krb_explain::{date_line, listed, name_line, type_text};
-use krb_gss::Checksum;
+use krb_gss::{CHECKSUM_TYPE, Checksum};
 use krb_msg::{AuthenticatorRef, KeyRef, Microseconds, Moment, Seconds, TypedRef};
 use krb_readable::Text;
 use std::alloc::{AllocError, Global};
-
-// The type of the checksum of RFC 4121, section 4.1.1.
-const GSS_CHECKSUM: i32 = 0x8003;
 
 /// Makes the lines of an authenticator that was opened at this moment.
 pub(crate) fn authenticator_lines(
@@ -68,7 +65,7 @@ fn typed_lines(alloc: Global, kind: i32, bytes: &[u8]) -> Result<Vec<Text>, Allo
 fn may_have_bindings(alloc: Global, kind: i32, bytes: &[u8]) -> Result<Vec<Text>, AllocError>
     ensures { IfOk result (λ lines. MayHaveBindings kind bytes.now lines.items) }
 {
-    if kind == GSS_CHECKSUM {
+    if kind == CHECKSUM_TYPE {
         binding_lines(alloc, bytes)
     } else {
         Ok(Vec::new(alloc))

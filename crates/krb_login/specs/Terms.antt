@@ -4,7 +4,7 @@ use Rattle.krb_der.specs.Flags.{HasBit}
 use Rattle.krb_der.specs.Kind.{ValueOf, octets, leaf}
 use Rattle.krb_msg.specs.Module.{typed}
 use Rattle.krb_msg.specs.Fields.{type_of, bytes_of}
-use Rattle.krb_gss.specs.Checksum.{Content, IsChecksum}
+use Rattle.krb_gss.specs.Checksum.{Content, IsChecksum, checksum_type}
 use Rattle.krb_ap.specs.Taken.{Taken}
 use Rattle.krb_login.specs.NoBindings.{none_sent}
 use Rattle.krb_login.specs.declared.terms.Bindings.{Bindings}
@@ -31,12 +31,9 @@ abbrev pub IsOfRealms : Realms → List ℕ → Type 0
 IsOfRealms Any realm = Unit {0}
 IsOfRealms (Only realms) realm = Contains realms.items realm
 
--- The authenticator's checksum is that of GSS-API: its type is 0x8003 (RFC 4121, section 4.1.1).
-abbrev pub gss_checksum : ℕ
-gss_checksum = 0x8003
-
+-- The authenticator's checksum is that of GSS-API (RFC 4121, section 4.1.1).
 abbrev pub IsOfGss : ValueOf (typed (leaf octets)) → Type 0
-IsOfGss checksum = type_of checksum ≡ pos gss_checksum
+IsOfGss checksum = type_of checksum ≡ checksum_type
 
 abbrev pub SendsGss : Taken → Type 0
 SendsGss taken = IsSomeAnd taken.checksum IsOfGss

@@ -11,7 +11,7 @@ ghost use Rattle.krb_login.specs.NoBindings.{none_sent};
 use crate::bindings_hash::BindingsHash;
 use crate::breach::Breach;
 use krb_ap::Accepted;
-use krb_gss::Checksum;
+use krb_gss::{CHECKSUM_TYPE, Checksum};
 use krb_msg::Typed;
 use krb_name::{Bytes, Principal};
 
@@ -49,9 +49,6 @@ pub struct Terms {
 
 /// The flag of a ticket that says that its client is anonymous.
 const ANONYMOUS: u32 = 16;
-
-/// The type of the checksum that a client of GSS-API sends (RFC 4121, section 4.1.1).
-const GSS_CHECKSUM: i32 = 0x8003;
 
 impl Terms {
     /// Returns the first of the terms that an accepted request breaks, in the order of [`Breach`];
@@ -117,7 +114,7 @@ fn sends_gss(accepted: &Accepted) -> bool
 fn is_of_gss(checksum: &Typed) -> bool
     ensures { IsTrue result ↔ IsOfGss (owned_typed_of checksum.now) }
 {
-    checksum.kind == GSS_CHECKSUM
+    checksum.kind == CHECKSUM_TYPE
 }
 
 fn is_some_of(sent: &Option<[u8; 16]>, wanted: &[u8; 16]) -> bool
