@@ -15,7 +15,7 @@ use Rattle.krb_ccache.specs.declared.credential.Credential.{Credential}
 use Rattle.krb_ap.specs.Written.{IsWritten, IsSealed, key_value}
 use Rattle.krb_ap.specs.Opened.{authenticator_usage}
 use Rattle.krb_ap.specs.Credentials.{credential_key}
-use Rattle.krb_ap.specs.Request.{Awaited, authenticator_for, awaited_for, context_checksum, options_for, request_for, IsPlain, IsAuthenticator, IsBuilt}
+use Rattle.krb_ap.specs.Request.{authenticator_for, context_checksum, options_for, request_for, IsPlain, IsAuthenticator, IsBuilt}
 use Rattle.krb_ap.specs.Inner.Facts.{Facts, WritingFacts}
 use Rattle.krb_ap.specs.declared.request.RequestOptions.{RequestOptions}
 
@@ -101,15 +101,6 @@ pub copied_request : (credential : Credential) (options : RequestOptions) (ticke
     → told ≡ encrypted_value (record { etype = credential.etype; kvno = None; cipher = text })
     → ap_req_value (record { options = bits; ticket = copy; authenticator = told }) ≡ request_for credential options ticket text
 copied_request credential options ticket text bits copy told e f g = rw (e, f, g)
-
-abbrev pub awaited_of : Principal → KeyValue → ℤ → RequestOptions → Awaited
-awaited_of client key at options = record { client = client; key = key; at = at; subkey = options.subkey; seq = options.seq }
-
--- what is kept of a request, as copies
-pub copied_awaited : (credential : Credential) (at : ℤ) (options : RequestOptions) (client : Principal) (key : KeyValue) → client ≡ credential.client
-    → key ≡ credential_key credential
-    → awaited_of client key at options ≡ awaited_for credential at options
-copied_awaited credential at options client key e f = rw (e, f)
 
 -- what is sealed with the keys of a copy, and a copy of the plain text
 pub sealed_by : (keys : UsageKeyValue) (copy key : KeyValue) (usage : ℕ) (confounder lent plain text : List ℕ) → keys ≡ record { key = copy; usage = usage }

@@ -1,15 +1,12 @@
 -- A near and new request: what is asked of its ticket.
-use Rattle.std.proofs.Common.{◌≡◌, ◌≢◌, ℕ, ℤ, List, pos, ◌+ℤ◌, inl, inr, subst, Option, Some, None}
+use Rattle.std.proofs.Common.{◌≡◌, ◌≢◌, ℕ, ℤ, pos, ◌+ℤ◌, inl, inr, subst, Option, Some, None}
 use Rattle.std.specs.Prelude.{◌≤ℤ◌, MatchOption}
-use Rattle.krb_name.specs.declared.principal.Principal.{Principal}
 use Rattle.krb_der.specs.Kind.{ValueOf}
 use Rattle.krb_msg.specs.Module.{ap_req, enc_ticket_part, authenticator}
 use Rattle.krb_msg.specs.Fields.{part_times}
-use Rattle.krb_replay.specs.Stamp.{Stamp}
 use Rattle.krb_ap.specs.Setup.{Setup}
-use Rattle.krb_ap.specs.Opened.{sent_at, stamp_at}
+use Rattle.krb_ap.specs.Opened.{sent_at}
 use Rattle.krb_ap.specs.Quiet.{Settled}
-use Rattle.krb_ap.specs.Causes.{TellsPlaceWithin}
 use Rattle.krb_ap.specs.Times.{Alive, IsEarly, IsLate, second_at, start_of}
 use Rattle.krb_ap.specs.Inner.Stages.{IsInTime, IsOfTimes, RefusesNew, TimesRefuse}
 use Rattle.krb_ap.proofs.Decided.{order}
@@ -27,25 +24,12 @@ alive part now skew early late = record {
   lasting = stable now (second_at (part_times part).endtime +ℤ pos skew) late;
 }
 
--- the stamp of a tuple that was made of these names
-pub stamp_by : (tuple : Stamp) (server client one other : Principal) (time : ℤ) → tuple ≡ stamp_at server client time → server ≡ one
-    → client.realm ≡ other.realm → client.components ≡ other.components → tuple ≡ stamp_at one other time
-stamp_by tuple server client one other time e f g h = cc
-
 -- such a refusal isn't out of memory
 pub times_named : (skew : ℕ) (now : ℤ) (request : ValueOf ap_req) (part : ValueOf enc_ticket_part) (auth : ValueOf authenticator) (r : Refusal)
     → TimesRefuse skew now request part auth r → r ≢ OutOfMemory
 times_named skew now request part auth r h = elim h [
   | inl x ↦ (λ e. cc)
   | inr rest ↦ elim rest [ inl x ↦ (λ e. cc) | inr others ↦ elim others [ inl x ↦ (λ e. cc) | inr x ↦ (λ e. cc) ] ]
-]
-
--- nor does it name a place in the bytes
-pub times_placed : (skew : ℕ) (now : ℤ) (request : ValueOf ap_req) (part : ValueOf enc_ticket_part) (auth : ValueOf authenticator) (r : Refusal)
-    (bytes : List ℕ) → TimesRefuse skew now request part auth r → TellsPlaceWithin bytes r
-times_placed skew now request part auth r bytes h = elim h [
-  | inl x ↦ rw x.0 tt
-  | inr rest ↦ elim rest [ inl x ↦ rw x.0 tt | inr others ↦ elim others [ inl x ↦ rw x.0 tt | inr x ↦ rw x.0 tt ] ]
 ]
 
 -- why a new request is refused once the quiet start is over

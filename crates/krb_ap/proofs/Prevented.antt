@@ -5,11 +5,8 @@ use Rattle.krb_name.specs.declared.principal.Principal.{Principal}
 use Rattle.krb_ccache.specs.Value.{Cache}
 use Rattle.krb_ccache.specs.declared.credential.Credential.{Credential}
 use Rattle.krb_ap.specs.Credentials.{IsUsed}
-use Rattle.krb_ap.specs.Inner.Requests.{HasTicket, IsUnbuilt}
-use Rattle.krb_ap.specs.Request.{Awaited, HasGoodTicket, IsBuilt, IsRequest, Prevents, awaited_for}
+use Rattle.krb_ap.specs.Request.{Awaited, IsBuilt, IsRequest, awaited_for}
 use Rattle.krb_ap.specs.declared.request.RequestOptions.{RequestOptions}
-use Rattle.krb_ap.specs.declared.request_fault.RequestFault.{RequestFault}
-use Rattle.krb_ap.specs.declared.request_fault.RequestFault.TheVariants.{BadTicket, TooLong}
 
 -- what two facts of a value say together
 pub if_ok_both : {T E : Type 0} (r : Result T E) {P Q R : T → Type 0} → ((x : T) → P x → Q x → R x) → IfOk r P → IfOk r Q → IfOk r R
@@ -17,15 +14,7 @@ if_ok_both (Ok x) both p q = both x p q
 if_ok_both (Err e) both p q = tt
 
 module _ (cache : Cache) (service : Principal) (at : ℤ) (credential : Credential) (used : IsUsed cache service at credential) where
-  pub with_ticket : HasTicket credential → HasGoodTicket cache service at
-  with_ticket has = record { credential = credential; used = used; ticket = has.0; ticket_is = has.1 }
-
   module _ (confounder : List ℕ) (options : RequestOptions) where
-    pub prevented : (fault : RequestFault) → IsUnbuilt credential at confounder options fault → Prevents cache service at confounder options fault
-    prevented BadTicket u = record { credential = credential; used = used; bad = λ ticket message. u (ticket, message) }
-    prevented TooLong u = record { credential = credential; used = used; ticket = u.0.0; ticket_is = u.0.1; unwritten = u.1 }
-    prevented _ u = absurd u
-
     pub requested : (bytes : List ℕ) (awaited : Awaited) → IsBuilt credential at confounder options bytes → awaited ≡ awaited_for credential at options
         → IsRequest cache service at confounder options bytes awaited
     requested bytes awaited built kept = record { credential = credential; used = used; built = built; awaited_is = kept }

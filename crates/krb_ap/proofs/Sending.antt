@@ -1,16 +1,13 @@
 -- What a service takes from a built request, and what a client opens a reply to.
-use Rattle.std.proofs.Common.{◌≡◌, ℕ, ℤ, List, sym, ◌∙◌, ap, subst}
+use Rattle.std.proofs.Common.{◌≡◌, ℕ, ℤ, List, sym, subst}
 use Rattle.krb_der.specs.Kind.{ValueOf}
 use Rattle.krb_der.specs.Spells.{IsMessage}
 use Rattle.krb_enc.specs.Key.{KeyValue}
-use Rattle.krb_msg.specs.Module.{ap_req, ap_rep, ticket as ticket_kind, enc_ticket_part, enc_ap_rep_part, authenticator, is_ap_rep, is_ticket, is_authenticator, is_enc_ap_rep_part}
-use Rattle.krb_msg.specs.Fields.{ticket_service, part_client, encrypted_fields, request_fields, authenticator_fields}
-use Rattle.krb_time.specs.Moments.{micros_of}
+use Rattle.krb_msg.specs.Module.{ap_req, ap_rep, ticket as ticket_kind, enc_ticket_part, enc_ap_rep_part, authenticator, is_ap_rep, is_ticket, is_enc_ap_rep_part}
 use Rattle.krb_ccache.specs.declared.credential.Credential.{Credential}
 use Rattle.krb_ap.specs.Setup.{Setup, Arrival}
-use Rattle.krb_ap.specs.Opened.{OpensAs, Asks, Ticketed, OpensAuthenticator, OpenedAs, authenticator_usage, stamp_at, stamp_of}
+use Rattle.krb_ap.specs.Opened.{OpensAs, Asks, Ticketed, OpensAuthenticator, OpenedAs}
 use Rattle.krb_ap.specs.Taken.{Taken, Accept, IsTakenFrom, taken_from}
-use Rattle.krb_ap.specs.Credentials.{credential_key}
 use Rattle.krb_ap.specs.Request.{IsBuilt, awaited_for}
 use Rattle.krb_ap.specs.Headline.{Agrees, HasTicket}
 use Rattle.krb_ap.specs.Reply.{IsReply, reply_for, reply_part_for, reply_usage}
@@ -18,27 +15,8 @@ use Rattle.krb_ap.specs.Finish.{OpensReply}
 use Rattle.krb_ap.specs.Inner.Facts.{Facts}
 use Rattle.krb_ap.specs.declared.request.RequestOptions.{RequestOptions}
 use Rattle.krb_ap.specs.declared.reply.ReplyOptions.{ReplyOptions}
-use Rattle.krb_ap.proofs.BuiltAccepted.{opens_auth, opens_told, sealed_opens, told_agrees, told_auth, told_request}
-use Rattle.krb_ap.proofs.OneOpening.{of_same, one_message, one_request, one_part, one_auth, same_stamp, SameOpening}
-
--- ---- the same bytes are a request of the same moment
-
-same_text : Facts → (credential : Credential) (at to : ℤ) (c d : List ℕ) (o p : RequestOptions) (bytes : List ℕ)
-    → (a : IsBuilt credential at c o bytes) → (b : IsBuilt credential to d p bytes) → b.text ≡ a.text
-same_text facts credential at to c d o p bytes a b =
-    ap (λ (r : ValueOf ap_req). (encrypted_fields (request_fields r).authenticator).cipher)
-    (one_request facts bytes (told_request credential at c o bytes a) (told_request credential to d p bytes b) a.bytes_are.message b.bytes_are.message)
-
-pub same_moment : Facts → (credential : Credential) (at to : ℤ) (c d : List ℕ) (o p : RequestOptions) (bytes : List ℕ)
-    → IsBuilt credential at c o bytes → IsBuilt credential to d p bytes → at ≡ to
-same_moment facts credential at to c d o p bytes a b =
-    let moved : OpensAs (credential_key credential) authenticator_usage a.text authenticator (told_auth credential to d p bytes b) =
-    subst (λ (t : List ℕ). OpensAs (credential_key credential) authenticator_usage t authenticator (told_auth credential to d p bytes b))
-    (same_text facts credential at to c d o p bytes a b) (opens_told credential to d p bytes b) in
-    let same : told_auth credential at c o bytes a ≡ told_auth credential to d p bytes b =
-    one_message facts (credential_key credential) authenticator_usage a.text authenticator is_authenticator
-    (told_auth credential at c o bytes a) (told_auth credential to d p bytes b) (opens_told credential at c o bytes a) moved in
-    a.text_is.told.at_is ∙ (ap (λ (x : ValueOf authenticator). micros_of (authenticator_fields x).ctime (authenticator_fields x).cusec) same ∙ sym b.text_is.told.at_is)
+use Rattle.krb_ap.proofs.BuiltAccepted.{opens_auth, sealed_opens, told_agrees, told_auth, told_request}
+use Rattle.krb_ap.proofs.OneOpening.{of_same, one_message, one_request, one_part, one_auth, SameOpening}
 
 -- ---- what is accepted of a built request
 
@@ -85,15 +63,6 @@ module _ (facts : Facts) (setup : Setup) (credential : Credential) (ticket : Val
       subst (λ (t : Taken). Agrees t (awaited_for credential at options))
       (sym (taken_told a.request a.part a.auth taken (opened_as a.request a.part a.auth opened) a.taken_is))
       (told_agrees credential at confounder options bytes built setup ticket part has taken.wants_reply)
-
-  -- and remembers it by the ticket's names and the client's moment
-  pub stamp_taken : (history : List Arrival) (call : Arrival) (taken : Taken) → call.bytes ≡ bytes → (a : Accept setup history call taken)
-      → stamp_at (ticket_service ticket) (part_client part) at ≡ stamp_of a.request a.part a.auth
-  stamp_taken history call taken e a =
-      let opened : OpenedAs setup bytes a.request a.part a.auth = subst (λ (b : List ℕ). OpenedAs setup b a.request a.part a.auth) e a.opened in
-      ap (λ (t : ValueOf ticket_kind). stamp_at (ticket_service t) (part_client part) at) same_ticket
-      ∙ (ap (λ (m : ℤ). stamp_at (ticket_service built.ticket) (part_client part) m) built.text_is.told.at_is
-      ∙ sym (same_stamp message a.request part a.part auth a.auth (opened_as a.request a.part a.auth opened)))
 
 -- ---- what is opened of a reply
 
