@@ -37,3 +37,4 @@ pub mod Behind
 pub mod Entries
 pub mod SomeRequest
 pub mod Prevented
+pub mod ContextLaws

@@ -1,13 +1,13 @@
 -- The request that a client builds with a credential (RFC 4120, sections 3.2.2 and 5.5.1), what it
 -- keeps of the request, and why there is none.
-use Rattle.std.specs.Prelude.{◌≡◌, ◌<◌, ◌+◌, ◌*◌, ◌/◌, ◌++◌, ℕ, ℤ, pos, List, Bool, true, false, Option, None}
-use Rattle.std.specs.Int.{w32, to_le_bytes}
+use Rattle.std.specs.Prelude.{◌≡◌, ◌<◌, ◌+◌, ◌*◌, ◌/◌, ℕ, ℤ, List, [], Bool, true, false, Option, None}
 use Rattle.std.specs.Option.{option_map}
 use Rattle.krb_name.specs.declared.principal.Principal.{Principal}
 use Rattle.krb_der.specs.Kind.{ValueOf}
 use Rattle.krb_der.specs.Spells.{IsMessage}
 use Rattle.krb_der.specs.Flags.{weight}
 use Rattle.krb_enc.specs.Key.{KeyValue}
+use Rattle.krb_gss.specs.Checksum.{checksum_type, with_front}
 use Rattle.krb_msg.specs.Bits.{mutual_required}
 use Rattle.krb_msg.specs.Module.{ap_req, authenticator, checksum as checksum_kind, ticket as ticket_kind}
 use Rattle.krb_msg.specs.Fields.{authenticator_value, ap_req_value, encrypted_value, typed_value}
@@ -33,11 +33,10 @@ abbrev pub context_flags : Bool → ℕ → ℕ
 context_flags true flags = flags / 4 * 4 + 2
 context_flags false flags = flags / 4 * 4
 
--- the checksum by which a client of GSS-API says what it asks for (RFC 4121, section 4.1.1): the
--- length of the bindings, the bindings, and the flags, numbers with the least byte first
+-- the checksum by which a client of GSS-API says what it asks for (RFC 4121, section 4.1.1): flags
+-- and bindings, and nothing after them
 abbrev pub context_checksum : Bool → ContextRequest → ValueOf checksum_kind
-context_checksum is_mutual c =
-    typed_value (pos 0x8003) (to_le_bytes w32 16 ++ (c.bindings ++ to_le_bytes w32 (context_flags is_mutual c.flags)))
+context_checksum is_mutual c = typed_value checksum_type (with_front (context_flags is_mutual c.flags) c.bindings [])
 
 -- the authenticator: the credential's client, a time, and the subkey, the sequence number and the
 -- context that the client chose; and no more

@@ -15,6 +15,7 @@ use crate::ready_key::{ReadyCredential, ReadyKey};
 use crate::request_fault::RequestFault;
 use krb_ccache::{CCache, Credential};
 use krb_enc::Key;
+use krb_gss::{CHECKSUM_TYPE, Checksum, ChecksumWriteFault, ContextFlags};
 use krb_msg::{
     ApReqOver, Authenticator, EncodeFault, Flags, MUTUAL_REQUIRED, Moment, Principal,
     SpelledTicket, Typed,
@@ -180,9 +181,6 @@ fn context_flags(is_mutual: bool, flags: u32) -> u32
     if is_mutual { others + 2 } else { others }
 }
 
-// The type of the checksum of a client of GSS-API.
-const CONTEXT: i32 = 0x8003;
-
 fn checksum_of(
     alloc: Global,
     is_mutual: bool,
@@ -193,12 +191,19 @@ fn checksum_of(
     let Some(context) = context else {
         return Ok(None);
     };
-    let flags = context_flags(is_mutual, context.flags);
-    let mut bytes = Vec::from_slice(alloc, &16u32.to_le_bytes())?;
-    bytes.extend_from_slice(&context.bindings)?;
-    bytes.extend_from_slice(&flags.to_le_bytes())?;
-    Ok(Some(Typed {
-        kind: CONTEXT,
-        bytes,
-    }))
+    let checksum = Checksum {
+        flags: ContextFlags(context_flags(is_mutual, context.flags)),
+        bindings: context.bindings,
+        delegation: None,
+        extensions: &[],
+    };
+    match checksum.encode(alloc) {
+        Ok(bytes) => Ok(Some(Typed {
+            kind: CHECKSUM_TYPE,
+            bytes,
+        })),
+        Err(ChecksumWriteFault::OutOfMemory) => Err(AllocError),
+        // No credentials are delegated, and the flags say so.
+        Err(ChecksumWriteFault::Delegation | ChecksumWriteFault::TooLong) => unreachable!(),
+    }
 }
