@@ -33,12 +33,12 @@ use Rattle.krb_ap.proofs.Stages.{opened as opened_clears}
 -- ---- the options of a request
 
 ordinary : (reply : Bool) → ¬ HasBit (options_for reply) use_session_key
-ordinary true h = absurd (omega (arith, h.1))
-ordinary false h = absurd (omega (arith, h.1))
+ordinary true h = absurd cc
+ordinary false h = absurd cc
 
 asked : (reply : Bool) → IsTrue reply ↔ HasBit (options_for reply) mutual_required
-asked true = (λ e. (omega arith, refl), λ h. refl)
-asked false = (λ e. absurd cc, λ h. absurd (omega (arith, h.1)))
+asked true = (λ e. refl, λ h. refl)
+asked false = (λ e. absurd cc, λ h. absurd cc)
 
 -- ---- what is sealed opens
 

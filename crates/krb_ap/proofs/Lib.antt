@@ -37,4 +37,3 @@ pub mod Behind
 pub mod Entries
 pub mod SomeRequest
 pub mod Prevented
-pub mod ContextLaws

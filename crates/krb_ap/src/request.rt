@@ -191,9 +191,10 @@ fn checksum_of(
     let Some(context) = context else {
         return Ok(None);
     };
+    let bindings = context.bindings;
     let checksum = Checksum {
         flags: ContextFlags(context_flags(is_mutual, context.flags)),
-        bindings: context.bindings,
+        bindings,
         delegation: None,
         extensions: &[],
     };
