@@ -3,7 +3,7 @@ use Rattle.std.proofs.Common.{◌≡◌, ◌≢◌, ℕ, zero, suc, ℤ, ◌≤�
 use Rattle.std.specs.List.{filter, insert, remove}
 use Rattle.std.specs.List.Sorted.{IsPermutation}
 use Rattle.std.proofs.lemmas.Int.{ints}
-use Rattle.std.proofs.lemmas.List.{drop_more, length-drop, take-append-drop, take_more}
+use Rattle.std.proofs.lemmas.List.{drop_more, length-drop, take-append-drop}
 use Rattle.std.proofs.lemmas.List.Sorted.{IsPermutation-middle, IsPermutation-sym}
 use Rattle.std.proofs.lemmas.List.Elements.{All-append, All-cons, All-get_or, All-head, All-nil, All-tail, All-weaker, filter-append}
 use Rattle.krb_tally.specs.Times.{HasEqual, LacksEqual, number_since, since}
@@ -200,25 +200,6 @@ module _ {X : Type 0} (when : X → ℤ) where
 
   pub lacks_both : (eq : X → X → Bool) (a b : List X) (item : X) → LacksEqual when eq a item → LacksEqual when eq b item → LacksEqual when eq (a ++ b) item
   lacks_both eq a b item one other = All-append (λ x. when x ≡ when item → eq x item ≡ false) a b one other
-
-  -- nothing equal so far, and the next one is late
-  pub lacks_rest : (eq : X → X → Bool) (items : List X) (at : ℕ) (next item : X) → at < length items → next ≡ get_or items at next → IsRising when items
-      → when item <ℤ when next → LacksEqual when eq (take at items) item → LacksEqual when eq items item
-  lacks_rest eq items at next item within is rising late so_far =
-      subst (λ (all : List X). LacksEqual when eq all item) (take-append-drop at items)
-      (lacks_both eq (take at items) (drop at items) item so_far
-      (late_lacks eq (drop at items) item
-      (All-weaker (λ x. when (get_or items at next) ≤ℤ when x) (λ x. when item <ℤ when x)
-      (λ x from. let same = ap when is in omega (arith, ints)) (drop at items) (from_on items at next within rising))))
-
-  -- nothing equal so far, and the next one isn't
-  pub lacks_next : (eq : X → X → Bool) (items : List X) (at : ℕ) (next item : X) → at < length items → next ≡ get_or items at next → eq next item ≡ false
-      → LacksEqual when eq (take at items) item → LacksEqual when eq (take (at + 1) items) item
-  lacks_next eq items at next item within is apart so_far =
-      subst (λ (all : List X). LacksEqual when eq all item) (sym (take_more items at next within))
-      (lacks_both eq (take at items) (get_or items at next ∷ []) item so_far
-      (All-cons (λ x. when x ≡ when item → eq x item ≡ false) (get_or items at next) [] (λ same. subst (λ one. eq one item ≡ false) is apart)
-      (All-nil (λ x. when x ≡ when item → eq x item ≡ false))))
 
 -- an item equal to one stands in a longer list, too
 pub has_right : {X : Type 0} (when : X → ℤ) (eq : X → X → Bool) (a b : List X) (item : X) → HasEqual when eq b item → HasEqual when eq (a ++ b) item

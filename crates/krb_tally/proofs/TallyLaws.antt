@@ -1,5 +1,5 @@
 -- The items of all buckets, and after a change of one of them.
-use Rattle.std.proofs.Common.{◌≡◌, ℕ, zero, suc, ℤ, ◌≤ℤ◌, ◌<ℤ◌, ◌+◌, ◌<◌, ◌≤◌, Bool, false, List, [], ◌∷◌, ◌++◌, All, Contains, length, get_or, set, take, drop, refl, sym, ap, subst, ◌∙◌, append_assoc, length-append, int_lt, not, ◌-◌, Option, Some, is_some, slice_get, unwrap_or, true≢false, arith}
+use Rattle.std.proofs.Common.{◌≡◌, ℕ, zero, suc, ℤ, ◌≤ℤ◌, ◌<ℤ◌, ◌+◌, ◌<◌, ◌≤◌, Bool, List, [], ◌∷◌, ◌++◌, All, Contains, length, get_or, set, take, drop, refl, sym, ap, subst, ◌∙◌, append_assoc, length-append, int_lt, not, ◌-◌, Option, Some, is_some, slice_get, unwrap_or, true≢false, arith}
 use Rattle.std.specs.List.{insert, remove}
 use Rattle.std.specs.List.Sorted.{IsPermutation}
 use Rattle.std.proofs.lemmas.Int.{ints}
@@ -7,9 +7,9 @@ use Rattle.std.proofs.lemmas.List.{append-nil, get_or_read, take-append-drop, ta
 use Rattle.std.proofs.lemmas.List.Elements.{All-append, All-contains, All-nil, All-weaker, Contains-append_left, Contains-append_right}
 use Rattle.std.proofs.lemmas.List.Sorted.{IsPermutation-middle, IsPermutation-sym}
 use Rattle.std.proofs.lemmas.List.Sums.{count_by-le-length, length-filter}
-use Rattle.krb_tally.specs.Times.{HasEqual, LacksEqual, number_since}
+use Rattle.krb_tally.specs.Times.{HasEqual, number_since}
 use Rattle.krb_tally.specs.Inner.Buckets.{AddsIn, Fits, Halves, IsRising, Reaches, TakesOut, all_of}
-use Rattle.krb_tally.proofs.BucketLaws.{all_left, all_right, all_since, apart, at_place, both_parts, early_lacks, has_right, lacks_both, late_lacks, none_since, rising_less, rising_more, rising_right}
+use Rattle.krb_tally.proofs.BucketLaws.{all_left, all_right, all_since, apart, at_place, both_parts, has_right, none_since, rising_less, rising_more, rising_right}
 
 pub all_append : {X : Type 0} (a b : List (List X)) → all_of (a ++ b) ≡ all_of a ++ all_of b
 all_append [] b = refl
@@ -277,12 +277,6 @@ module _ {X : Type 0} (when : X → ℤ) where
         (λ x from. let late = reached.not_before in omega (arith, ints)) after reached.later) in
         omega arith
 
-    pub old_fits : (moment : ℤ) → All (λ x. when x <ℤ moment) before → Reaches when buckets at moment → Fits when buckets moment at (suc at)
-    old_fits moment early reached = record {
-      early = All-weaker (λ x. when x <ℤ moment) (λ x. when x ≤ℤ moment) (λ x upto. omega (arith, ints)) before early;
-      late = All-weaker (λ x. when reached.late ≤ℤ when x) (λ x. moment ≤ℤ when x) (λ x from. let late = reached.not_before in omega (arith, ints)) after reached.later;
-    }
-
     pub new_fits : (first : X) (moment : ℤ) → All (λ x. when x <ℤ moment) before → Reaches when buckets at moment → All (λ x. when first ≤ℤ when x) here → moment ≤ℤ when first
         → Fits when buckets moment at at
     new_fits first moment early reached least from = record {
@@ -304,26 +298,6 @@ module _ {X : Type 0} (when : X → ℤ) where
         subst (λ (items : List X). All (λ item. when item ≤ℤ when last) items) (sym (at_bucket buckets at within))
         (All-append (λ item. when item ≤ℤ when last) before (here ++ after) (before_it last there)
         (All-append (λ item. when item ≤ℤ when last) here after greatest (past (λ item. when item ≤ℤ when last) buckets (suc at) end)))
-
-    -- nothing equal so far, nor in this bucket
-    pub lacks_more : (eq : X → X → Bool) (item : X) → LacksEqual when eq before item → LacksEqual when eq here item
-        → LacksEqual when eq (all_of (take (at + 1) buckets)) item
-    lacks_more eq item so_far none =
-        let next : all_of (take (at + 1) buckets) ≡ before ++ (here ++ []) =
-        ap (λ (all : List (List X)). all_of all) (take_more buckets at [] within) ∙ all_append (take at buckets) (here ∷ []) in
-        subst (λ (items : List X). LacksEqual when eq items item) (sym next)
-        (lacks_both when eq before (here ++ []) item so_far (lacks_both when eq here [] item none (All-nil (λ x. when x ≡ when item → eq x item ≡ false))))
-
-    -- nothing equal so far, and this bucket is late
-    pub lacks_late : (eq : X → X → Bool) (first item : X) → Contains here first → All (λ x. when first ≤ℤ when x) here → when item <ℤ when first
-        → LacksEqual when eq before item → LacksEqual when eq (all_of buckets) item
-    lacks_late eq first item there least late so_far =
-        subst (λ (items : List X). LacksEqual when eq items item) (sym (at_bucket buckets at within))
-        (lacks_both when eq before (here ++ after) item so_far
-        (late_lacks when eq (here ++ after) item
-        (All-append (λ x. when item <ℤ when x) here after
-        (All-weaker (λ x. when first ≤ℤ when x) (λ x. when item <ℤ when x) (λ x from. omega (arith, ints)) here least)
-        (All-weaker (λ x. when first ≤ℤ when x) (λ x. when item <ℤ when x) (λ x from. omega (arith, ints)) after (after_it first there)))))
 
   -- a search goes on after a bucket, or ends by it, by its last item
   module _ (buckets : List (List X)) (at : ℕ) (here : List X) (last : X) (moment : ℤ) (within : at < length buckets) (is : here ≡ get_or buckets at here) (rising : IsRising when (all_of buckets)) (there : Contains here last) where
@@ -368,13 +342,6 @@ module _ {X : Type 0} (when : X → ℤ) where
     late = fits.late;
   }
 
-  -- what fits into a bucket fits into its two halves
-  pub halves_fit : (old new : List (List X)) (at : ℕ) (moment : ℤ) → Halves old at new → Fits when old moment at (suc at) → Fits when new moment at (suc (suc at))
-  halves_fit old new at moment halves fits = record {
-    early = subst (λ (some : List (List X)). All (λ x. when x ≤ℤ moment) (all_of some)) (sym halves.before) fits.early;
-    late = subst (λ (some : List (List X)). All (λ x. moment ≤ℤ when x) (all_of some)) (sym halves.after) fits.late;
-  }
-
   -- what fits between two buckets fits into the one before
   pub fits_before : (buckets : List (List X)) (moment : ℤ) (next n : ℕ) → next ≡ suc n → Fits when buckets moment next next → Fits when buckets moment n (suc n)
   fits_before buckets moment next n is fits = record {
@@ -412,18 +379,6 @@ module _ {X : Type 0} (when : X → ℤ) where
       All-append (λ item. when first ≤ℤ when item) x (all_of xs) (subst (λ (items : List X). All (λ item. when first ≤ℤ when item) items) same least)
       (after_it (x ∷ xs) 0 (omega arith) rising first (subst (λ (items : List X). Contains items first) same there))
 
-  -- what is looked for isn't before the bucket for it
-  pub lacks_before : (eq : X → X → Bool) (buckets : List (List X)) (at : ℕ) (item : X) → All (λ x. when x <ℤ when item) (all_of (take at buckets))
-      → LacksEqual when eq (all_of (drop at buckets)) item → LacksEqual when eq (all_of buckets) item
-  lacks_before eq buckets at item early rest =
-      subst (λ (items : List X). LacksEqual when eq items item) (sym (cut buckets at))
-      (lacks_both when eq (all_of (take at buckets)) (all_of (drop at buckets)) item (early_lacks when eq (all_of (take at buckets)) item early) rest)
-
-pub found_after : {X : Type 0} (when : X → ℤ) (eq : X → X → Bool) (buckets : List (List X)) (at : ℕ) (item : X) → HasEqual when eq (all_of (drop at buckets)) item
-    → HasEqual when eq (all_of buckets) item
-found_after when eq buckets at item has =
-    subst (λ items. HasEqual when eq items item) (sym (cut buckets at)) (has_right when eq (all_of (take at buckets)) (all_of (drop at buckets)) item has)
-
 -- the first of the first bucket is the first of all
 pub head_of : {X : Type 0} (buckets : List (List X)) (here : List X) (first : X) → Some here ≡ slice_get buckets 0 → Contains here first → first ≡ get_or here 0 first
     → slice_get (all_of buckets) 0 ≡ Some first
@@ -434,13 +389,6 @@ head_of ([] ∷ xs) here first is there place =
 head_of ((y ∷ ys) ∷ xs) here first is there place =
     let same : here ≡ y ∷ ys = ap (λ one. unwrap_or one here) is in
     sym (ap (λ it. Some it) (place ∙ ap (λ items. get_or items 0 first) same))
-
--- what is taken out at the first place is the first item
-pub first_out : {X : Type 0} (old new : List (List X)) (bucket at : ℕ) (item : X) → TakesOut old bucket at item new → bucket ≡ 0 → at ≡ 0 → all_of old ≡ item ∷ all_of new
-first_out old new bucket at item out first place =
-    let front : all_of (take bucket old) ++ take at (get_or old bucket []) ≡ [] =
-    ap (λ (n : ℕ). all_of (take n old) ++ take at (get_or old n [])) first ∙ ap (λ (n : ℕ). take n (get_or old 0 [])) place in
-    out.old_is ∙ (ap (λ before. before ++ item ∷ out.after) front ∙ ap (λ rest. item ∷ rest) (sym (out.new_is ∙ ap (λ before. before ++ out.after) front)))
 
 -- what is found in a bucket is one of all items
 pub found_in : {X : Type 0} (when : X → ℤ) (eq : X → X → Bool) (buckets : List (List X)) (at : ℕ) (item : X) → at < length buckets → HasEqual when eq (get_or buckets at []) item

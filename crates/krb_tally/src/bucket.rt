@@ -221,14 +221,16 @@ fn number_below<T: Timed>(items: &[T], item: &T) -> usize
     ensures before { All (λ one. place_from T.cmp item.now one <ℤ pos 1) (take result items.now) }
     ensures from { All (λ one. pos 1 ≤ℤ place_from T.cmp item.now one) (drop result items.now) }
 {
-    search(
-        items.len(),
-        |at|
-            requires { at < length items.now }
-            ensures early { IsTrue result → (one : T) → place_from T.cmp item.entry.now (slice_index_or items.entry.now at one) <ℤ pos 1 }
-            ensures late { result ≡ false → (one : T) → pos 1 ≤ℤ place_from T.cmp item.entry.now (slice_index_or items.entry.now at one) }
-        { is_before(&items[at], item) },
-    )
+    search(items.len(), |at| is_below(items, at, item))
+}
+
+// Whether the item at a place is before `item`.
+fn is_below<T: Timed>(items: &[T], at: usize, item: &T) -> bool
+    requires { at < length items.now }
+    ensures before { IsTrue result → (one : T) → place_from T.cmp item.now (slice_index_or items.now at one) <ℤ pos 1 }
+    ensures from { result ≡ false → (one : T) → pos 1 ≤ℤ place_from T.cmp item.now (slice_index_or items.now at one) }
+{
+    is_before(&items[at], item)
 }
 
 // How many of the items, which are in order, have a time before `time`.
@@ -238,12 +240,14 @@ fn number_before<T: Timed>(items: &[T], time: i64) -> usize
     ensures before { All (λ item. T.timestamp item <ℤ time) (take result items.now) }
     ensures from { All (λ item. time ≤ℤ T.timestamp item) (drop result items.now) }
 {
-    search(
-        items.len(),
-        |at|
-            requires { at < length items.now }
-            ensures early { IsTrue result → (one : T) → T.timestamp (slice_index_or items.entry.now at one) <ℤ time }
-            ensures late { result ≡ false → (one : T) → time ≤ℤ T.timestamp (slice_index_or items.entry.now at one) }
-        { items[at].timestamp() < time },
-    )
+    search(items.len(), |at| is_early(items, at, time))
+}
+
+// Whether the item at a place has a time before `time`.
+fn is_early<T: Timed>(items: &[T], at: usize, time: i64) -> bool
+    requires { at < length items.now }
+    ensures before { IsTrue result → (one : T) → T.timestamp (slice_index_or items.now at one) <ℤ time }
+    ensures from { result ≡ false → (one : T) → time ≤ℤ T.timestamp (slice_index_or items.now at one) }
+{
+    items[at].timestamp() < time
 }

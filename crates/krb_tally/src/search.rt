@@ -34,9 +34,8 @@ struct Part {
     high: usize,
 }
 
-// Returns the part in which a search ends. Requests come nearly in the order of their times, and
-// expire in it, so that most searches among many end near the last place, or near the first. What
-// lies there was read a moment ago.
+// Returns the part in which a search ends. Most items come nearly in order and go in order, so most
+// searches among many end near the last place or near the first. What is there was read a moment ago.
 fn part_of<P: Fn(usize) -> bool>(count: usize, passes: &P) -> Part
     requires { (at : ℕ) → at < count → P.pre passes.now at }
     ensures order { result.low ≤ result.high }

@@ -163,15 +163,17 @@ fn bucket_of<T: Timed + Drop>(buckets: &[Bucket<T>], item: &T) -> usize
     ensures before { All (λ one. place_from T.cmp item.now one <ℤ pos 1) (all_of (take result buckets.now)) }
     ensures reached { result < length buckets.now → Reaches (place_from T.cmp item.now) buckets.now result (pos 1) }
 {
-    search(
-        buckets.len(),
-        |at|
-            requires within { at < length buckets.now }
-            requires sorted { IsSorted T.cmp (all_of buckets.now) }
-            ensures early { IsTrue result → All (λ one. place_from T.cmp item.entry.now one <ℤ pos 1) (all_of (take (at + 1) buckets.entry.now)) }
-            ensures late { result ≡ false → Reaches (place_from T.cmp item.entry.now) buckets.entry.now at (pos 1) }
-        { is_before(buckets[at].last(), item) },
-    )
+    search(buckets.len(), |at| ends_below(buckets, at, item))
+}
+
+// Whether each item of the bucket at a place is before `item`, and so each of an earlier bucket.
+fn ends_below<T: Timed + Drop>(buckets: &[Bucket<T>], at: usize, item: &T) -> bool
+    requires within { at < length buckets.now }
+    requires sorted { IsSorted T.cmp (all_of buckets.now) }
+    ensures before { IsTrue result → All (λ one. place_from T.cmp item.now one <ℤ pos 1) (all_of (take (at + 1) buckets.now)) }
+    ensures reached { result ≡ false → Reaches (place_from T.cmp item.now) buckets.now at (pos 1) }
+{
+    is_before(buckets[at].last(), item)
 }
 
 // The first of the items, which are in order.
@@ -207,15 +209,18 @@ fn bucket_for<T: Timed + Drop>(buckets: &[Bucket<T>], moment: i64) -> usize
     ensures before { All (λ item. T.timestamp item <ℤ moment) (all_of (take result buckets.now)) }
     ensures reached { result < length buckets.now → Reaches T.timestamp buckets.now result moment }
 {
-    search(
-        buckets.len(),
-        |at|
-            requires within { at < length buckets.now }
-            requires rising { IsRising T.timestamp (all_of buckets.now) }
-            ensures early { IsTrue result → All (λ item. T.timestamp item <ℤ moment) (all_of (take (at + 1) buckets.entry.now)) }
-            ensures late { result ≡ false → Reaches T.timestamp buckets.entry.now at moment }
-        { buckets[at].last().timestamp() < moment },
-    )
+    search(buckets.len(), |at| ends_early(buckets, at, moment))
+}
+
+// Whether each item of the bucket at a place has a time before a moment, and so each of an earlier
+// bucket.
+fn ends_early<T: Timed + Drop>(buckets: &[Bucket<T>], at: usize, moment: i64) -> bool
+    requires within { at < length buckets.now }
+    requires rising { IsRising T.timestamp (all_of buckets.now) }
+    ensures before { IsTrue result → All (λ item. T.timestamp item <ℤ moment) (all_of (take (at + 1) buckets.now)) }
+    ensures reached { result ≡ false → Reaches T.timestamp buckets.now at moment }
+{
+    buckets[at].last().timestamp() < moment
 }
 
 // How many items of the buckets aren't before `oldest`.

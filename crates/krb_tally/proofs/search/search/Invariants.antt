@@ -1,4 +1,4 @@
-use Rattle.std.proofs.Common.{◌-◌, ◌≤◌, ◌<◌, ℕ, false, true}
+use Rattle.std.proofs.Common.{◌-◌, ◌≤◌, ◌<◌, false, true}
 use Rattle.krb_tally.proofs.search.search.Given as goal
 
 abbrev pub invariant-loop-low : goal.invariant-loop-low
