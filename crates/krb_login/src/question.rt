@@ -107,6 +107,7 @@ impl Asking {
     /// The client is let in if its stamp is new and `now` isn't later than its time by more than the
     /// skew. It is refused as `Skew` if it is too late, as `Repeat` if the store knows the stamp, and
     /// as `StoreFailed` if the store didn't answer.
+    #[inline(never)]
     pub fn settle(
         self,
         alloc: Global,
@@ -171,6 +172,7 @@ impl Asking {
         now.micros() <= self.tuple.time().micros() + self.skew.micros()
     }
 
+    #[inline(never)]
     fn let_in(self, alloc: Global, confounder: &[u8; 16], choice: ReplyOptions) -> Decision
         ensures { SettlesNew self confounder.now choice result }
     {

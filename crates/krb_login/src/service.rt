@@ -486,6 +486,7 @@ fn let_in(
 }
 
 // Holds what is known of an accepted request, to ask the store for its stamp.
+#[inline(never)]
 fn held(alloc: Global, carrier: Carrier, request: &[u8], accepted: Accepted, skew: Skew) -> Step
     ensures ends { (bytes : List ℕ) → LeadsTo bytes result Negotiation.Ended }
     ensures steps { (call : Call) → HoldsRequest call carrier request.now → IsOrdinary request.now → skew ≡ call.setup.skew

@@ -439,7 +439,7 @@ fn conclude(
 ) -> Decision
     ensures { ConcludesBy listed bytes.now chosen.entry.confounder.now chosen.entry.choice.now chosen.entry.options decided result stage.new }
 {
-    *stage = Stage::Login(Negotiation::Ended);
+    end_login(stage);
     match decided {
         LoginDecision::LetIn(login) => {
             let made = listed.mark(alloc, bytes, &login.accepted, chosen);
@@ -448,6 +448,14 @@ fn conclude(
         LoginDecision::GoOn(bytes) => Decision::GoOn(bytes),
         LoginDecision::Refused(refused) => Decision::Refused(refused),
     }
+}
+
+// Ends a login. (What it was is freed in a stack frame of its own.)
+#[inline(never)]
+fn end_login(stage: &mut Stage)
+    ensures { stage.new ≡ Stage.Login Negotiation.Ended }
+{
+    *stage = Stage::Login(Negotiation::Ended);
 }
 
 // Goes on by what was prepared for a client that the service would let in.
