@@ -172,7 +172,7 @@ impl Asking {
         now.micros() <= self.tuple.time().micros() + self.skew.micros()
     }
 
-    #[inline(never)]
+    #[inline(always)]
     fn let_in(self, alloc: Global, confounder: &[u8; 16], choice: ReplyOptions) -> Decision
         ensures { SettlesNew self confounder.now choice result }
     {
@@ -185,6 +185,7 @@ impl Asking {
         }
     }
 
+    #[inline(always)]
     fn refuse(self, alloc: Global, now: Moment, cause: Cause, refusal: &Refusal) -> Refused
         ensures cause { result.cause ≡ cause }
         ensures asked { result.asked ≡ self.asked }

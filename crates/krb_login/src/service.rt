@@ -448,7 +448,7 @@ fn not_opened(alloc: Global, negotiation: Negotiation, bytes: &[u8], fault: Toke
 }
 
 // Asks a client for its token.
-#[inline(never)]
+#[inline(always)]
 fn go_on(alloc: Global, negotiation: &mut Negotiation, first: Mechanism) -> Decision
     ensures leaves { IsUndecided result }
     ensures negotiation { negotiation.old ≡ Negotiation.Asked first

@@ -1,5 +1,5 @@
 -- What a check leads to.
-use Rattle.std.proofs.Common.{◌≡◌, ℕ, List, Bool, Option, true, false, Some, None, Ok, Err, Bor, ap, refl, subst, sym, ◌∙◌}
+use Rattle.std.proofs.Common.{◌≡◌, ℕ, List, Bool, Option, Some, None, Ok, Bor, ap, refl, subst, sym, ◌∙◌}
 use Rattle.std.specs.Prelude.{is_some}
 use Rattle.krb_ap.specs.Answer.{taken_of}
 use Rattle.krb_context.specs.Context.{State}

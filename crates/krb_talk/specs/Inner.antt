@@ -10,9 +10,10 @@ use Rattle.krb_gss.specs.declared.negotiating.Negotiation.{Negotiation}
 use Rattle.krb_gss.specs.declared.negotiating.Negotiation.TheVariants.{Ended}
 use Rattle.krb_gss.specs.ListMic.{WritesRequestMic}
 use Rattle.krb_login.specs.declared.decision.Decision.{Decision as LoginDecision}
+use Rattle.krb_login.specs.declared.decision.Decision.TheVariants as decisions
 use Rattle.krb_talk.specs.Checking.{Check, Checks}
 use Rattle.krb_talk.specs.States.{Listing}
-use Rattle.krb_talk.specs.Talk.{IsUnshown, as_decided}
+use Rattle.krb_talk.specs.Talk.{IsUnshown, Leads, as_decided}
 use Rattle.krb_talk.specs.declared.checking.Checking.{Checking}
 use Rattle.krb_talk.specs.declared.checking.Checking.TheVariants.{Shown, Waits}
 use Rattle.krb_talk.specs.declared.checking.ListFault.{ListFault}
@@ -54,6 +55,11 @@ checking_by list accepted made false = Ok (Waits (record { accepted = accepted; 
 abbrev pub checking_of : List ℕ → Accepted → Result Prepared ListFault → Result Checking ListFault
 checking_of list accepted (Ok made) = checking_by list accepted made made.is_shown
 checking_of list accepted (Err fault) = Err fault
+
+-- what follows of a service's decision on the message after a list, and of what was prepared if that lets the client in
+abbrev pub LeadsBy : Listing → Result Prepared ListFault → LoginDecision → Decision → Stage → Type 0
+LeadsBy listing made (decisions.LetIn login) decision new = Leads (checking_of listing.list login.accepted made) decision new
+LeadsBy listing made decided decision new = (decision ≡ as_decided decided) × (new ≡ Login Ended)
 
 abbrev pub Prepares : Check → Result Prepared ListFault → Type 0
 Prepares check made = Checks check (checking_of check.list check.accepted made)

@@ -7,7 +7,7 @@ ghost use Rattle.krb_ap.specs.Setup.{Arrival};
 ghost use Rattle.krb_ap.specs.declared.reply.ReplyOptions.{ReplyOptions as ReplyOptionsValue};
 ghost use Rattle.krb_context.specs.declared.agreed.Options.{Options as OptionsValue};
 ghost use Rattle.krb_login.specs.declared.decision.Decision.{Decision as LoginDecisionValue};
-ghost use Rattle.krb_talk.specs.Inner.{AsksFor, Passes, checking_of};
+ghost use Rattle.krb_talk.specs.Inner.{AsksFor, LeadsBy, Passes};
 ghost use Rattle.krb_talk.specs.Pending.{Finishes};
 ghost use Rattle.krb_talk.specs.Serving.{Serves};
 ghost use Rattle.krb_talk.specs.States.{Listing, Pending as PendingValue};
@@ -26,7 +26,7 @@ use crate::stage::Stage;
 use krb_ap::ReplyOptions;
 use krb_context::Options;
 use krb_gss::{Negotiation, TokenFault, Verdict, wrap_verdict};
-use krb_login::{Decision as LoginDecision, Given, LetIn, Service, Unsent};
+use krb_login::{Decision as LoginDecision, Given, Service, Unsent};
 use krb_replay::ReplayMemory;
 use std::alloc::Global;
 use std::marker::Model;
@@ -381,6 +381,7 @@ fn serve<M: ReplayMemory>(
     service.answer(alloc, negotiation, given)
 }
 
+#[inline(never)]
 fn as_decided(decided: LoginDecision) -> Decision
     ensures { result ≡ as_decided decided }
 {
@@ -440,13 +441,13 @@ fn conclude(
     ensures { ConcludesBy listed bytes.now chosen.entry.confounder.now chosen.entry.choice.now chosen.entry.options decided result stage.new }
 {
     end_login(stage);
-    match decided {
+    match &decided {
         LoginDecision::LetIn(login) => {
             let made = listed.mark(alloc, bytes, &login.accepted, chosen);
-            lead(alloc, stage, listed, login, made)
+            lead(alloc, stage, listed, decided, made)
         }
-        LoginDecision::GoOn(bytes) => Decision::GoOn(bytes),
-        LoginDecision::Refused(refused) => Decision::Refused(refused),
+        LoginDecision::GoOn(_) => as_decided(decided),
+        LoginDecision::Refused(_) => as_decided(decided),
     }
 }
 
@@ -464,12 +465,17 @@ fn lead(
     alloc: Global,
     stage: &mut Stage,
     listed: Listed,
-    login: LetIn,
+    decided: LoginDecision,
     made: Result<Prepared, ListFault>,
 ) -> Decision
-    ensures { Leads (checking_of listed.list login.accepted made) result stage.new }
+    ensures { LeadsBy listed made decided result stage.new }
 {
     *stage = Stage::Login(Negotiation::Ended);
+    let login = match decided {
+        LoginDecision::LetIn(login) => login,
+        LoginDecision::GoOn(bytes) => return Decision::GoOn(bytes),
+        LoginDecision::Refused(refused) => return Decision::Refused(refused),
+    };
     match listed.checking(login.accepted, made) {
         Ok(Checking::Shown(login)) => Decision::Shown(login),
         Ok(Checking::Waits(pending, sent)) => {

@@ -1,5 +1,5 @@
 -- mark
-use Rattle.std.proofs.Common.{◌≡◌, ◌∙◌, ℕ, List, Bool, ap, subst, sym}
+use Rattle.std.proofs.Common.{◌∙◌, ℕ, List, Bool, ap, subst, sym}
 use Rattle.krb_ap.specs.Answer.{taken_of}
 use Rattle.krb_context.specs.Context.{State}
 use Rattle.krb_gss.specs.Checksum.{bytes_if}
