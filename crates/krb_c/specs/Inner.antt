@@ -5,9 +5,13 @@ use Rattle.krb_login.specs.declared.store.StoreSays.{StoreSays}
 use Rattle.krb_ap.specs.declared.reply.ReplyOptions.{ReplyOptions}
 use Rattle.krb_c.specs.Answer.{plain}
 use Rattle.krb_c.specs.Codes.{not_waiting, out_of_memory}
-use Rattle.krb_c.specs.Login.{IsDrawn, IsNotDrawn, Judges, TellsProgress, talk_of}
+use Rattle.krb_c.specs.Login.{IsDrawn, IsKept, IsNotDrawn, IsTaken, Judges, TellsProgress, talk_of}
 use Rattle.krb_c.specs.Store.{IsSettled, Waits}
+use Rattle.krb_talk.specs.Talks.{Talk}
+use Rattle.krb_talk.specs.declared.decision.Decision.{Decision}
+use Rattle.krb_talk.specs.declared.talk.Turn.TheVariants as turns
 use Rattle.krb_c.specs.declared.accepted_state.AcceptedState.{AcceptedState}
+use Rattle.krb_c.specs.declared.login_state.Awaited.{Awaited}
 use Rattle.krb_c.specs.declared.login_state.LoginState.{LoginState}
 use Rattle.krb_c.specs.declared.login_state.Progress.TheVariants.{Waiting}
 use Rattle.krb_c.specs.declared.question.Question.{Question}
@@ -18,6 +22,21 @@ use Rattle.krb_c.specs.declared.structs.Answer.{Answer}
 abbrev pub IsCopyIf : Bool → List ℕ → Option (Vec ℕ Global) → Type 0
 IsCopyIf false bytes copy = copy ≡ None
 IsCopyIf true bytes copy = IsSomeAnd copy (λ it. it.items ≡ bytes)
+
+-- a message is decided on without the service
+pub record IsSettledAlone (bytes : List ℕ) (before : Talk) (after : LoginState) (kept : AcceptedState) : Type 0 where
+  pub decision : Decision
+  pub taken : IsTaken bytes before (turns.Decided decision) after.talk
+  pub is_kept : IsKept false decision after kept
+
+-- what a login waits with, but for how far it is
+abbrev pub awaited_of : Question → Awaited
+awaited_of question = record {
+  asking = question.asking;
+  drawn = record { confounder = question.confounder; choice = question.choice };
+  message = question.message;
+  negotiation = question.negotiation;
+}
 
 -- a service decides at a moment, or memory or random bytes are lacking
 pub data AnswersMoment (state next : ServiceState) (before after : Option LoginState) (had kept : Option AcceptedState) (bytes : List ℕ) (now : ℤ)

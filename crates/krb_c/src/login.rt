@@ -133,6 +133,7 @@ fn message_if(alloc: Global, is_shared: bool, bytes: &[u8]) -> Result<Option<Vec
 }
 
 // The confounder and what a reply has, of random bytes.
+#[inline(never)]
 fn drawn(random: &[u8], subkey_type: u32) -> Result<([u8; 16], ReplyOptions), Answer>
     ensures drawn { IfOk result (λ both. IsDrawn subkey_type random.now both.0 both.1) }
     ensures fault { IfErr result (IsNotDrawn subkey_type random.now) }

@@ -1,8 +1,8 @@
 //! What a login's handle holds.
 
 ghost use Rattle.std.specs.Prelude.{IfOk, IsTrue, None, Some, ◌≡◌, ◌↔◌};
-ghost use Rattle.krb_c.specs.Inner.{SettlesAt};
-ghost use Rattle.krb_c.specs.Login.{HandsOutcome, IsAsked, IsConcluded, IsDecided, IsHeld, IsKept, IsServed, IsStepped, StepsTo, TellsAskedIf, TellsOutcome, TellsProgress, asked_in, asked_of, begun_talk, breach_answer, cause_answer, decided_in, kept_of, list_answer, outcome_of, sent, undecided};
+ghost use Rattle.krb_c.specs.Inner.{IsSettledAlone, SettlesAt, awaited_of};
+ghost use Rattle.krb_c.specs.Login.{HandsOutcome, IsAsked, IsConcluded, IsDecided, IsHeld, IsKept, IsServed, IsStepped, IsTaken, StepsTo, TellsAskedIf, TellsOutcome, TellsProgress, asked_in, asked_of, begun_talk, breach_answer, cause_answer, decided_in, kept_of, list_answer, outcome_of, sent, undecided};
 ghost use Rattle.krb_c.specs.Service.{nothing_kept};
 ghost use Rattle.krb_c.specs.Store.{IsSettled, TellsQuestion, Waits};
 ghost use Rattle.krb_c.specs.declared.question.Question.{Question as QuestionValue};
@@ -102,7 +102,6 @@ impl LoginState {
         }
     }
 
-    #[inline(never)]
     fn step(
         &mut self,
         alloc: Global,
@@ -113,16 +112,32 @@ impl LoginState {
     )
         ensures { IsStepped service.old service.new self.old.talk self.new kept.new message.items given.entry.now given.entry.confounder.now given.entry.choice }
     {
-        match self.talk.take(alloc, message.as_slice()) {
-            Turn::Decided(decision) => self.keep(kept, decision, false),
-            Turn::Serve(negotiation) => {
+        match self.take(alloc, kept, message.as_slice()) {
+            None => {}
+            Some(negotiation) => {
                 kept.clear();
                 self.ask(alloc, service, given, negotiation, message);
             }
         }
     }
 
+    // Takes a message, and keeps what is decided on it, or returns the point of the negotiation at which a service is to decide.
+    #[inline(never)]
+    fn take(&mut self, alloc: Global, kept: &mut AcceptedState, bytes: &[u8]) -> Option<Negotiation>
+        ensures { MatchOption result (IsSettledAlone bytes.now self.old.talk self.new kept.new)
+            (λ negotiation. IsTaken bytes.now self.old.talk (Turn.Serve negotiation) self.new.talk) }
+    {
+        match self.talk.take(alloc, bytes) {
+            Turn::Decided(decision) => {
+                self.keep(kept, decision, false);
+                None
+            }
+            Turn::Serve(negotiation) => Some(negotiation),
+        }
+    }
+
     // Asks the service, which lets nobody in before the store is asked.
+    #[inline(never)]
     fn ask(
         &mut self,
         alloc: Global,
@@ -153,6 +168,7 @@ impl LoginState {
     }
 
     // Goes on by what the service said: it is decided, or the login waits for the store.
+    #[inline(never)]
     fn follow(
         &mut self,
         alloc: Global,
@@ -173,6 +189,7 @@ impl LoginState {
     }
 
     // Concludes by what the service decided before a store is asked: what is known of a client is not kept.
+    #[inline(never)]
     fn conclude(
         &mut self,
         alloc: Global,
@@ -194,6 +211,15 @@ impl LoginState {
             next,
             decided,
         );
+        self.keep_outcome(decision, is_full);
+    }
+
+    // Keeps what is answered to a decision, and nothing of the client.
+    #[inline(never)]
+    fn keep_outcome(&mut self, decision: Decision, is_full: bool)
+        ensures talk { self.new.talk ≡ self.old.talk }
+        ensures progress { self.new.progress ≡ Progress.Decided (outcome_of is_full decision) }
+    {
         let (outcome, _) = outcome_of(decision, is_full);
         self.set(Progress::Decided(outcome));
     }
@@ -226,9 +252,9 @@ impl LoginState {
     )
         ensures { IsDecided service.old service.new self.old.talk self.new kept.new given.entry.bytes.now given.entry.now given.entry.confounder.now given.entry.choice }
     {
-        match self.talk.take(alloc, given.bytes) {
-            Turn::Decided(decision) => self.keep(kept, decision, false),
-            Turn::Serve(negotiation) => self.serve(alloc, service, kept, given, negotiation),
+        match self.take(alloc, kept, given.bytes) {
+            None => {}
+            Some(negotiation) => self.serve(alloc, service, kept, given, negotiation),
         }
     }
 
@@ -244,48 +270,42 @@ impl LoginState {
     )
         ensures { IsServed service.old service.new self.old.talk self.new kept.new negotiation given.entry.bytes.now given.entry.now given.entry.confounder.now given.entry.choice }
     {
-        let Given {
-            bytes,
-            now,
-            confounder,
-            choice,
-        } = given;
-        let again = choice_again(&choice);
-        let given = Given {
-            bytes,
-            now,
-            confounder,
-            choice,
+        let bytes = given.bytes;
+        let drawn = Drawn {
+            confounder: *given.confounder,
+            choice: choice_again(&given.choice),
         };
         let full = service.service.acceptor.memory().refused();
         let mut next = negotiation;
         let decided = service.service.answer(alloc, &mut next, given);
         let is_full = service.service.acceptor.memory().refused() != full;
-        let decision = self
-            .talk
-            .conclude(alloc, bytes, confounder, &again, next, decided);
-        self.keep(kept, decision, is_full);
+        self.conclude_kept(alloc, kept, bytes, &drawn, next, decided, is_full);
     }
 
     // Concludes by what a service decided, and keeps that.
+    #[inline(never)]
     fn conclude_kept(
         &mut self,
         alloc: Global,
         kept: &mut AcceptedState,
         message: &[u8],
-        confounder: &[u8; 16],
-        choice: &ReplyOptions,
+        drawn: &Drawn,
         next: Negotiation,
         decided: LoginDecision,
         is_full: bool,
     )
         ensures { (decision : DecisionValue)
-            × (IsConcluded message.now confounder.now choice.now self.old.talk next decided decision self.new.talk
+            × (IsConcluded message.now drawn.now.confounder drawn.now.choice self.old.talk next decided decision self.new.talk
             × IsKept is_full decision self.new kept.new) }
     {
-        let decision = self
-            .talk
-            .conclude(alloc, message, confounder, choice, next, decided);
+        let decision = self.talk.conclude(
+            alloc,
+            message,
+            &drawn.confounder,
+            &drawn.choice,
+            next,
+            decided,
+        );
         self.keep(kept, decision, is_full);
     }
 
@@ -349,22 +369,20 @@ impl LoginState {
         ensures { (question : QuestionValue) → self.old.progress ≡ Progress.Waiting question
             → IsSettled question said now self.new kept.new }
     {
-        match replace(&mut self.progress, Progress::Nothing) {
-            Progress::Waiting(question) => self.settle_by(alloc, kept, question, said, now),
-            _ => {}
+        if let Some(awaited) = self.take_question() {
+            self.settle_by(alloc, kept, awaited, said, now);
         }
     }
 
-    fn settle_by(
-        &mut self,
-        alloc: Global,
-        kept: &mut AcceptedState,
-        question: Question,
-        said: StoreSays,
-        now: Moment,
-    )
-        ensures { IsSettled question said now self.new kept.new }
+    // Takes what the login waits with, and goes on with the login that it keeps.
+    #[inline(never)]
+    fn take_question(&mut self) -> Option<Awaited>
+        ensures { (question : QuestionValue) → self.old.progress ≡ Progress.Waiting question
+            → (result ≡ Some (awaited_of question)) × (self.new.talk ≡ question.talk) }
     {
+        let Progress::Waiting(question) = replace(&mut self.progress, Progress::Nothing) else {
+            return None;
+        };
         let Question {
             asking,
             confounder,
@@ -373,19 +391,37 @@ impl LoginState {
             negotiation,
             talk,
         } = question;
-        let again = choice_again(&choice);
-        let decided = asking.settle(alloc, said, now, &confounder, again);
         self.talk = talk;
-        self.conclude_kept(
-            alloc,
-            kept,
-            message.as_slice(),
-            &confounder,
-            &choice,
+        Some(Awaited {
+            asking,
+            drawn: Drawn { confounder, choice },
+            message,
             negotiation,
-            decided,
-            false,
-        );
+        })
+    }
+
+    #[inline(never)]
+    fn settle_by(
+        &mut self,
+        alloc: Global,
+        kept: &mut AcceptedState,
+        awaited: Awaited,
+        said: StoreSays,
+        now: Moment,
+    )
+        ensures { (question : QuestionValue) → awaited ≡ awaited_of question → self.old.talk ≡ question.talk
+            → IsSettled question said now self.new kept.new }
+    {
+        let Awaited {
+            asking,
+            drawn,
+            message,
+            negotiation,
+        } = awaited;
+        let again = choice_again(&drawn.choice);
+        let decided = asking.settle(alloc, said, now, &drawn.confounder, again);
+        let message = message.as_slice();
+        self.conclude_kept(alloc, kept, message, &drawn, negotiation, decided, false);
     }
 
     /// Discards what was decided, or waited for.
@@ -483,6 +519,15 @@ impl Outcome {
 struct Drawn {
     confounder: [u8; 16],
     choice: ReplyOptions,
+}
+
+// What a login waits with, but for how far it is.
+#[derive(Drop)]
+struct Awaited {
+    asking: Asking,
+    drawn: Drawn,
+    message: Vec<u8>,
+    negotiation: Negotiation,
 }
 
 // A copy of what the service chose for a reply.

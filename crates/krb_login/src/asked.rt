@@ -28,6 +28,7 @@ pub struct Asked {
 ///
 /// # Errors
 /// `AllocError`: the bytes are a request, and there is no memory for the service's name.
+#[inline(never)]
 pub fn asked_by(alloc: Global, bytes: &[u8]) -> Result<Option<Asked>, AllocError>
     ensures asked { IfOk result (λ asked. MatchOption asked (AsksNothing bytes.now) (Asks bytes.now)) }
     ensures memory { OnErr result (AsksSomething bytes.now) }

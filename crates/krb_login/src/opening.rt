@@ -19,6 +19,7 @@ pub(crate) enum Held<'a> {
 }
 
 /// Takes the bytes of a client, at this point of a negotiation.
+#[inline(never)]
 pub(crate) fn open<'a>(
     negotiation: &mut Negotiation,
     bytes: &'a [u8],

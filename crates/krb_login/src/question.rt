@@ -107,6 +107,7 @@ impl Asking {
     /// The client is let in if its stamp is new and `now` isn't later than its time by more than the
     /// skew. It is refused as `Skew` if it is too late, as `Repeat` if the store knows the stamp, and
     /// as `StoreFailed` if the store didn't answer.
+    #[inline(never)]
     pub fn settle(
         self,
         alloc: Global,
@@ -171,6 +172,7 @@ impl Asking {
         now.micros() <= self.tuple.time().micros() + self.skew.micros()
     }
 
+    #[inline(always)]
     fn let_in(self, alloc: Global, confounder: &[u8; 16], choice: ReplyOptions) -> Decision
         ensures { SettlesNew self confounder.now choice result }
     {
@@ -183,6 +185,7 @@ impl Asking {
         }
     }
 
+    #[inline(always)]
     fn refuse(self, alloc: Global, now: Moment, cause: Cause, refusal: &Refusal) -> Refused
         ensures cause { result.cause ≡ cause }
         ensures asked { result.asked ≡ self.asked }

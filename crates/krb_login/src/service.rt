@@ -9,7 +9,7 @@ ghost use Rattle.krb_ap.specs.Answer.{taken_of};
 ghost use Rattle.krb_ap.specs.Opened.{AsksFor as AsksForService, IsOrdinary};
 ghost use Rattle.krb_ap.specs.Service.{HeedsLimits as HeedsLimitsAt, SameMemory, Stands};
 ghost use Rattle.krb_ap.specs.Setup.{Arrival, arrival};
-ghost use Rattle.krb_ap.specs.Taken.{Accept};
+ghost use Rattle.krb_ap.specs.Taken.{Accept, Taken};
 ghost use Rattle.krb_gss.specs.Negotiation.{IsAsking};
 ghost use Rattle.krb_login.specs.Terms.{IsFirstBroken, Meets};
 ghost use Rattle.krb_gss.specs.declared.negotiating.Negotiation.{Negotiation as NegotiationValue};
@@ -33,7 +33,7 @@ use crate::store::Store;
 use crate::terms::Terms;
 use krb_ap::{Accepted, Acceptor, Refusal, ReplyOptions};
 use krb_gss::{Mechanism, Negotiation, TokenFault, Verdict, wrap_verdict};
-use krb_msg::Moment;
+use krb_msg::{Moment, Principal};
 use krb_replay::{ReplayMemory, Skew};
 use std::alloc::Global;
 
@@ -369,13 +369,14 @@ impl<M: ReplayMemory> Service<M> {
             }
         };
         if let Some(breach) = self.terms.breach(&accepted) {
-            return Err(turn_away(alloc, carrier, request, now, accepted, breach));
+            return Err(turn_away(alloc, carrier, request, now, accepted.service, breach));
         }
         Ok(accepted)
     }
 }
 
 // Answers a request that the acceptor refuses for a cause.
+#[inline(never)]
 fn refuse(alloc: Global, carrier: Carrier, request: &[u8], now: Moment, refusal: Refusal) -> Refused
     ensures cause { (call : Call) → HoldsRequest call carrier request.now → call.now ≡ now
         → IsCause call.setup call.history (arrival request.now call.now) refusal → TellsPlaceWithin request.now refusal
@@ -392,26 +393,28 @@ fn is_memory(refusal: &Refusal) -> bool
     matches!(refusal, Refusal::OutOfMemory)
 }
 
-// Answers a request that the acceptor accepts, and that breaks the terms.
+// Answers a request for this service, which the acceptor accepts, and which breaks the terms.
+#[inline(never)]
 fn turn_away(
     alloc: Global,
     carrier: Carrier,
     request: &[u8],
     now: Moment,
-    accepted: Accepted,
+    service: Principal,
     breach: Breach,
 ) -> Refused
     ensures decides { IsOfRequest result.cause }
-    ensures cause { AsksForService request.now accepted.service → (call : Call) → HoldsRequest call carrier request.now → call.now ≡ now
-        → Accept call.setup call.history (arrival request.now call.now) (taken_of accepted)
-        → IsFirstBroken call.terms (taken_of accepted) breach → HasCause call result result.cause }
+    ensures cause { AsksForService request.now service → (call : Call) (taken : Taken) → HoldsRequest call carrier request.now → call.now ≡ now
+        → Accept call.setup call.history (arrival request.now call.now) taken
+        → IsFirstBroken call.terms taken breach → HasCause call result result.cause }
 {
     let cause = Cause::Breached(breach);
-    let asked = asked_of(accepted.service, request);
+    let asked = asked_of(service, request);
     refused_as(alloc, carrier, asked, now, cause, &Refusal::Authorization)
 }
 
 // Answers bytes that aren't taken, at this point of a negotiation.
+#[inline(never)]
 fn not_opened(alloc: Global, negotiation: Negotiation, bytes: &[u8], fault: TokenFault) -> Refused
     ensures cause { result.cause ≡ Cause.Token fault }
     ensures asked { result.asked ≡ None }
@@ -445,6 +448,7 @@ fn not_opened(alloc: Global, negotiation: Negotiation, bytes: &[u8], fault: Toke
 }
 
 // Asks a client for its token.
+#[inline(always)]
 fn go_on(alloc: Global, negotiation: &mut Negotiation, first: Mechanism) -> Decision
     ensures leaves { IsUndecided result }
     ensures negotiation { negotiation.old ≡ Negotiation.Asked first
@@ -482,6 +486,7 @@ fn let_in(
 }
 
 // Holds what is known of an accepted request, to ask the store for its stamp.
+#[inline(never)]
 fn held(alloc: Global, carrier: Carrier, request: &[u8], accepted: Accepted, skew: Skew) -> Step
     ensures ends { (bytes : List ℕ) → LeadsTo bytes result Negotiation.Ended }
     ensures steps { (call : Call) → HoldsRequest call carrier request.now → IsOrdinary request.now → skew ≡ call.setup.skew

@@ -1,5 +1,5 @@
 -- The context of a client whose list is checked, and why there is none.
-use Rattle.std.specs.Prelude.{◌≡◌, ℕ, List, true, false}
+use Rattle.std.specs.Prelude.{◌≡◌, ℕ, List, Option, Some, None, true, false}
 use Rattle.krb_ap.specs.declared.accepted.Accepted.{Accepted}
 use Rattle.krb_ap.specs.declared.reply.ReplyOptions.{ReplyOptions}
 use Rattle.krb_context.specs.Context.{State, IsMicRefusal}
@@ -32,3 +32,12 @@ IsNotAsked accepted choice options OtherKey = HasOtherKey accepted.subkey
 IsNotAsked accepted choice options Missing = (begun : State) × IsContextOf accepted choice options begun × (accepted.mutual ≡ false)
 IsNotAsked accepted choice options OutOfMemory = (begun : State) × IsAskedIn accepted choice options begun
 IsNotAsked accepted choice options _ = ⊥
+
+-- the client's MIC came with its token, or it didn't
+abbrev pub IsContextFor : Accepted → ReplyOptions → Options → List ℕ → Option (List ℕ) → State → Type 0
+IsContextFor accepted choice options list (Some mic) taken = IsShownIn accepted choice options list mic taken
+IsContextFor accepted choice options list None begun = IsAskedIn accepted choice options begun
+
+abbrev pub IsNoContextFor : Accepted → ReplyOptions → Options → List ℕ → Option (List ℕ) → ListFault → Type 0
+IsNoContextFor accepted choice options list (Some mic) fault = IsNotShown accepted choice options list mic fault
+IsNoContextFor accepted choice options list None fault = IsNotAsked accepted choice options fault

@@ -1,7 +1,8 @@
 -- Words of private contracts.
-use Rattle.std.specs.Prelude.{◌≡◌, ℕ, Option, Some, None, Vec, IsSomeAnd}
+use Rattle.std.specs.Prelude.{◌≡◌, ℕ, List, Bool, true, false, Option, Some, None, Result, Ok, Err, Vec, IsSomeAnd}
 use Rattle.std.specs.Option.{MatchOption}
 use Rattle.std.specs.declared.alloc.Global.{Global}
+use Rattle.krb_ap.specs.declared.accepted.Accepted.{Accepted}
 use Rattle.krb_context.specs.Context.{State}
 use Rattle.krb_gss.specs.declared.list_mic.Reply.{Reply}
 use Rattle.krb_gss.specs.declared.mechanism.Mechanism.{Mechanism}
@@ -9,9 +10,15 @@ use Rattle.krb_gss.specs.declared.negotiating.Negotiation.{Negotiation}
 use Rattle.krb_gss.specs.declared.negotiating.Negotiation.TheVariants.{Ended}
 use Rattle.krb_gss.specs.ListMic.{WritesRequestMic}
 use Rattle.krb_login.specs.declared.decision.Decision.{Decision as LoginDecision}
+use Rattle.krb_login.specs.declared.decision.Decision.TheVariants as decisions
+use Rattle.krb_talk.specs.Checking.{Check, Checks}
 use Rattle.krb_talk.specs.States.{Listing}
-use Rattle.krb_talk.specs.Talk.{IsUnshown, as_decided}
+use Rattle.krb_talk.specs.Talk.{IsUnshown, Leads, as_decided}
+use Rattle.krb_talk.specs.declared.checking.Checking.{Checking}
+use Rattle.krb_talk.specs.declared.checking.Checking.TheVariants.{Shown, Waits}
+use Rattle.krb_talk.specs.declared.checking.ListFault.{ListFault}
 use Rattle.krb_talk.specs.declared.checking.ListFault.TheVariants.{OutOfMemory}
+use Rattle.krb_talk.specs.declared.checking.Prepared.{Prepared}
 use Rattle.krb_talk.specs.declared.decision.Decision.{Decision}
 use Rattle.krb_talk.specs.declared.decision.Decision.TheVariants.{GoOn}
 use Rattle.krb_talk.specs.declared.stage.Stage.{Stage}
@@ -39,3 +46,20 @@ pub record HasNext (context : State) : Type 0 where
 abbrev pub IsInToken : Mechanism → Option (Vec ℕ Global) → Option Reply → Type 0
 IsInToken mechanism made reply =
     MatchOption made (reply ≡ None) (λ message. IsSomeAnd reply (λ it. (it.mechanism ≡ mechanism) × (it.message.now ≡ message.items)))
+
+-- what a check leads to, by what was prepared for its client, and whether the client's MIC came
+abbrev pub checking_by : List ℕ → Accepted → Prepared → Bool → Result Checking ListFault
+checking_by list accepted made true = Ok (Shown (record { accepted = accepted; context = made.context; answer = Some made.sent }))
+checking_by list accepted made false = Ok (Waits (record { accepted = accepted; list = list; context = made.context.value }) made.sent)
+
+abbrev pub checking_of : List ℕ → Accepted → Result Prepared ListFault → Result Checking ListFault
+checking_of list accepted (Ok made) = checking_by list accepted made made.is_shown
+checking_of list accepted (Err fault) = Err fault
+
+-- what follows of a service's decision on the message after a list, and of what was prepared if that lets the client in
+abbrev pub LeadsBy : Listing → Result Prepared ListFault → LoginDecision → Decision → Stage → Type 0
+LeadsBy listing made (decisions.LetIn login) decision new = Leads (checking_of listing.list login.accepted made) decision new
+LeadsBy listing made decided decision new = (decision ≡ as_decided decided) × (new ≡ Login Ended)
+
+abbrev pub Prepares : Check → Result Prepared ListFault → Type 0
+Prepares check made = Checks check (checking_of check.list check.accepted made)

@@ -1,7 +1,8 @@
 //! The context of a client whose list is checked. It is made in a stack frame of its own, and kept in a box.
 
 ghost use Rattle.std.specs.Prelude.{◌≡◌, IfErr, IfOk};
-ghost use Rattle.krb_talk.specs.Beginning.{IsAskedIn, IsNotAsked, IsNotShown, IsShownIn};
+ghost use Rattle.krb_gss.specs.Checksum.{bytes_if};
+ghost use Rattle.krb_talk.specs.Beginning.{IsAskedIn, IsContextFor, IsNoContextFor, IsNotAsked, IsNotShown, IsShownIn};
 
 use crate::agreeing::context_of;
 use crate::checking::ListFault;
@@ -10,9 +11,27 @@ use krb_ap::{Accepted, ReplyOptions};
 use krb_context::{Context, Options};
 use std::alloc::Global;
 
-/// Makes the context of a client that has shown its list by a MIC which came with its token.
+/// Makes the context of a client whose MIC came with its token, or didn't.
+pub(crate) fn context_for(
+    alloc: Global,
+    accepted: &Accepted,
+    choice: &ReplyOptions,
+    options: Options,
+    list: &[u8],
+    mic: Option<&[u8]>,
+) -> Result<Box<Context>, ListFault>
+    ensures begun { IfOk result (λ it. IsContextFor accepted.now choice.now options list.now (bytes_if mic.entry) it.value) }
+    ensures fault { IfErr result (IsNoContextFor accepted.now choice.now options list.now (bytes_if mic.entry)) }
+{
+    match mic {
+        Some(mic) => shown_context(alloc, accepted, choice, options, list, mic),
+        None => asked_context(alloc, accepted, choice, options),
+    }
+}
+
+// Makes the context of a client that has shown its list by a MIC which came with its token.
 #[inline(never)]
-pub(crate) fn shown_context(
+fn shown_context(
     alloc: Global,
     accepted: &Accepted,
     choice: &ReplyOptions,
@@ -32,9 +51,9 @@ pub(crate) fn shown_context(
     }
 }
 
-/// Makes the context of a client that is asked for its MIC, if it awaits a reply.
+// Makes the context of a client that is asked for its MIC, if it awaits a reply.
 #[inline(never)]
-pub(crate) fn asked_context(
+fn asked_context(
     alloc: Global,
     accepted: &Accepted,
     choice: &ReplyOptions,

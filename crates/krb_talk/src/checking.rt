@@ -28,6 +28,17 @@ pub enum Checking {
     Waits(Pending, Vec<u8>),
 }
 
+/// What is made for a client whose list is checked, before it is known whether it is let in. There is no `Debug`, so no log shows a key.
+#[derive(Drop)]
+pub(crate) struct Prepared {
+    /// The service's side of the context. It has sent the MIC of the list, and taken the client's, if that came.
+    pub(crate) context: Box<Context>,
+    /// The bytes that go back.
+    pub(crate) sent: Vec<u8>,
+    /// Whether the client's MIC came.
+    pub(crate) is_shown: bool,
+}
+
 /// Why a client whose request is accepted isn't let in.
 #[derive(Clone, Copy, Debug, PartialEq, Eq, Error)]
 pub enum ListFault {

@@ -1,19 +1,20 @@
 //! A client that names another mechanism first, and Kerberos after it.
 
-ghost use Rattle.std.specs.Prelude.{◌≡◌, ◌⊎◌, ℕ, List, IfErr, IfOk, OnErr, Option, Some, Ok, Err, MatchResult};
+ghost use Rattle.std.specs.Prelude.{◌≡◌, ◌⊎◌, ℕ, List, IfErr, IfOk, OnErr, Option};
 ghost use Rattle.std.specs.Option.{MatchOption};
 ghost use Rattle.krb_gss.specs.Listing.{IsListing};
 ghost use Rattle.krb_gss.specs.Later.{IsLaterFault};
 ghost use Rattle.krb_gss.specs.ListMic.{IsMicFault, WritesRequestMic};
 ghost use Rattle.krb_gss.specs.Checksum.{bytes_if};
 ghost use Rattle.krb_talk.specs.Checking.{Checks};
+ghost use Rattle.krb_talk.specs.Inner.{Prepares, checking_of};
 ghost use Rattle.krb_talk.specs.ListMic.{HoldsBoth};
 
-use crate::beginning::{asked_context, shown_context};
-use crate::checking::{Admitted, Checking, ListFault};
-use crate::mic::Replying;
-use crate::pending::{Pending, ask, let_in};
-use krb_ap::ReplyOptions;
+use crate::beginning::context_for;
+use crate::checking::{Admitted, Checking, ListFault, Prepared};
+use crate::mic::{Replying, marked};
+use crate::pending::Pending;
+use krb_ap::{Accepted, ReplyOptions};
 use krb_context::Options;
 use krb_gss::{
     Mechanism, Negotiation, TokenFault, later_mic, open_later, open_listing, wrap_request_mic,
@@ -119,52 +120,83 @@ impl Listed {
           options = chosen.entry.options;
         }) result }
     {
+        let made = self.mark(alloc, bytes, &login.accepted, chosen);
+        self.checking(login.accepted, made)
+    }
+
+    /// Begins the context of an accepted request, in which the client's MIC of the list is taken, if it came, and writes what goes back.
+    /// All that is large stays with the caller.
+    #[inline(never)]
+    pub(crate) fn mark(
+        &self,
+        alloc: Global,
+        bytes: &[u8],
+        accepted: &Accepted,
+        chosen: Chosen<'_>,
+    ) -> Result<Prepared, ListFault>
+        ensures { Prepares (record {
+          list = self.now.list;
+          bytes = bytes.now;
+          accepted = accepted.now;
+          confounder = chosen.entry.confounder.now;
+          choice = chosen.entry.choice.now;
+          options = chosen.entry.options;
+        }) result }
+    {
         let Chosen {
             confounder,
             choice,
             options,
         } = chosen;
-        let accepted = login.accepted;
         let (mechanism, mic) = match held(bytes) {
             Ok(held) => held,
             Err(fault) => return Err(ListFault::Token(fault)),
         };
-        let list = self.list;
+        let list = self.list.as_slice();
+        let mut context = match context_for(alloc, accepted, choice, options, list, mic) {
+            Ok(context) => context,
+            Err(fault) => return Err(fault),
+        };
         let replying = Replying {
             mechanism,
             confounder,
             choice,
         };
-        match mic {
-            Some(mic) => {
-                match shown_context(alloc, &accepted, choice, options, list.as_slice(), mic) {
-                    Ok(context) => shown(let_in(alloc, accepted, list, context, replying)),
-                    Err(fault) => Err(fault),
-                }
-            }
-            None => match asked_context(alloc, &accepted, choice, options) {
-                Ok(context) => waits(ask(alloc, accepted, list, context, replying)),
-                Err(fault) => Err(fault),
-            },
+        let is_shown = mic.is_some();
+        match marked(alloc, &mut context, list, is_shown, accepted, replying) {
+            Ok(sent) => Ok(Prepared {
+                context,
+                sent,
+                is_shown,
+            }),
+            Err(fault) => Err(fault),
         }
     }
-}
 
-fn shown(made: Result<Admitted, ListFault>) -> Result<Checking, ListFault>
-    ensures { MatchResult made (λ login. result ≡ Ok (Checking.Shown login)) (λ fault. result ≡ Err fault) }
-{
-    match made {
-        Ok(login) => Ok(Checking::Shown(login)),
-        Err(fault) => Err(fault),
-    }
-}
-
-fn waits(made: Result<(Pending, Vec<u8>), ListFault>) -> Result<Checking, ListFault>
-    ensures { MatchResult made (λ it. result ≡ Ok (Checking.Waits it.0 it.1)) (λ fault. result ≡ Err fault) }
-{
-    match made {
-        Ok((pending, sent)) => Ok(Checking::Waits(pending, sent)),
-        Err(fault) => Err(fault),
+    /// What the check of the list leads to, by what was prepared for its client.
+    pub(crate) fn checking(
+        self,
+        accepted: Accepted,
+        made: Result<Prepared, ListFault>,
+    ) -> Result<Checking, ListFault>
+        ensures { result ≡ checking_of self.list accepted made }
+    {
+        let Prepared {
+            context,
+            sent,
+            is_shown,
+        } = match made {
+            Ok(prepared) => prepared,
+            Err(fault) => return Err(fault),
+        };
+        if is_shown {
+            return Ok(Checking::Shown(Admitted {
+                accepted,
+                context,
+                answer: Some(sent),
+            }));
+        }
+        Ok(Checking::Waits(Pending::new(accepted, self.list, context), sent))
     }
 }
 

@@ -1,10 +1,13 @@
 //! A client's login, one message after another.
 
 ghost use Rattle.std.specs.Prelude.{◌≡◌, ℕ, List, Err, Ok, Result};
+ghost use Rattle.std.specs.Option.{MatchOption};
 ghost use Rattle.krb_ap.specs.Service.{Stands};
 ghost use Rattle.krb_ap.specs.Setup.{Arrival};
+ghost use Rattle.krb_ap.specs.declared.reply.ReplyOptions.{ReplyOptions as ReplyOptionsValue};
+ghost use Rattle.krb_context.specs.declared.agreed.Options.{Options as OptionsValue};
 ghost use Rattle.krb_login.specs.declared.decision.Decision.{Decision as LoginDecisionValue};
-ghost use Rattle.krb_talk.specs.Inner.{AsksFor, Passes};
+ghost use Rattle.krb_talk.specs.Inner.{AsksFor, LeadsBy, Passes};
 ghost use Rattle.krb_talk.specs.Pending.{Finishes};
 ghost use Rattle.krb_talk.specs.Serving.{Serves};
 ghost use Rattle.krb_talk.specs.States.{Listing, Pending as PendingValue};
@@ -15,7 +18,7 @@ ghost use Rattle.krb_talk.specs.declared.decision.Decision.{Decision as Decision
 ghost use Rattle.krb_gss.specs.declared.negotiating.Negotiation.{Negotiation as NegotiationValue};
 
 use crate::agreeing::choice_again;
-use crate::checking::{Admitted, Checking, ListFault};
+use crate::checking::{Admitted, Checking, ListFault, Prepared};
 use crate::decision::{Decision, Unshown};
 use crate::listed::{Chosen, Listed};
 use crate::pending::Pending;
@@ -202,9 +205,41 @@ fn conclude_at(
 ) -> Decision
     ensures { ConcludesAt stage.old bytes.now chosen.entry.confounder.now chosen.entry.choice.now chosen.entry.options after decided result stage.new }
 {
+    match take_list(stage) {
+        Some(listed) => conclude(alloc, stage, listed, bytes, chosen, decided),
+        None => conclude_other(alloc, stage, after, decided),
+    }
+}
+
+// Takes the list of a client that was asked for its MIC. The login is over then, unless it is concluded.
+#[inline(never)]
+fn take_list(stage: &mut Stage) -> Option<Listed>
+    ensures { MatchOption result ((stage.new ≡ stage.old) × ((listing : Listing) → stage.old ≡ Stage.Listed listing → ⊥))
+        (λ listed. stage.old ≡ Stage.Listed listed) }
+{
+    match mem::replace(stage, Stage::Login(Negotiation::Ended)) {
+        Stage::Listed(listed) => Some(listed),
+        other => {
+            *stage = other;
+            None
+        }
+    }
+}
+
+// Concludes a login that has no list to check.
+#[inline(never)]
+fn conclude_other(
+    alloc: Global,
+    stage: &mut Stage,
+    after: Negotiation,
+    decided: LoginDecision,
+) -> Decision
+    ensures { ((listing : Listing) → stage.old ≡ Stage.Listed listing → ⊥) → (bytes confounder : List ℕ) (choice : ReplyOptionsValue) (options : OptionsValue)
+        → ConcludesAt stage.old bytes confounder choice options after decided result stage.new }
+{
     match mem::replace(stage, Stage::Login(Negotiation::Ended)) {
         Stage::Login(negotiation) => conclude_login(alloc, stage, negotiation, after, decided),
-        Stage::Listed(listed) => conclude(alloc, stage, listed, bytes, chosen, decided),
+        Stage::Listed(_) => unshown(alloc, ListFault::Missing),
         Stage::Waiting(_) => unshown(alloc, ListFault::Missing),
     }
 }
@@ -346,6 +381,7 @@ fn serve<M: ReplayMemory>(
     service.answer(alloc, negotiation, given)
 }
 
+#[inline(never)]
 fn as_decided(decided: LoginDecision) -> Decision
     ensures { result ≡ as_decided decided }
 {
@@ -393,7 +429,7 @@ fn check<M: ReplayMemory>(
     (decision, stage)
 }
 
-// Checks the list of a client that the service would let in.
+// Checks the list of a client that the service would let in. All that is large stays in the frames beside the check.
 fn conclude(
     alloc: Global,
     stage: &mut Stage,
@@ -404,21 +440,43 @@ fn conclude(
 ) -> Decision
     ensures { ConcludesBy listed bytes.now chosen.entry.confounder.now chosen.entry.choice.now chosen.entry.options decided result stage.new }
 {
-    *stage = Stage::Login(Negotiation::Ended);
-    match decided {
+    end_login(stage);
+    match &decided {
         LoginDecision::LetIn(login) => {
-            lead(alloc, stage, listed.check(alloc, bytes, login, chosen))
+            let made = listed.mark(alloc, bytes, &login.accepted, chosen);
+            lead(alloc, stage, listed, decided, made)
         }
-        LoginDecision::GoOn(bytes) => Decision::GoOn(bytes),
-        LoginDecision::Refused(refused) => Decision::Refused(refused),
+        LoginDecision::GoOn(_) => as_decided(decided),
+        LoginDecision::Refused(_) => as_decided(decided),
     }
 }
 
-fn lead(alloc: Global, stage: &mut Stage, made: Result<Checking, ListFault>) -> Decision
-    ensures { Leads made result stage.new }
+// Ends a login. (What it was is freed in a stack frame of its own.)
+#[inline(never)]
+fn end_login(stage: &mut Stage)
+    ensures { stage.new ≡ Stage.Login Negotiation.Ended }
 {
     *stage = Stage::Login(Negotiation::Ended);
-    match made {
+}
+
+// Goes on by what was prepared for a client that the service would let in.
+#[inline(never)]
+fn lead(
+    alloc: Global,
+    stage: &mut Stage,
+    listed: Listed,
+    decided: LoginDecision,
+    made: Result<Prepared, ListFault>,
+) -> Decision
+    ensures { LeadsBy listed made decided result stage.new }
+{
+    *stage = Stage::Login(Negotiation::Ended);
+    let login = match decided {
+        LoginDecision::LetIn(login) => login,
+        LoginDecision::GoOn(bytes) => return Decision::GoOn(bytes),
+        LoginDecision::Refused(refused) => return Decision::Refused(refused),
+    };
+    match listed.checking(login.accepted, made) {
         Ok(Checking::Shown(login)) => Decision::Shown(login),
         Ok(Checking::Waits(pending, sent)) => {
             *stage = Stage::Waiting(pending);

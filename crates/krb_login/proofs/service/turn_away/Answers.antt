@@ -1,5 +1,4 @@
 use Rattle.std.proofs.Common.{ℤ, sym, subst}
-use Rattle.krb_ap.specs.Answer.{taken_of}
 use Rattle.krb_ap.specs.declared.refusal.Refusal.TheVariants.{Authorization}
 use Rattle.krb_login.specs.Login.{HasCause, IsRefusedSo}
 use Rattle.krb_login.specs.declared.cause.Cause.{Cause}
@@ -7,14 +6,14 @@ use Rattle.krb_login.proofs.LoginLaws.{is_some_asked, not_none}
 use Rattle.krb_login.proofs.service.turn_away.Goals as goal
 
 pub returns-clause-cause : goal.returns-clause-cause
-returns-clause-cause c for_service call holds at accept first =
+returns-clause-cause c for_service call taken holds at accept first =
     let asked = c.asked_of-asked.ensures for_service in
     subst (λ (cause : Cause). HasCause call c.refused_as.result cause) (sym c.refused_as.ensures.cause) (
       c.args.carrier,
       (
         c.args.request.now,
         (
-          taken_of c.args.accepted,
+          taken,
           (
             holds,
             (

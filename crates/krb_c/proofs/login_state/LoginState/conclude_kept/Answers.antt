@@ -1,3 +1,4 @@
+-- conclude_kept
 use Rattle.std.proofs.Common.{refl}
 use Rattle.krb_c.proofs.Logins.{concluded}
 use Rattle.krb_c.proofs.login_state.LoginState.conclude_kept.Goals as goal

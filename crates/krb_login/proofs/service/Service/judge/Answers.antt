@@ -1,5 +1,5 @@
 use Rattle.std.proofs.Common.{◌≡◌, ◌∷◌, List, Err, ap, refl, sym, subst}
-use Rattle.krb_ap.specs.Answer.{after_refusal}
+use Rattle.krb_ap.specs.Answer.{after_refusal, taken_of}
 use Rattle.krb_ap.specs.History.{IsShownLately}
 use Rattle.krb_ap.specs.Service.{Stands}
 use Rattle.krb_replay.specs.Memory.{SameStamps}
@@ -34,7 +34,7 @@ returns-in-Err-clause-goes_on g c history stands negotiation bytes confounder ch
 
 pub returns-in-Some-clause-refused : goal.returns-in-Some-clause-refused
 returns-in-Some-clause-refused g c history stands negotiation bytes confounder choice carries =
-    c.turn_away.ensures.cause c.in-Ok.ensures.service (call_for c.args.self.now.terms c.args.self.now.acceptor.setup history negotiation bytes c.args.now confounder choice) carries refl
+    c.turn_away.ensures.cause c.in-Ok.ensures.service (call_for c.args.self.now.terms c.args.self.now.acceptor.setup history negotiation bytes c.args.now confounder choice) (taken_of c.in-Ok.accepted) carries refl
     (c.in-Ok.ensures.answer history stands) c.in-Some.ensures
 
 pub returns-in-Some-clause-goes_on : goal.returns-in-Some-clause-goes_on
