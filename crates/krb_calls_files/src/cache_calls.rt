@@ -150,9 +150,6 @@ fn name_shown(alloc: Global, name: &Principal) -> Option<String> {
 fn read(alloc: Global, source: &str, file: &str) -> Option<String> {
     let bytes = bytes_of(alloc, file)?;
     let mut source = source_of(source, &bytes)?;
-    if source.failures() == u64::MAX {
-        return None;
-    }
     let list = listed(alloc, &CCache::read(alloc, &mut source))?;
     let told = source_told(alloc, &source)?;
     format!(in alloc; "{list} {told}").ok()

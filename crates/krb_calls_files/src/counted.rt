@@ -73,7 +73,7 @@ impl Source for Counted<'_> {
                 Ok(count)
             }
             Err(SourceFailed) => {
-                self.failures += 1;
+                self.failures = self.failures.saturating_add(1);
                 Err(SourceFailed)
             }
         }
@@ -85,19 +85,10 @@ fn read_inner(inner: &mut Inner<'_>, buffer: &mut [u8]) -> Result<usize, SourceF
 {
     match inner {
         Inner::Slice(source) => source.read(buffer),
-        Inner::Reader(source) => read_some(source, buffer),
-        Inner::Pieces(source) => read_some(source, buffer),
-        Inner::Flaky(source) => read_some(source, buffer),
+        Inner::Reader(source) => source.read(buffer),
+        Inner::Pieces(source) => source.read(buffer),
+        Inner::Flaky(source) => source.read(buffer),
     }
-}
-
-fn read_some<S: Source>(source: &mut S, buffer: &mut [u8]) -> Result<usize, SourceFailed>
-    ensures { ReadsAtMost result buffer.new }
-{
-    if source.failures() == u64::MAX {
-        return Err(SourceFailed);
-    }
-    source.read(buffer)
 }
 
 /// Makes the source that a word says: `slice`, `reader`, `flaky:START`, `piece:N` or `piece:N:K`.
@@ -138,7 +129,7 @@ pub(crate) fn left(source: &mut Counted<'_>) -> Option<u64> {
     let mut buffer = [0u8; 4_096];
     let mut count = 0u64;
     for _ in 0..u64::MAX {
-        match read_some(source, &mut buffer) {
+        match source.read(&mut buffer) {
             Ok(0) => return Some(count),
             Ok(came) => count = count.saturating_add(came as u64),
             Err(SourceFailed) => {}

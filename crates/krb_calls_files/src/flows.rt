@@ -80,9 +80,6 @@ impl Talk for Counted<'_> {
 }
 
 fn read_call(alloc: Global, source: &mut Counted<'_>, count: u16) -> Option<String> {
-    if source.failures() == u64::MAX {
-        return None;
-    }
     let mut buffer = vec![in alloc; 0u8; usize::from(count)].ok()?;
     match source.read(&mut buffer) {
         Ok(came) => shown(alloc, buffer.get(..came)?),
@@ -113,9 +110,7 @@ impl Talk for Window<Counted<'_>> {
 fn counted_call(alloc: Global, window: &mut Window<Counted<'_>>, line: &str) -> Option<String> {
     let (call, digits) = line.split_once(' ')?;
     let count = digits.parse::<u32>().ok()? as usize;
-    if window.source().failures() == u64::MAX || window.given().checked_add(count).is_none() {
-        return None;
-    }
+    window.given().checked_add(count)?;
     match call {
         "fill" => filled(alloc, window.fill(count)),
         "skip" => skipped(alloc, window.skip(count)),

@@ -62,9 +62,6 @@ fn joined(alloc: Global, entries: &[Entry]) -> Option<String> {
 fn read(alloc: Global, source: &str, file: &str) -> Option<String> {
     let bytes = bytes_of(alloc, file)?;
     let mut source = source_of(source, &bytes)?;
-    if source.failures() == u64::MAX {
-        return None;
-    }
     let list = listed(alloc, &Keytab::read(alloc, &mut source))?;
     let told = source_told(alloc, &source)?;
     format!(in alloc; "{list} {told}").ok()

@@ -53,9 +53,6 @@ fn opened(rt: &HostRuntime, lines: &mut Lines<'_>, what: Over, source: Counted<'
 }
 
 fn credentials(rt: &HostRuntime, lines: &mut Lines<'_>, source: Counted<'_>) -> Option<()> {
-    if source.failures() == u64::MAX {
-        return tell(rt, "bad line");
-    }
     match CredentialReader::open(rt.alloc(), source) {
         Ok(reader) => open(rt, lines, reader),
         Err(back) => {
@@ -72,9 +69,6 @@ fn refused(alloc: Global, source: Counted<'_>, fault: CacheFault) -> Option<Stri
 
 impl Talk for EntryReader<Counted<'_>> {
     fn call(&mut self, alloc: Global, line: &str) -> Option<String> {
-        if self.source().failures() == u64::MAX {
-            return None;
-        }
         match line {
             "next" => next_entry(alloc, &self.next(alloc)),
             "pass" => passed_entry(alloc, self.pass()),
@@ -115,9 +109,6 @@ fn passed_entry(alloc: Global, answer: Result<bool, KeytabFault>) -> Option<Stri
 
 impl Talk for CredentialReader<Counted<'_>> {
     fn call(&mut self, alloc: Global, line: &str) -> Option<String> {
-        if self.source().failures() == u64::MAX {
-            return None;
-        }
         match line {
             "next" => next_credential(alloc, &self.next(alloc)),
             "pass" => passed_credential(alloc, self.pass()),

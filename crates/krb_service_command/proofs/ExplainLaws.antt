@@ -1,7 +1,8 @@
 -- What `explain` makes of a text that was read, or why it makes nothing.
-use Rattle.std.proofs.Common.{◌≡◌, ◌≢◌, ◌≤◌, ◌+◌, ◌∙◌, ℕ, List, length, Option, Some, Result, Ok, Err, refl, sym, subst, arith}
+use Rattle.std.proofs.Common.{◌≡◌, ◌≢◌, ◌≤◌, ◌∙◌, ℕ, List, length, Option, Some, Result, Ok, Err, refl, sym, subst, arith}
 use Rattle.std.specs.Prelude.{⊤, IfSome}
 use Rattle.krb_name.specs.File.{TakesFile, file_limit}
+use Rattle.krb_name.specs.Flow.{counted}
 use Rattle.krb_explain.specs.Input.{read_of}
 use Rattle.krb_explain.specs.Explained.{IsExplanation}
 use Rattle.krb_explain.specs.declared.input.InputFault.{InputFault}
@@ -18,7 +19,7 @@ module _ {X : Type 0} (Holds : X → Type 0) (from to : Option (List ℕ)) (befo
   Made result = Makes Holds IsUnexplained (λ _. ⊤) explain_status explain_reads from to before after result
 
   -- the text wasn't read
-  pub unread : (fault : ExplainFault) → IsUnread from fault → after ≡ before + explain_reads fault → TakesFile from to → Made (Err fault)
+  pub unread : (fault : ExplainFault) → IsUnread from fault → after ≡ counted before (explain_reads fault) → TakesFile from to → Made (Err fault)
   unread (Text input) is reads taken =
       lacking Holds IsUnexplained (λ _. ⊤) explain_status explain_reads from to before after (Text input) (rw is refl) tt reads taken
   unread TooLong is reads taken = faulty Holds IsUnexplained (λ _. ⊤) explain_status explain_reads from to before after TooLong is tt reads taken
@@ -26,7 +27,7 @@ module _ {X : Type 0} (Holds : X → Type 0) (from to : Option (List ℕ)) (befo
 
   -- the text spells no bytes
   met : (text : List ℕ) (fault : InputFault) → IfSome from (λ whole. IsWholeText whole text) → read_of text ≡ Err fault
-      → after ≡ before + 0 → TakesFile from to → Made (Err (Text fault))
+      → after ≡ counted before 0 → TakesFile from to → Made (Err (Text fault))
   met text fault whole is reads taken =
       faulty Holds IsUnexplained (λ _. ⊤) explain_status explain_reads from to before after (Text fault)
       (if_some_map {P = λ it. IsWholeText it text} {Q = λ it. IsUnexplained it (Text fault)} from
@@ -34,7 +35,7 @@ module _ {X : Type 0} (Holds : X → Type 0) (from to : Option (List ℕ)) (befo
       tt reads taken
 
   pub unspelled : (text : List ℕ) (fault : InputFault) → IfSome from (λ whole. IsWholeText whole text) → (fault ≢ OutOfMemory → read_of text ≡ Err fault)
-      → after ≡ before + 0 → TakesFile from to → Made (Err (Text fault))
+      → after ≡ counted before 0 → TakesFile from to → Made (Err (Text fault))
   unspelled text NoBytes whole is reads taken = met text NoBytes whole (is (λ e. cc)) reads taken
   unspelled text (Symbol at) whole is reads taken = met text (Symbol at) whole (is (λ e. cc)) reads taken
   unspelled text (End at) whole is reads taken = met text (End at) whole (is (λ e. cc)) reads taken
@@ -56,7 +57,7 @@ none_met from text bytes whole spelled given fault tells is =
 -- it is explained
 pub explained : (from to : Option (List ℕ)) (before after : ℕ) (made text bytes : List ℕ) → IfSome from (λ whole. IsWholeText whole text)
     → read_of text ≡ Ok bytes → IsExplanation bytes made → {X : Type 0} (it : X) (items : X → List ℕ) → items it ≡ made
-    → after ≡ before + 0 → TakesFile from to
+    → after ≡ counted before 0 → TakesFile from to
     → Makes (λ (x : X). IfSome from (λ whole. IsExplainedText whole (items x))) IsUnexplained (λ _. ⊤) explain_status explain_reads from to before after (Ok it)
 explained from to before after made text bytes whole spelled explains it items is reads taken = record {
   made = if_some_map {P = λ whole. IsWholeText whole text} {Q = λ whole. IsExplainedText whole (items it)} from (λ whole w. record {

@@ -1,8 +1,9 @@
 -- What `accept` prints for the lines of its input, and its exit status.
-use Rattle.std.specs.Prelude.{◌≡◌, ◌≢◌, ◌⊎◌, ◌+◌, ◌<◌, ◌≤◌, max, take, ℕ, ℤ, Bool, List, [], ◌∷◌, ◌++◌, Option, Some, None, Result, Ok, Err, All, IsErrOf, codes, length, if◌then◌else◌}
+use Rattle.std.specs.Prelude.{◌≡◌, ◌≢◌, ◌⊎◌, ◌<◌, ◌≤◌, max, take, ℕ, ℤ, Bool, List, [], ◌∷◌, ◌++◌, Option, Some, None, Result, Ok, Err, All, IsErrOf, codes, length, if◌then◌else◌}
 use Rattle.std.specs.List.{flat_map}
 use Rattle.std.specs.Fmt.{decimal, signed_decimal}
 use Rattle.std.specs.Io.KnownBytes.{Appends, Consumes}
+use Rattle.krb_name.specs.Flow.{counted}
 use Rattle.krb_name.specs.Text.{text_of}
 use Rattle.krb_replay.specs.Stamp.{Stamp}
 use Rattle.krb_ap.specs.Setup.{Setup, Arrival, arrival}
@@ -173,7 +174,7 @@ pub record AnswersWhole (options : AnswerOptions) (setup : Setup) (history : Lis
   pub end : List Arrival
   pub input_is : input ≡ came ++ left
   pub unread_is : unread ≡ Some left
-  pub why : (new_failures ≡ old_failures + 1) ⊎ (length came ≡ input_limit)
+  pub why : (new_failures ≡ counted old_failures 1) ⊎ (length came ≡ input_limit)
   pub parts : HasLines came lines rest
   pub become : BecomeInTurn options setup history lines outcomes end
   pub printed : Appends Old New (answer_lines outcomes)

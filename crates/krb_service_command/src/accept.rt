@@ -1,7 +1,8 @@
 //! The engine of `accept`.
 
-ghost use Rattle.std.specs.Prelude.{◌≡◌, ◌≢◌, ◌⊎◌, ◌+◌, ◌-◌, ◌^◌, ◌<◌, ◌≤◌, ◌++◌, ◌∷◌, [], ℕ, List, All, Option, Ok, Err, Some, IfOk, IfErr, OnOk, OnErr, max, length, take, is_ok, if◌then◌else◌};
+ghost use Rattle.std.specs.Prelude.{◌≡◌, ◌≢◌, ◌⊎◌, ◌<◌, ◌≤◌, ◌++◌, ◌∷◌, [], ℕ, List, All, Option, Ok, Err, Some, IfOk, IfErr, OnOk, OnErr, max, length, take, is_ok, if◌then◌else◌};
 ghost use Rattle.std.specs.Io.KnownBytes.{Consumes, IsAtEnd, Keeps};
+ghost use Rattle.krb_name.specs.Flow.{counted};
 ghost use Rattle.krb_name.specs.File.{TakesAtMost};
 ghost use Rattle.krb_ap.specs.Setup.{Setup, Arrival, arrival};
 ghost use Rattle.krb_ap.specs.History.{StandsFor};
@@ -44,7 +45,6 @@ fn read_some<S: Source>(
     piece: &mut [u8],
     most: usize,
 ) -> Result<usize, ServiceFault>
-    requires count { S.failure_count source.old < 2 ^ 64 - 1 }
     requires most { 0 < most }
     requires piece { 0 < length piece.old }
     ensures bound { IfOk result (λ count. (count ≤ most) × (count ≤ length piece.new)) }
@@ -52,7 +52,7 @@ fn read_some<S: Source>(
     ensures end { result ≡ Ok 0 → IsAtEnd (S.remaining source.new) }
     ensures err { OnErr result (Keeps (S.remaining source.old) (S.remaining source.new)) }
     ensures which { IfErr result (λ e. e ≡ ServiceFault.Input) }
-    ensures failed { S.failure_count source.new ≡ S.failure_count source.old + (if is_ok result then 0 else 1) }
+    ensures failed { S.failure_count source.new ≡ counted (S.failure_count source.old) (if is_ok result then 0 else 1) }
 {
     let wanted = most.min(piece.len());
     let count = source.read(&mut piece[..wanted])?;
@@ -119,14 +119,13 @@ impl Session<'_> {
         acceptor: &mut Acceptor<M>,
         sink: &mut K,
     ) -> Result<(), ServiceFault>
-        requires { K.failure_count sink.old < 2 ^ 64 - 1 }
         ensures ok { (history : List Arrival) (line : List ℕ) → Stands M.has M.newest acceptor.old history → Holds self.old.part line
             → OnOk result (Answered M.has M.newest self.old self.new acceptor.old acceptor.new history line (K.taken sink.old) (K.taken sink.new)) }
         ensures err { (history : List Arrival) (line : List ℕ) → Stands M.has M.newest acceptor.old history → Holds self.old.part line
             → OnErr result (Begun M.has M.newest self.old.options acceptor.old acceptor.new history line (K.taken sink.old) (K.taken sink.new)) }
         ensures stays { Stays self.old self.new acceptor.old acceptor.new }
         ensures which { IfErr result (λ e. (e ≡ ServiceFault.Write) ⊎ (e ≡ ServiceFault.OutOfMemory)) }
-        ensures writes { K.failure_count sink.new ≡ K.failure_count sink.old + failed_writes result }
+        ensures writes { K.failure_count sink.new ≡ counted (K.failure_count sink.old) (failed_writes result) }
     {
         let outcome = self.outcome(acceptor)?;
         print_answer(self.alloc, &outcome, sink)?;
@@ -141,7 +140,6 @@ impl Session<'_> {
         bytes: &[u8],
         sink: &mut K,
     ) -> Result<(), ServiceFault>
-        requires writes { K.failure_count sink.old < 2 ^ 64 - 1 }
         requires plain { All (λ byte. byte ≢ 10) bytes.now }
         ensures ok { (start : Start) (came : List ℕ) → Going M.has M.newest start came self.old acceptor.old (K.taken sink.old)
             → OnOk result (Going M.has M.newest start ((came ++ bytes.now) ++ 10 ∷ []) self.new acceptor.new (K.taken sink.new)) }
@@ -149,7 +147,7 @@ impl Session<'_> {
             → OnErr result (Stopped M.has M.newest start ((came ++ bytes.now) ++ 10 ∷ []) acceptor.new (K.taken sink.new)) }
         ensures stays { Stays self.old self.new acceptor.old acceptor.new }
         ensures which { IfErr result (λ e. (e ≡ ServiceFault.Write) ⊎ (e ≡ ServiceFault.OutOfMemory)) }
-        ensures writes { K.failure_count sink.new ≡ K.failure_count sink.old + failed_writes result }
+        ensures writes { K.failure_count sink.new ≡ counted (K.failure_count sink.old) (failed_writes result) }
     {
         self.part.extend(bytes)?;
         self.answer_line(acceptor, sink)?;
@@ -164,14 +162,13 @@ impl Session<'_> {
         piece: &[u8],
         sink: &mut K,
     ) -> Result<(), ServiceFault>
-        requires { K.failure_count sink.old < 2 ^ 64 - 1 }
         ensures ok { (start : Start) (came : List ℕ) → Going M.has M.newest start came self.old acceptor.old (K.taken sink.old)
             → OnOk result (Going M.has M.newest start (came ++ piece.now) self.new acceptor.new (K.taken sink.new)) }
         ensures err { (start : Start) (came : List ℕ) → Going M.has M.newest start came self.old acceptor.old (K.taken sink.old)
             → OnErr result (Stopped M.has M.newest start (came ++ piece.now) acceptor.new (K.taken sink.new)) }
         ensures stays { Stays self.old self.new acceptor.old acceptor.new }
         ensures which { IfErr result (λ e. (e ≡ ServiceFault.Write) ⊎ (e ≡ ServiceFault.OutOfMemory)) }
-        ensures writes { K.failure_count sink.new ≡ K.failure_count sink.old + failed_writes result }
+        ensures writes { K.failure_count sink.new ≡ counted (K.failure_count sink.old) (failed_writes result) }
     {
         let mut left = piece;
         'lines: while let Some((bytes, rest)) = cut_at(LINE_END, left) {
@@ -190,8 +187,6 @@ impl Session<'_> {
         piece: &mut [u8],
         sink: &mut K,
     ) -> Result<(), ServiceFault>
-        requires source { S.failure_count source.old < 2 ^ 64 - 1 }
-        requires sink { K.failure_count sink.old < 2 ^ 64 - 1 }
         requires piece { 0 < length piece.old }
         ensures ok { (start : Start) → Going M.has M.newest start [] self.old acceptor.old (K.taken sink.old)
             → OnOk result (ReachedEnd M.has M.newest start (S.remaining source.old) (S.remaining source.new) self.new acceptor.new (K.taken sink.new)) }
@@ -204,11 +199,11 @@ impl Session<'_> {
         ensures stays { Stays self.old self.new acceptor.old acceptor.new }
         ensures which { IfErr result (λ e. (e ≡ ServiceFault.Input) ⊎ ((e ≡ ServiceFault.Write) ⊎ (e ≡ ServiceFault.OutOfMemory))) }
         ensures failed { result ≡ Err ServiceFault.Input
-            → (S.failure_count source.new ≡ S.failure_count source.old + 1)
+            → (S.failure_count source.new ≡ counted (S.failure_count source.old) 1)
             ⊎ ((S.failure_count source.new ≡ S.failure_count source.old) × Came (S.remaining source.old) (S.remaining source.new) input_limit) }
         ensures reads { (result ≡ Err ServiceFault.Input) ⊎ (S.failure_count source.new ≡ S.failure_count source.old) }
         ensures taken { TakesAtMost (S.remaining source.old) (S.remaining source.new) input_limit }
-        ensures writes { K.failure_count sink.new ≡ K.failure_count sink.old + failed_writes result }
+        ensures writes { K.failure_count sink.new ≡ counted (K.failure_count sink.old) (failed_writes result) }
     {
         let mut came = 0;
         while came < INPUT_LIMIT {
@@ -253,8 +248,6 @@ impl Session<'_> {
 /// - `Input`: a read failed, or 1,099,511,627,776 bytes came. The whole lines of what came were answered.
 /// - `Write`: the sink failed. It took the answers to all lines that were taken but the last, and a beginning of that.
 /// - `OutOfMemory`: there was no room, other than in a call or for a reply or an error. The sink took as much too.
-///
-/// Condition: fewer than 18,446,744,073,709,551,615 reads and writes have failed so far.
 pub fn accept_lines<M: ReplayMemory, S: Source, K: Sink>(
     alloc: Global,
     acceptor: &mut Acceptor<M>,
@@ -262,8 +255,6 @@ pub fn accept_lines<M: ReplayMemory, S: Source, K: Sink>(
     sink: &mut K,
     options: &AnswerOptions<'_>,
 ) -> Result<u8, ServiceFault>
-    requires source { S.failure_count source.old < 2 ^ 64 - 1 }
-    requires sink { K.failure_count sink.old < 2 ^ 64 - 1 }
 
     // For a source whose bytes are known, and each history that the memory stands for.
     ensures answered { (input : List ℕ) (history : List Arrival) → S.remaining source.old ≡ Some input
@@ -285,11 +276,11 @@ pub fn accept_lines<M: ReplayMemory, S: Source, K: Sink>(
     ensures setup { acceptor.new.setup ≡ acceptor.old.setup }
     ensures which { IfErr result (λ e. (e ≡ ServiceFault.Input) ⊎ ((e ≡ ServiceFault.Write) ⊎ (e ≡ ServiceFault.OutOfMemory))) }
     ensures failed { result ≡ Err ServiceFault.Input
-        → (S.failure_count source.new ≡ S.failure_count source.old + 1)
+        → (S.failure_count source.new ≡ counted (S.failure_count source.old) 1)
         ⊎ ((S.failure_count source.new ≡ S.failure_count source.old) × Came (S.remaining source.old) (S.remaining source.new) input_limit) }
     ensures reads { (result ≡ Err ServiceFault.Input) ⊎ (S.failure_count source.new ≡ S.failure_count source.old) }
     ensures taken { TakesAtMost (S.remaining source.old) (S.remaining source.new) input_limit }
-    ensures writes { K.failure_count sink.new ≡ K.failure_count sink.old + failed_writes result }
+    ensures writes { K.failure_count sink.new ≡ counted (K.failure_count sink.old) (failed_writes result) }
 {
     let mut piece = vec![in alloc; 0u8; PIECE]?;
     let mut session = Session {

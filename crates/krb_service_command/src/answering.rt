@@ -1,9 +1,9 @@
 //! What `accept` prints for a line.
 
-ghost use Rattle.std.specs.Prelude.{◌≡◌, ◌⊎◌, ◌+◌, ◌-◌, ◌^◌, ◌<◌, ◌++◌, ◌∷◌, IfOk, IfErr, OnOk, OnErr, codes, string_bytes};
+ghost use Rattle.std.specs.Prelude.{◌≡◌, ◌⊎◌, ◌++◌, ◌∷◌, IfOk, IfErr, OnOk, OnErr, codes, string_bytes};
 ghost use Rattle.std.specs.Fmt.{decimal, signed_decimal};
 ghost use Rattle.std.specs.Io.KnownBytes.{Appends};
-ghost use Rattle.krb_name.specs.Flow.{AppendsBeginning};
+ghost use Rattle.krb_name.specs.Flow.{counted, AppendsBeginning};
 ghost use Rattle.krb_service_command.specs.Answering.{accepted_line, answer_line, call_status, call_text, mutual_text, outcome_status, refused_line};
 ghost use Rattle.krb_service_command.specs.Status.{failed_writes};
 
@@ -33,11 +33,10 @@ pub(crate) fn print_answer<K: Sink>(
     outcome: &LineOutcome,
     sink: &mut K,
 ) -> Result<(), ServiceFault>
-    requires { K.failure_count sink.old < 2 ^ 64 - 1 }
     ensures ok { OnOk result (Appends (K.taken sink.old) (K.taken sink.new) (answer_line outcome.now)) }
     ensures err { OnErr result (AppendsBeginning (K.taken sink.old) (K.taken sink.new) (answer_line outcome.now)) }
     ensures which { IfErr result (λ e. (e ≡ ServiceFault.Write) ⊎ (e ≡ ServiceFault.OutOfMemory)) }
-    ensures writes { K.failure_count sink.new ≡ K.failure_count sink.old + failed_writes result }
+    ensures writes { K.failure_count sink.new ≡ counted (K.failure_count sink.old) (failed_writes result) }
 {
     let line = answer_text(alloc, outcome)?;
     write_all(sink, line.as_bytes())?;

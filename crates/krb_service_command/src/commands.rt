@@ -1,6 +1,6 @@
 //! `accept`, by the words of the command line, which are read before its keytab is opened.
 
-ghost use Rattle.std.specs.Prelude.{◌≡◌, ◌≢◌, ◌⊎◌, ◌-◌, ◌^◌, ◌<◌, Ok, IfErr, IfOk, IfSome, if◌then◌else◌};
+ghost use Rattle.std.specs.Prelude.{◌≡◌, ◌≢◌, ◌⊎◌, Ok, IfErr, IfOk, IfSome, if◌then◌else◌};
 ghost use Rattle.krb_name.specs.Reading.{IsReadAs};
 ghost use Rattle.krb_keytab.specs.Format.{IsFaultOf, IsKeytab};
 ghost use Rattle.krb_call_lines.specs.declared.form.Form.TheVariants.{Message, Token};
@@ -86,7 +86,6 @@ fn read_keytab<S: Source>(
     source: &mut S,
     only: Option<&Principal>,
 ) -> Result<Keytab, KeytabFault>
-    requires { S.failure_count source.old < 2 ^ 64 - 1 }
     ensures served { IfOk result (λ keytab. OfFile IsKeytab (S.remaining source.old) (λ entries. IsServed only.entry entries keytab)) }
     ensures fault { IfErr result (λ e. e ≢ KeytabFault.OutOfMemory → e ≢ KeytabFault.Read
         → IfSome (S.remaining source.old) (λ given. IsFaultOf given e)) }

@@ -1,6 +1,6 @@
 //! `explain`, by the words of the command line.
 
-ghost use Rattle.std.specs.Prelude.{◌≡◌, ◌⊎◌, ◌≤◌, ◌<◌, ◌-◌, ◌^◌, IfErr, IfOk, IfSome};
+ghost use Rattle.std.specs.Prelude.{◌≡◌, ◌⊎◌, ◌≤◌, IfErr, IfOk, IfSome};
 ghost use Rattle.krb_service_command.specs.Explaining.{IsSecond};
 ghost use Rattle.krb_service_command.specs.Words.{IsSkew};
 
@@ -62,7 +62,6 @@ fn explain_source<R: AllocGlobal + Print + Eprint, S: Source + Drop>(
     source: S,
     name: &str,
 ) -> u8
-    requires { S.failure_count source < 2 ^ 64 - 1 }
     ensures { result ≤ 3 }
 {
     let mut source = source;
@@ -166,7 +165,6 @@ fn message_from<R: AllocGlobal + Eprint, S: Source + Drop>(
     source: S,
     name: &str,
 ) -> Result<Vec<u8>, u8>
-    requires { S.failure_count source < 2 ^ 64 - 1 }
     ensures status { IfErr result (λ status. status ≤ 3) }
 {
     let mut source = source;

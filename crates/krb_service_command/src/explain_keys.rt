@@ -1,6 +1,5 @@
 //! What `explain --keytab` makes of a keytab, for bytes that were read before.
 
-ghost use Rattle.std.specs.Prelude.{◌≡◌, ◌-◌, ◌^◌, ◌<◌};
 ghost use Rattle.krb_keytab.specs.Format.{IsFaultOf};
 ghost use Rattle.krb_file_commands.specs.Inner.Reading.{ReadsKeytab};
 ghost use Rattle.krb_file_commands.specs.Status.{keytab_reads};
@@ -47,7 +46,6 @@ fn page_by<S: Source>(
     wanted: &ExplainWithKeys,
     source: &mut S,
 ) -> Result<Vec<u8>, KeytabFault>
-    requires { S.failure_count source.old < 2 ^ 64 - 1 }
     ensures { ReadsKeytab (S.remaining source.old) (S.remaining source.new)
         (S.failure_count source.old) (S.failure_count source.new)
         (λ page entries. IsKeyedPage wanted.now entries page.items) result }

@@ -1,6 +1,7 @@
 //! The text that is given to `explain`.
 
-ghost use Rattle.std.specs.Prelude.{◌≡◌, ◌+◌, ◌-◌, ◌^◌, ◌<◌, [], Ok, IfOk, IfErr, IfSome};
+ghost use Rattle.std.specs.Prelude.{◌≡◌, [], Ok, IfOk, IfErr, IfSome};
+ghost use Rattle.krb_name.specs.Flow.{counted};
 ghost use Rattle.krb_explain.specs.Input.{read_of};
 ghost use Rattle.krb_name.specs.File.{TakesFile};
 ghost use Rattle.krb_file_commands.specs.Engine.{failed_by};
@@ -19,7 +20,6 @@ pub(crate) fn read_message<S: Source>(
     alloc: Global,
     source: &mut S,
 ) -> Result<Vec<u8>, ExplainFault>
-    requires { S.failure_count source.old < 2 ^ 64 - 1 }
     ensures bytes { IfOk result (λ bytes. IfSome (S.remaining source.old) (λ text. read_of text ≡ Ok bytes.items)) }
     ensures taken { TakesFile (S.remaining source.old) (S.remaining source.new) }
 {
@@ -34,11 +34,10 @@ pub(crate) fn read_message<S: Source>(
 /// - `Read`: a read of the source failed.
 /// - `Text(OutOfMemory)`: there is no memory for the text.
 pub(crate) fn read_text<S: Source>(alloc: Global, source: &mut S) -> Result<Vec<u8>, ExplainFault>
-    requires { S.failure_count source.old < 2 ^ 64 - 1 }
     ensures text { IfOk result (λ text. IfSome (S.remaining source.old) (λ whole. IsWholeText whole text.items)) }
     ensures unread { IfErr result (IsUnread (S.remaining source.old)) }
     ensures taken { TakesFile (S.remaining source.old) (S.remaining source.new) }
-    ensures failed { S.failure_count source.new ≡ S.failure_count source.old + failed_by explain_reads result }
+    ensures failed { S.failure_count source.new ≡ counted (S.failure_count source.old) (failed_by explain_reads result) }
 {
     let mut window = Window::new(alloc, source);
     let text = window_text(alloc, &mut window);
@@ -48,13 +47,12 @@ pub(crate) fn read_text<S: Source>(alloc: Global, source: &mut S) -> Result<Vec<
 
 // Reads the text through a window that holds none yet.
 fn window_text<S: Source>(alloc: Global, window: &mut Window<S>) -> Result<Vec<u8>, ExplainFault>
-    requires reads { S.failure_count window.old.source < 2 ^ 64 - 1 }
     requires start { window.old.given ≡ 0 }
     requires empty { window.old.bytes ≡ [] }
     ensures text { IfOk result (λ text. IfSome (S.remaining window.old.source) (λ whole. IsWholeText whole text.items)) }
     ensures unread { IfErr result (IsUnread (S.remaining window.old.source)) }
     ensures taken { TakesFile (S.remaining window.old.source) (S.remaining window.new.source) }
-    ensures failed { S.failure_count window.new.source ≡ S.failure_count window.old.source + failed_by explain_reads result }
+    ensures failed { S.failure_count window.new.source ≡ counted (S.failure_count window.old.source) (failed_by explain_reads result) }
     ensures lent { S.lender window.new.source ≡ S.lender window.old.source }
 {
     if window.fill(FILE_LIMIT + 1)? {

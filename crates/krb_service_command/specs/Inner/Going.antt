@@ -1,6 +1,7 @@
 -- How far `accept` is with its input. A replay memory is read by two words: which stamps it has, and its latest moment.
-use Rattle.std.specs.Prelude.{◌≡◌, ◌⊎◌, ◌+◌, ◌<◌, max, ℕ, ℤ, List, [], ◌∷◌, ◌++◌, Option, length}
+use Rattle.std.specs.Prelude.{◌≡◌, ◌⊎◌, ◌<◌, max, ℕ, ℤ, List, [], ◌∷◌, ◌++◌, Option, length}
 use Rattle.std.specs.Io.KnownBytes.{Appends, Consumes, IsAtEnd}
+use Rattle.krb_name.specs.Flow.{counted}
 use Rattle.krb_replay.specs.Stamp.{Stamp}
 use Rattle.krb_ap.specs.Setup.{Setup, Arrival}
 use Rattle.krb_ap.specs.Service.{Service, Stands}
@@ -101,7 +102,7 @@ pub record ReachedInput {M : Type 0} (has : M → Stamp → Type 0) (newest : M 
     (old_failures new_failures : ℕ) (session : Session) (service : Service M) (taken : Option (List ℕ)) : Type 0 where
   pub count : ℕ
   pub reached : Reached has newest start From To count session service taken
-  pub why : (new_failures ≡ old_failures + 1) ⊎ (count ≡ input_limit)
+  pub why : (new_failures ≡ counted old_failures 1) ⊎ (count ≡ input_limit)
 
 -- until a line could not be answered
 pub record ReachedStop {M : Type 0} (has : M → Stamp → Type 0) (newest : M → Option ℤ) (start : Start) (From To : Option (List ℕ))

@@ -6,7 +6,6 @@ use Rattle.krb_doc_examples.proofs.files.print_versions.Given as goal
 abbrev pub invariant-loop-reader : goal.invariant-loop-reader
 invariant-loop-reader l = record {
   going : last_answer l.reader.stage ≡ None;
-  failures : l.reader.source.failures ≡ 0;
 }
 
 abbrev pub decreases-loop-reader : goal.decreases-loop-reader

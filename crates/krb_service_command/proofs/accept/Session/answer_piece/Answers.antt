@@ -30,7 +30,7 @@ lines-preserved g c =
         going = λ start came going. rw (sym (line_on came gone c.in-Some.bytes.now))
             (c.in_ok-end_line.ensures.ok start (came ++ gone) (c.lines.invariant.1.going start came going));
         stays = stays_on c.lines.invariant.1.stays c.end_line.ensures.stays;
-        counted = search (arith, rules);
+        counted = omega (arith, c.in_ok-end_line.ensures.writes, c.lines.invariant.1.counted);
       },
     )
 

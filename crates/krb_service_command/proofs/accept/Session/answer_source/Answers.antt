@@ -1,5 +1,6 @@
-use Rattle.std.proofs.Common.{rules, arith, ◌+◌, ℕ, take, [], ap, refl, inl, ◌∙◌, Ok}
+use Rattle.std.proofs.Common.{rules, arith, ℕ, take, [], ap, refl, inl, ◌∙◌, Ok}
 use Rattle.std.proofs.KnownBytes.{Consumes-nil, Consumes-kept}
+use Rattle.krb_name.specs.Flow.{counted}
 use Rattle.krb_service_command.proofs.GoingLaws.{came_more, came_takes, reached_kept, reached_more, reached_none, reached_stop, stays_on, length-take-below}
 use Rattle.krb_service_command.proofs.accept.Session.answer_source.Goals as goal
 
@@ -18,7 +19,7 @@ pub returns-in_err-count-clause-input : goal.returns-in_err-count-clause-input
 returns-in_err-count-clause-input g c = λ start going _. record {
   count = c.loop-came.came;
   reached = reached_kept (c.loop-came.invariant.reached start going) c.in_err-count.ensures.err;
-  why = inl (c.in_err-count.ensures.failed ∙ ap (λ (n : ℕ). n + 1) c.loop-came.invariant.reads);
+  why = inl (c.in_err-count.ensures.failed ∙ ap (λ (n : ℕ). counted n 1) c.loop-came.invariant.reads);
 }
 
 pub returns-then-count-eq0-clause-ok : goal.returns-then-count-eq0-clause-ok
@@ -49,8 +50,8 @@ loop-came-preserved g c =
       came = came_more (g.S.Source.remaining c.args.source.now) (g.S.Source.remaining c.loop-came.source) (g.S.Source.remaining c.read_some.new.source)
           c.loop-came.came c.in_ok-count.count piece c.loop-came.invariant.came c.in_ok-count.ensures.bytes counted;
       stays = stays_on c.loop-came.invariant.stays c.answer_piece.ensures.stays;
-      reads = search (arith, rules);
-      writes = search (arith, rules);
+      reads = omega (arith, c.in_ok-count.ensures.failed, c.loop-came.invariant.reads);
+      writes = omega (arith, c.in_ok-answer_piece.ensures.writes, c.loop-came.invariant.writes);
     }
 
 pub returns-in_err-count-clause-taken : goal.returns-in_err-count-clause-taken
