@@ -1,9 +1,9 @@
 //! What a request asks for, as anyone can read it.
 
-ghost use Rattle.std.specs.Prelude.{◌≡◌, IfOk, OnErr, IsSomeAnd};
+ghost use Rattle.std.specs.Prelude.{◌≡◌, ◌↔◌, IfOk, OnErr, IsSomeAnd, IsTrue};
 ghost use Rattle.std.specs.Option.{MatchOption};
 ghost use Rattle.krb_ap.specs.Opened.{AsksFor as AsksForService, service_of};
-ghost use Rattle.krb_ap.specs.Taken.{is_mutual};
+ghost use Rattle.krb_ap.specs.Taken.{IsMutual};
 ghost use Rattle.krb_login.specs.Asked.{Asks, AsksNothing, AsksSomething, IsAsked};
 ghost use Rattle.krb_login.specs.Inner.{Awaits};
 ghost use Rattle.krb_msg.specs.Borrowed.{ap_req_of};
@@ -85,7 +85,7 @@ fn asked_with(service: Principal, request: &ApReqRef) -> Asked
 }
 
 fn is_mutual(request: &ApReqRef) -> bool
-    ensures { result ≡ is_mutual (ap_req_of request.now) }
+    ensures { IsTrue result ↔ IsMutual (ap_req_of request.now) }
 {
     request.options.has(MUTUAL_REQUIRED)
 }
