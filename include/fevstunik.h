@@ -25,7 +25,8 @@
  *    the call is given.
  *  - A bool is 0 or 1. Sizes are at most PTRDIFF_MAX.
  *  - malloc and free belong to one allocator, which aligns memory as C requires.
- *  - A call has 40 KiB of stack.
+ *  - A call has 24 KiB of stack. The library uses at most 20 KiB of it, and malloc and free the
+ *    rest.
  * Never call a function of this library from a signal handler, or in the child of a process that
  * forked while it had several threads.
  *
@@ -1286,8 +1287,9 @@ void fevstunik_acceptor_free(fevstunik_acceptor *handle);
  *    there may be none: then close the connection, so that the client doesn't wait.
  * FEVSTUNIK_OUT_OF_MEMORY leaves what the service remembers as it was, unless memory ran out after
  * the request was accepted: then the request is remembered, and the same one is refused as
- * FEVSTUNIK_REPEAT. In both cases the login takes no other message, unless nothing was decided. In
- * that case fevstunik_login_answer returns FEVSTUNIK_NOTHING_THERE, and the call may be made again.
+ * FEVSTUNIK_REPEAT. In both cases the login takes no other message, unless nothing was decided:
+ * fevstunik_login_answer then returns FEVSTUNIK_NOTHING_THERE, or FEVSTUNIK_EMPTY_HANDLE for a new
+ * login, and the call may be made again.
  *
  * A client whose negotiation names another mechanism first, and Kerberos after it, is asked for its
  * token of Kerberos and for the MIC of its list of mechanisms, which shows that nobody has changed

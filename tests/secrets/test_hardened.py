@@ -106,11 +106,11 @@ DECIDING = {"SERVICE_ANSWER", "LOGIN_SETTLE"}
 
 @pytest.mark.parametrize("cpu", CPUS)
 def test_stack_that_a_call_uses(built, cpu):
-    """The header asks for 40 KiB, which is more than any call uses."""
+    """No call uses more than the 20 KiB that the header says."""
     text = (built[cpu].folder / "depths.h").read_text()
     depths = {name: int(it) for name, it in re.findall(r"^#define DEPTH_OF_(\w+) (\d+)$", text, re.M)}
     assert len(depths) == len(header_functions())
-    assert max(depths[name] for name in DECIDING) <= 28 * 1024
+    assert max(depths[name] for name in DECIDING) <= 20 * 1024
     assert max(depth for name, depth in depths.items() if name not in DECIDING) <= 16 * 1024
 
 

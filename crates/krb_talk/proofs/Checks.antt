@@ -1,17 +1,25 @@
 -- What a check leads to.
-use Rattle.std.proofs.Common.{◌≡◌, ℕ, List, Bool, Option, Some, None, Ok, Bor, ap, refl, subst, sym, ◌∙◌}
+use Rattle.std.proofs.Common.{◌≡◌, ℕ, List, Bool, Option, Some, None, Result, Ok, Bor, ap, refl, subst, sym, ◌∙◌}
 use Rattle.std.specs.Prelude.{is_some}
 use Rattle.krb_ap.specs.Answer.{taken_of}
+use Rattle.krb_ap.specs.declared.reply.ReplyOptions.{ReplyOptions}
 use Rattle.krb_context.specs.Context.{State}
+use Rattle.krb_context.specs.declared.agreed.Options.{Options}
 use Rattle.krb_gss.specs.Checksum.{bytes_if}
 use Rattle.krb_gss.specs.declared.mechanism.Mechanism.{Mechanism}
+use Rattle.krb_login.specs.declared.decision.Decision.{Decision as LoginDecision}
+use Rattle.krb_login.specs.declared.decision.Decision.TheVariants as decisions
 use Rattle.krb_talk.specs.Beginning.{IsContextFor, IsNoContextFor}
 use Rattle.krb_talk.specs.Checking.{Check, Checks, IsCheckFault, MayRunOut, may_ask, may_show}
-use Rattle.krb_talk.specs.Inner.{HasNext, Prepares, checking_by}
+use Rattle.krb_talk.specs.Inner.{HasNext, LeadsBy, Prepares, PreparesBy, checking_by, checking_of}
 use Rattle.krb_talk.specs.ListMic.{HoldsBoth, MarksIn, RepliesIf}
+use Rattle.krb_talk.specs.States.{Listing}
+use Rattle.krb_talk.specs.Talk.{ConcludesBy}
 use Rattle.krb_talk.specs.declared.checking.ListFault.{ListFault}
 use Rattle.krb_talk.specs.declared.checking.ListFault.TheVariants.{Token, OtherKey, Missing, Wrong, OutOfMemory}
 use Rattle.krb_talk.specs.declared.checking.Prepared.{Prepared}
+use Rattle.krb_talk.specs.declared.decision.Decision.{Decision}
+use Rattle.krb_talk.specs.declared.stage.Stage.{Stage}
 
 pub is_there : (mic : Option (Bor (List ℕ))) → is_some mic ≡ is_some (bytes_if mic)
 is_there None = refl
@@ -68,3 +76,12 @@ module _ (check : Check) (mechanism : Mechanism) where
         begun_for = it.begun_for;
         asked_for = record { wants_reply = it.wants_reply; answer = answer; accepted_is = refl; list_is = refl };
       })
+
+-- what follows of a service's decision, by what was prepared
+pub concluded_by : (listing : Listing) (bytes confounder : List ℕ) (choice : ReplyOptions) (options : Options) (decided : LoginDecision)
+    (made : Result Prepared ListFault) (decision : Decision) (new : Stage) → PreparesBy listing bytes confounder choice options decided made
+    → LeadsBy listing made decided decision new → ConcludesBy listing bytes confounder choice options decided decision new
+concluded_by listing bytes confounder choice options (decisions.LetIn login) made decision new prepares leads =
+    (checking_of listing.list login.accepted made, prepares, leads)
+concluded_by listing bytes confounder choice options (decisions.GoOn sent) made decision new prepares leads = leads
+concluded_by listing bytes confounder choice options (decisions.Refused refused) made decision new prepares leads = leads

@@ -3,7 +3,9 @@ use Rattle.std.specs.Prelude.{◌≡◌, ℕ, List, Bool, true, false, Option, S
 use Rattle.std.specs.Option.{MatchOption}
 use Rattle.std.specs.declared.alloc.Global.{Global}
 use Rattle.krb_ap.specs.declared.accepted.Accepted.{Accepted}
+use Rattle.krb_ap.specs.declared.reply.ReplyOptions.{ReplyOptions}
 use Rattle.krb_context.specs.Context.{State}
+use Rattle.krb_context.specs.declared.agreed.Options.{Options}
 use Rattle.krb_gss.specs.declared.list_mic.Reply.{Reply}
 use Rattle.krb_gss.specs.declared.mechanism.Mechanism.{Mechanism}
 use Rattle.krb_gss.specs.declared.negotiating.Negotiation.{Negotiation}
@@ -56,10 +58,22 @@ abbrev pub checking_of : List ℕ → Accepted → Result Prepared ListFault →
 checking_of list accepted (Ok made) = checking_by list accepted made made.is_shown
 checking_of list accepted (Err fault) = Err fault
 
+abbrev pub Prepares : Check → Result Prepared ListFault → Type 0
+Prepares check made = Checks check (checking_of check.list check.accepted made)
+
+-- what is prepared for a client that the service would let in
+abbrev pub PreparesBy : Listing → List ℕ → List ℕ → ReplyOptions → Options → LoginDecision → Result Prepared ListFault → Type 0
+PreparesBy listing bytes confounder choice options (decisions.LetIn login) made = Prepares (record {
+  list = listing.list;
+  bytes = bytes;
+  accepted = login.accepted;
+  confounder = confounder;
+  choice = choice;
+  options = options;
+}) made
+PreparesBy listing bytes confounder choice options decided made = Unit {0}
+
 -- what follows of a service's decision on the message after a list, and of what was prepared if that lets the client in
 abbrev pub LeadsBy : Listing → Result Prepared ListFault → LoginDecision → Decision → Stage → Type 0
 LeadsBy listing made (decisions.LetIn login) decision new = Leads (checking_of listing.list login.accepted made) decision new
 LeadsBy listing made decided decision new = (decision ≡ as_decided decided) × (new ≡ Login Ended)
-
-abbrev pub Prepares : Check → Result Prepared ListFault → Type 0
-Prepares check made = Checks check (checking_of check.list check.accepted made)

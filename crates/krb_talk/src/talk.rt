@@ -7,7 +7,7 @@ ghost use Rattle.krb_ap.specs.Setup.{Arrival};
 ghost use Rattle.krb_ap.specs.declared.reply.ReplyOptions.{ReplyOptions as ReplyOptionsValue};
 ghost use Rattle.krb_context.specs.declared.agreed.Options.{Options as OptionsValue};
 ghost use Rattle.krb_login.specs.declared.decision.Decision.{Decision as LoginDecisionValue};
-ghost use Rattle.krb_talk.specs.Inner.{AsksFor, LeadsBy, Passes};
+ghost use Rattle.krb_talk.specs.Inner.{AsksFor, LeadsBy, Passes, PreparesBy};
 ghost use Rattle.krb_talk.specs.Pending.{Finishes};
 ghost use Rattle.krb_talk.specs.Serving.{Serves};
 ghost use Rattle.krb_talk.specs.States.{Listing, Pending as PendingValue};
@@ -381,7 +381,6 @@ fn serve<M: ReplayMemory>(
     service.answer(alloc, negotiation, given)
 }
 
-#[inline(never)]
 fn as_decided(decided: LoginDecision) -> Decision
     ensures { result ≡ as_decided decided }
 {
@@ -441,13 +440,25 @@ fn conclude(
     ensures { ConcludesBy listed bytes.now chosen.entry.confounder.now chosen.entry.choice.now chosen.entry.options decided result stage.new }
 {
     end_login(stage);
-    match &decided {
-        LoginDecision::LetIn(login) => {
-            let made = listed.mark(alloc, bytes, &login.accepted, chosen);
-            lead(alloc, stage, listed, decided, made)
-        }
-        LoginDecision::GoOn(_) => as_decided(decided),
-        LoginDecision::Refused(_) => as_decided(decided),
+    let made = prepared(alloc, &listed, bytes, chosen, &decided);
+    lead(alloc, stage, listed, decided, made)
+}
+
+// Prepares what a client is answered that the service would let in. For any other one it makes nothing.
+#[inline(never)]
+fn prepared(
+    alloc: Global,
+    listed: &Listed,
+    bytes: &[u8],
+    chosen: Chosen<'_>,
+    decided: &LoginDecision,
+) -> Result<Prepared, ListFault>
+    ensures { PreparesBy listed.now bytes.now chosen.entry.confounder.now chosen.entry.choice.now chosen.entry.options decided.now result }
+{
+    match decided {
+        LoginDecision::LetIn(login) => listed.mark(alloc, bytes, &login.accepted, chosen),
+        LoginDecision::GoOn(_) => Err(ListFault::Missing),
+        LoginDecision::Refused(_) => Err(ListFault::Missing),
     }
 }
 
