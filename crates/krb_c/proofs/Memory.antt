@@ -20,7 +20,7 @@ is_kept : (setup next : Setup) (Has : Stamp → Type 0) (latest : Option ℤ) (h
     → Accept setup history call (taken_of accepted) → next ≡ setup → StandsFor next Has latest (decided_now call ∷ history) → Has (stamp_told accepted)
 is_kept setup next Has latest history call accepted a stays later =
     let is : stamp_told accepted ≡ stamp_of a.request a.part a.auth =
-    ap (λ (t : Taken). stamp_at t.service t.client (micros_of t.ctime t.cusec)) a.taken_is in
+    ap (λ (t : Taken). stamp_at t.service t.client (micros_of t.ctime t.cusec)) a.taken_is.told in
     let stands = subst (λ (s : Setup). StandsFor s Has latest (decided_now call ∷ history)) stays later in
     subst Has (sym is) (stands.all (stamp_of a.request a.part a.auth)
     (inl (record { request = a.request; part = a.part; auth = a.auth; opened = a.opened; near = a.near; stamp_is = refl }))

@@ -87,8 +87,23 @@ impl Derived {
         ensures { result ≡ encryption_of self.now }
     {
         match self {
-            Derived::Short { encryption, .. } => KeySchedule::new_128(encryption),
-            Derived::Long { encryption, .. } => KeySchedule::new_256(encryption),
+            Derived::Short { encryption, .. } => expanded_128(encryption),
+            Derived::Long { encryption, .. } => expanded_256(encryption),
         }
     }
+}
+
+// Each expansion has a stack frame of its own, so a call needs room for one of them.
+#[inline(never)]
+fn expanded_128(key: &[u8; 16]) -> KeySchedule
+    ensures { result ≡ key.now }
+{
+    KeySchedule::new_128(key)
+}
+
+#[inline(never)]
+fn expanded_256(key: &[u8; 32]) -> KeySchedule
+    ensures { result ≡ key.now }
+{
+    KeySchedule::new_256(key)
 }

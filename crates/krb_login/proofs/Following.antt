@@ -46,8 +46,8 @@ by_right call login is =
       message = a.request;
       part = a.part;
       opens = a.opened.authenticated.ticketed;
-      client = ap (λ (t : Taken). t.client) a.taken_is;
-      key = ap (λ (t : Taken). t.session_key) a.taken_is;
+      client = ap (λ (t : Taken). t.client) a.taken_is.told;
+      key = ap (λ (t : Taken). t.session_key) a.taken_is.told;
     }
 
 pub given_by_right : (call : Call) (decision : Decision) (accepted : Accepted) → Decides call decision → Gives decision accepted → IsRightlyIn call accepted

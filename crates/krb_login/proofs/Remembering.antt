@@ -14,13 +14,13 @@ use Rattle.krb_login.specs.Remembering.{IsFromBefore, StartsWith}
 no_later_than : (setup : Setup) (history : List Arrival) (call : Arrival) (taken : Taken) → Accept setup history call taken
     → (taken_stamp taken).time ≤ℤ (effective history call.moment +ℤ pos setup.skew)
 no_later_than setup history call taken a =
-    subst (λ (s : Stamp). s.time ≤ℤ (effective history call.moment +ℤ pos setup.skew)) (sym (ap taken_stamp a.taken_is)) a.near.not_after
+    subst (λ (s : Stamp). s.time ≤ℤ (effective history call.moment +ℤ pos setup.skew)) (sym (ap taken_stamp a.taken_is.told)) a.near.not_after
 
 -- it is later than the start by more than the skew
 past_the_start : (setup : Setup) (history : List Arrival) (call : Arrival) (taken : Taken) → Accept setup history call taken
     → IsPast setup (taken_stamp taken).time
 past_the_start setup history call taken a =
-    subst (λ (s : Stamp). IsPast setup s.time) (sym (ap taken_stamp a.taken_is)) a.settled.sent_is
+    subst (λ (s : Stamp). IsPast setup s.time) (sym (ap taken_stamp a.taken_is.told)) a.settled.sent_is
 
 apart : (from start time moment : ℤ) (own other largest : ℕ) → (from +ℤ pos largest) ≤ℤ (start +ℤ pos own) → (start +ℤ pos own) <ℤ time
     → time ≤ℤ (moment +ℤ pos other) → moment ≤ℤ from → other ≤ largest → ⊥
