@@ -2,8 +2,9 @@
 that the lock of edits (tests/edits_lock.py) can say which of them matter to an edit.
 
 A check comes to an item by one of its names, if the check says it, or another item that matters. (A trait has its
-functions' names, too.) An implementation has no name: it matters if its type does, and its trait, if that is one of
-the repository. What has no name that could be found here matters always.
+functions' names, too, in its own crate. Elsewhere its own name has to be said, since a trait must be in scope for a
+call.) An implementation has no name: it matters if its type does, and its trait, if that is one of the repository; one
+for any type, if its trait does. What has no name that could be found here matters always.
 """
 import re
 from collections import defaultdict
@@ -86,16 +87,17 @@ def type_and_trait(words):
     return ("" if named in parameters else named), implemented
 
 
-def names_of_item(text, traits):
+def names_of_item(text, traits, is_below):
     """The names of an item, if these are the traits of the repository."""
     if found := TRAIT.match(text):
-        return tuple(frozenset({it}) for it in dict.fromkeys([found[1], *METHOD.findall(text)]))
+        functions = [] if is_below else METHOD.findall(text)
+        return tuple(frozenset({it}) for it in dict.fromkeys([found[1], *functions]))
     if found := NAMED.match(text):
         return (frozenset({found[1]}),)
     if found := IMPLEMENTS.match(text):
         named, trait = type_and_trait(found[1])
-        if named:
-            return (frozenset({named} | ({trait} & traits)),)
+        if named or trait in traits:
+            return (frozenset({named} - {""} | ({trait} & traits)),)
     return ()
 
 
@@ -152,7 +154,7 @@ def items_of_source(name, code, imported, traits, is_below):
     for text in shown(texts) if is_below else texts:
         if text:
             used = imported(text)
-            yield Item((name, text, used), words_of(text).union(*map(words_of, used)), names_of_item(text, traits))
+            yield Item((name, text, used), words_of(text).union(*map(words_of, used)), names_of_item(text, traits, is_below))
 
 
 def traits_of(code):

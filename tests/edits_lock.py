@@ -99,7 +99,7 @@ def hash_of(edit, known, version):
     texts = [text for *_, text in [*changed, *proofs]] + [*edit.changed.values(), *owners] + (whole[0] if whole else [])
     imports = [(path, source(f"{crate.folder}/{path}").imported(text)) for path, *_, text in changed]
     heads, items = matters(crate, known, words_said(crate, known, texts).union(words_of(repr(imports))))
-    parts = (crate.name, sorted(crate.deps), heads, items, imports, changed, proofs, whole)
+    parts = (crate.name, heads, items, imports, changed, proofs, whole)
     return sum_of(version, " ".join(read(edit.file).split()), *parts)[:32]
 
 

@@ -305,6 +305,7 @@ pub(crate) struct Hidden { at: usize, }
 impl Model for Shown { ghost Value = { Pair }; ghost view = { λ s. record { at = s.at; rest = s.rest } }; ghost invariant = { λ s. s.at < 4 }; }
 impl Named for Shown { fn name(&self) -> u8 {} }
 impl<T: Named> Other for T { fn other(&self) {} }
+impl<T: Named> Named for &T { fn name(&self) -> u8 {} }
 impl Hidden { const X: u8 = 1; }
 pub trait Named { fn name(&self) -> u8; }
 """
@@ -332,7 +333,8 @@ def check_items(hold):
     traits = edits_items.traits_of(ITEMS)
     items = lambda is_below: {it.text[1]: it for it in edits_items.items_of_source("a.rt", ITEMS, lambda text: (), traits, is_below)}
     every, shown = items(False), items(True)
-    hold("all items", len(every) == 10 and "#![tactic(auto)]" in every)
+    shown_items = list(shown.values())
+    hold("all items", len(every) == 11 and "#![tactic(auto)]" in every)
     hold("a public constant", [it for it in shown if "MOST" in it or "LEAST" in it] == ["pub const MOST: usize = 4;"])
     hold("a private field isn't shown", "#[derive(Drop)] pub struct Shown {pub at: usize}" in shown)
     hold("nor what the type's value is made of", [it for it in shown if " Model " in it] == ["impl Model for Shown { ghost Value = { Pair }; }"])
@@ -341,13 +343,17 @@ def check_items(hold):
     hold("a type's name", names["#[derive(Drop)] pub struct Shown { pub at: usize, rest: Vec<(u8, u8)>, }"] == (frozenset({"Shown"}),))
     hold("a trait of another crate", next(it for text, it in names.items() if " Model " in text) == (frozenset({"Shown"}),))
     hold("a trait", next(it for text, it in names.items() if text.startswith("impl Named")) == (frozenset({"Shown", "Named"}),))
+    hold("a trait for any type", next(it for text, it in names.items() if "Named for &T" in text) == (frozenset({"Named"}),))
     hold("an implementation for any type", next(it for text, it in names.items() if " Other " in text) == ())
     reached = edits_items.Reached(every.values())
     said = lambda *words: {it.text[1].partition(" {")[0] for it in reached.of(words)[0]}
-    always = {"#![tactic(auto)]", "impl<T: Named> Other for T", "pub trait Named"}
+    always = {"#![tactic(auto)]", "impl<T: Named> Other for T", "impl<T: Named> Named for &T", "pub trait Named"}
     hold("what matters always, and what that names", said() == always)
     named = edits_items.Reached([it for it in every.values() if it.names])
-    hold("a trait by its function", [it.text[1].partition(" {")[0] for it in named.of({"name"})[0]] == ["pub trait Named"])
+    functions = {it.text[1].partition(" {")[0] for it in named.of({"name"})[0]}
+    hold("a trait by its function", functions == {"pub trait Named", "impl<T: Named> Named for &T"})
+    elsewhere = edits_items.Reached([it for it in shown_items if it.names])
+    hold("but not that of a crate below", not elsewhere.of({"name"})[0] and len(elsewhere.of({"Named"})[0]) == 2)
     hold("what a name leads to", said("Shown") == always | {"#[derive(Drop)] pub struct Shown", "impl Model for Shown", "impl Named for Shown"})
 
 
