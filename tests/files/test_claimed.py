@@ -14,8 +14,8 @@ from support.checks import slug
 
 STEP = 64 * 1024
 MORE = 512 * 1024
-# If the program starts at all, it starts within this.
-MOST = 256 * 1024 * 1024
+# The program answers small files within this, so none of its calls asks for memory by a number of its own.
+MOST = 16 * 1024 * 1024
 SECONDS = 60
 
 
