@@ -153,8 +153,8 @@ def items_of_source(name, code, imported, traits, is_below):
     texts = [text for it in pieces_of(code) if (text := " ".join(it.split()))]
     for text in shown(texts) if is_below else texts:
         if text:
-            used = imported(text)
-            yield Item((name, text, used), words_of(text).union(*map(words_of, used)), names_of_item(text, traits, is_below))
+            used, names = imported(text), names_of_item(text, traits, is_below)
+            yield Item((name, text, used), words_of(text).union(*map(words_of, used)), names)
 
 
 def traits_of(code):

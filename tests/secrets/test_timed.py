@@ -24,7 +24,8 @@ TABLES = {
     "krb_aes::lanes::decrypt_two_blocks",
     "krb_aes::schedule::KeySchedule::decrypt_block",
     "krb_aes::schedule::KeySchedule::encrypt_block",
-    "krb_enc::derived::Derived::schedule",
+    "krb_enc::derived::expanded_128",
+    "krb_enc::derived::expanded_256",
 }
 STEPS = 62
 
