@@ -1,6 +1,6 @@
 //! The engine of `finish`, and the words that it reads.
 
-ghost use Rattle.std.specs.Prelude.{◌≡◌, ◌≢◌, ℕ, List, Ok, IfOk, IfErr, IfSome, IsErrOf, string_bytes};
+ghost use Rattle.std.specs.Prelude.{◌%◌, length, ◌≡◌, ◌≢◌, ℕ, List, Ok, IfOk, IfErr, IfSome, IsErrOf, string_bytes};
 ghost use Rattle.hex.specs.Hex.{decode_of};
 ghost use Rattle.krb_ccache.specs.Format.{IsCache};
 ghost use Rattle.krb_ap.specs.Request.{HasGoodTicket};
