@@ -4,7 +4,8 @@ that the lock of edits (tests/edits_lock.py) can say which of them matter to an 
 A check comes to an item by one of its names, if the check says it, or another item that matters. (A trait has its
 functions' names, too, in its own crate. Elsewhere its own name has to be said, since a trait must be in scope for a
 call.) An implementation has no name: it matters if its type does, and its trait, if that is one of the repository; one
-for any type, if its trait does. What has no name that could be found here matters always.
+for any type, if its trait does. What shows a value matters only to a check that formats one. What has no name that
+could be found here matters always.
 """
 import re
 from collections import defaultdict
@@ -24,6 +25,12 @@ STRUCT = re.compile(rf"{ATTRIBUTES}(?:pub\s+)?struct\s+(\w+)")
 VALUE = re.compile(r"\bghost\s+(?:view|invariant|inverse)\s*=\s*\{[^{}]*(?:\{[^{}]*\}[^{}]*)*\}\s*;")
 IMPLEMENTS = re.compile(rf"{ATTRIBUTES}(?:unsafe\s+)?impl\b(.*?)(?:\bwhere\b.*)?\{{", re.S)
 INNER = re.compile(r"#!\[[^\[\]]*\]")
+# What shows a value, and the word that is said of a check that may format one.
+SHOWS = ("Debug", "Display")
+FORMATS = "{}"
+FORMATTING = re.compile(
+    r"\b(?:Debug|Display|fmt|\w+_output|to_string|unwrap\w*|expect\w*|(?:format|write|writeln|e?print|e?println|panic|dbg|assert\w*)!)"
+)
 # After a block with one of these an item goes on: it was a clause's.
 GOES_ON = re.compile(r"\s*(?:[;,=.)]|ensures|requires|where)")
 FRONT = re.compile(r"(?:(?:pub|abbrev|unfoldable|opaque|record|data)\s+)*")
@@ -44,6 +51,11 @@ class Item:
 def words_of(text):
     """The words of a text, and the modules of definitions that its paths lead through, as `krb_enc.specs.Key`."""
     return frozenset(WORD.findall(text)).union(*map(modules_of, PATH.findall(text)))
+
+
+def formats(text):
+    """Whether a check of this text may come to what shows a value: by a macro, say, that doesn't name it."""
+    return bool(FORMATTING.search(text))
 
 
 def modules_of(path):
@@ -96,6 +108,8 @@ def names_of_item(text, traits, is_below):
         return (frozenset({found[1]}),)
     if found := IMPLEMENTS.match(text):
         named, trait = type_and_trait(found[1])
+        if named and trait in SHOWS and trait not in traits:
+            return (frozenset({named, FORMATS}),)
         if named or trait in traits:
             return (frozenset({named} - {""} | ({trait} & traits)),)
     return ()

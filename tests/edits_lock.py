@@ -15,7 +15,7 @@ import os
 import subprocess
 from functools import lru_cache
 
-from edits_items import Item, Reached
+from edits_items import FORMATS, Item, Reached, formats
 from edits_stated import OWN_PROOF, files_below, read, source, stated, without_its_comments, words_of
 from source_text import without_comments
 
@@ -64,7 +64,8 @@ def items_below(crate, known):
 def words_said(crate, known, texts):
     """The names that a check of these texts says, and those that macros may write there."""
     of_macros = (stated(known[it].folder).of_macros for it in [crate.name, *crate.below])
-    return frozenset([crate.name]).union(*of_macros, *map(words_of, texts))
+    may_format = [FORMATS] if any(map(formats, texts)) else []
+    return frozenset([crate.name, *may_format]).union(*of_macros, *map(words_of, texts))
 
 
 def functions_named(crate, known, words):

@@ -307,6 +307,7 @@ impl Named for Shown { fn name(&self) -> u8 {} }
 impl<T: Named> Other for T { fn other(&self) {} }
 impl<T: Named> Named for &T { fn name(&self) -> u8 {} }
 impl Hidden { const X: u8 = 1; }
+impl fmt::Debug for Shown { ghost debug_output = { shown }; fn fmt<W: fmt::Write>(&self, f: &mut fmt::Formatter<W>) -> fmt::Result {} }
 pub trait Named { fn name(&self) -> u8; }
 """
 
@@ -334,7 +335,7 @@ def check_items(hold):
     items = lambda is_below: {it.text[1]: it for it in edits_items.items_of_source("a.rt", ITEMS, lambda text: (), traits, is_below)}
     every, shown = items(False), items(True)
     shown_items = list(shown.values())
-    hold("all items", len(every) == 11 and "#![tactic(auto)]" in every)
+    hold("all items", len(every) == 12 and "#![tactic(auto)]" in every)
     hold("a public constant", [it for it in shown if "MOST" in it or "LEAST" in it] == ["pub const MOST: usize = 4;"])
     hold("a private field isn't shown", "#[derive(Drop)] pub struct Shown {pub at: usize}" in shown)
     hold("nor what the type's value is made of", [it for it in shown if " Model " in it] == ["impl Model for Shown { ghost Value = { Pair }; }"])
@@ -354,6 +355,10 @@ def check_items(hold):
     hold("a trait by its function", functions == {"pub trait Named", "impl<T: Named> Named for &T"})
     elsewhere = edits_items.Reached([it for it in shown_items if it.names])
     hold("but not that of a crate below", not elsewhere.of({"name"})[0] and len(elsewhere.of({"Named"})[0]) == 2)
+    is_debug = lambda words: any(it.startswith("impl fmt::Debug for Shown") for it in said(*words))
+    hold("what shows a value, if something is formatted", is_debug({"Shown", edits_items.FORMATS}) and not is_debug({"Shown", "Debug"}))
+    hold("what formats", all(map(edits_items.formats, ["write!(f, \"{x:?}\")", "x.unwrap_err()", "λ x. x.debug_output", "assert_eq!(x, y)"])))
+    hold("what doesn't", not any(map(edits_items.formats, ["x.writer()", "self.information", "#[derive(Clone)]"])))
     hold("what a name leads to", said("Shown") == always | {"#[derive(Drop)] pub struct Shown", "impl Model for Shown", "impl Named for Shown"})
 
 
