@@ -1,12 +1,13 @@
 //! A new keytab for a living service.
 
-ghost use Rattle.std.specs.Prelude.{◌≡◌, List};
+ghost use Rattle.std.specs.Prelude.{◌≡◌, None, List};
 ghost use Rattle.krb_replay.specs.Memory.{SameStamps};
 ghost use Rattle.krb_ap.specs.Setup.{Arrival, as_decided, with_entries};
 ghost use Rattle.krb_ap.specs.History.{IsShown};
 ghost use Rattle.krb_ap.specs.Service.{Stands};
 
 use crate::acceptor::Acceptor;
+use crate::judging::Judge;
 use crate::ticket_keys::TicketKeys;
 use krb_keytab::Keytab;
 use krb_replay::ReplayMemory;
@@ -30,16 +31,18 @@ impl<M: ReplayMemory> Acceptor<M> {
         ensures shown { (history : List Arrival)
             → SameStamps (IsShown self.old.setup history) (IsShown self.new.setup (as_decided self.old.setup history)) }
     {
-        self.put_keytab(keytab)
+        self.judge.replace_keytab(keytab)
     }
+}
 
+impl Judge {
     // What is cached of a service key of the old keytab goes with it.
-    fn put_keytab(&mut self, keytab: Keytab) -> Keytab
-        ensures setup { self.new.setup ≡ with_entries self.old.setup keytab }
-        ensures memory { self.new.memory ≡ self.old.memory }
-        ensures old { result ≡ self.old.setup.entries }
+    fn replace_keytab(&mut self, keytab: Keytab) -> Keytab
+        ensures rules { self.new.rules ≡ with_entries self.old.rules keytab }
+        ensures old { result ≡ self.old.rules.entries }
+        ensures cached { self.new.tickets.cached ≡ None }
     {
-        self.judge.tickets = TicketKeys::new();
-        mem::replace(&mut self.judge.rules.keytab, keytab)
+        self.tickets = TicketKeys::new();
+        mem::replace(&mut self.rules.keytab, keytab)
     }
 }

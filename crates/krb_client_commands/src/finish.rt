@@ -1,6 +1,6 @@
 //! The engine of `finish`, and the words that it reads.
 
-ghost use Rattle.std.specs.Prelude.{◌≡◌, ◌≢◌, ℕ, List, Ok, IfOk, IfErr, IfSome, IsErrOf, string_bytes};
+ghost use Rattle.std.specs.Prelude.{◌%◌, length, ◌≡◌, ◌≢◌, ℕ, List, Ok, IfOk, IfErr, IfSome, IsErrOf, string_bytes};
 ghost use Rattle.hex.specs.Hex.{decode_of};
 ghost use Rattle.krb_ccache.specs.Format.{IsCache};
 ghost use Rattle.krb_ap.specs.Request.{HasGoodTicket};
@@ -30,6 +30,8 @@ const NO_CONFOUNDER: [u8; 16] = [0; 16];
 pub fn read_reply(alloc: Global, text: &str) -> Result<Option<Vec<u8>>, AllocError>
     ensures found { IfOk result (λ reply. IfSome reply (λ bytes. decode_of text.now ≡ Ok bytes.items)) }
     ensures none { result ≡ Ok None → (bytes : List ℕ) → decode_of text.now ≡ Ok bytes → ⊥ }
+    // Out of memory never takes the place of an odd number of digits.
+    ensures odd { length text.now % 2 ≡ 1 → result ≡ Ok None }
 {
     match hex::decode(alloc, text.as_bytes()) {
         Ok(bytes) => Ok(Some(bytes)),

@@ -11,6 +11,7 @@ pub mod PartsFault
 pub mod Reading
 pub mod Writing
 pub mod Clear
+pub mod Shown
 pub mod Numbers
 pub mod Computed
 pub mod Inner

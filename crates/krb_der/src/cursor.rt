@@ -25,6 +25,11 @@ pub struct Cursor<'a> {
 
 // Keys are read by a cursor, so no byte is shown.
 impl fmt::Debug for Cursor<'_> {
+    ghost use Rattle.std.specs.Prelude.{Some};
+    ghost use Rattle.krb_der.specs.Shown.{shown_cursor};
+
+    ghost debug_output = { λ cursor. Some (shown_cursor cursor) };
+
     fn fmt<W: fmt::Write>(&self, f: &mut fmt::Formatter<W>) -> fmt::Result {
         write!(f, "Cursor({} bytes at {})", self.rest.len(), self.at)
     }

@@ -29,6 +29,10 @@ pub struct Last<const TAG: u8, P>(pub P);
 
 // What is in it may be a key, so it isn't shown.
 impl<const TAG: u8, P> fmt::Debug for Last<TAG, P> {
+    ghost use Rattle.std.specs.Prelude.{Some, codes};
+
+    ghost debug_output = { λ _. Some (codes "Last(..)") };
+
     fn fmt<W: fmt::Write>(&self, f: &mut fmt::Formatter<W>) -> fmt::Result {
         f.write_str("Last(..)")
     }

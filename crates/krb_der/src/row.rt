@@ -15,6 +15,10 @@ pub struct Field<const TAG: u8, T>(pub T);
 
 // What is in a field may be a key, so it isn't shown, here and below.
 impl<const TAG: u8, T> fmt::Debug for Field<TAG, T> {
+    ghost use Rattle.std.specs.Prelude.{Some, codes};
+
+    ghost debug_output = { λ _. Some (codes "Field(..)") };
+
     fn fmt<W: fmt::Write>(&self, f: &mut fmt::Formatter<W>) -> fmt::Result {
         f.write_str("Field(..)")
     }
@@ -25,6 +29,10 @@ impl<const TAG: u8, T> fmt::Debug for Field<TAG, T> {
 pub struct Maybe<const TAG: u8, T>(pub Option<T>);
 
 impl<const TAG: u8, T> fmt::Debug for Maybe<TAG, T> {
+    ghost use Rattle.std.specs.Prelude.{Some, codes};
+
+    ghost debug_output = { λ _. Some (codes "Maybe(..)") };
+
     fn fmt<W: fmt::Write>(&self, f: &mut fmt::Formatter<W>) -> fmt::Result {
         f.write_str("Maybe(..)")
     }
@@ -35,6 +43,10 @@ impl<const TAG: u8, T> fmt::Debug for Maybe<TAG, T> {
 pub struct MaybeRef<'a, const TAG: u8, T>(pub &'a Option<T>);
 
 impl<const TAG: u8, T> fmt::Debug for MaybeRef<'_, TAG, T> {
+    ghost use Rattle.std.specs.Prelude.{Some, codes};
+
+    ghost debug_output = { λ _. Some (codes "MaybeRef(..)") };
+
     fn fmt<W: fmt::Write>(&self, f: &mut fmt::Formatter<W>) -> fmt::Result {
         f.write_str("MaybeRef(..)")
     }

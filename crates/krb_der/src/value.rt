@@ -11,6 +11,11 @@ pub struct Octets<'a>(pub &'a [u8]);
 
 // They may be those of a key, so none is shown.
 impl fmt::Debug for Octets<'_> {
+    ghost use Rattle.std.specs.Prelude.{Some};
+    ghost use Rattle.krb_der.specs.Shown.{shown_octets};
+
+    ghost debug_output = { λ octets. Some (shown_octets octets.0.now) };
+
     fn fmt<W: fmt::Write>(&self, f: &mut fmt::Formatter<W>) -> fmt::Result {
         write!(f, "Octets({} bytes)", self.0.len())
     }

@@ -27,6 +27,11 @@ pub struct Writer {
 
 // Keys are written by a writer, so no byte is shown.
 impl fmt::Debug for Writer {
+    ghost use Rattle.std.specs.Prelude.{Some};
+    ghost use Rattle.krb_der.specs.Shown.{shown_writer};
+
+    ghost debug_output = { λ writer. Some (shown_writer writer) };
+
     fn fmt<W: fmt::Write>(&self, f: &mut fmt::Formatter<W>) -> fmt::Result {
         write!(f, "Writer({} bytes)", self.bytes.len())
     }

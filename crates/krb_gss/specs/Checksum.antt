@@ -1,6 +1,7 @@
 -- The checksum of an authenticator, of type 0x8003 (RFC 4121, section 4.1.1): which bytes it is, and what is wrong with others.
-use Rattle.std.specs.Prelude.{◌≡◌, ◌≢◌, ℕ, ℤ, pos, ◌/◌, ◌%◌, ◌^◌, ◌<◌, ◌≤◌, List, ◌++◌, length, take, Option, Some, None}
+use Rattle.std.specs.Prelude.{◌≡◌, ◌≢◌, ℕ, ℤ, pos, ◌/◌, ◌%◌, ◌^◌, ◌<◌, ◌≤◌, List, ◌++◌, length, take, codes, Option, Some, None}
 use Rattle.std.specs.Int.{w16, w32, to_le_bytes}
+use Rattle.std.specs.Fmt.{decimal}
 use Rattle.std.specs.Borrow.{Bor}
 use Rattle.krb_gss.specs.declared.flags.ContextFlag.{ContextFlag}
 use Rattle.krb_gss.specs.declared.flags.ContextFlag.TheVariants.{Delegation, Mutual, Replay, Sequence, Confidentiality, Integrity}
@@ -82,3 +83,7 @@ AgreesWithFlag flags (Some message) = HasFlag flags Delegation
 abbrev pub IsTooLong : Option (List ℕ) → Type 0
 IsTooLong None = ⊥
 IsTooLong (Some message) = 2 ^ 16 ≤ length message
+
+-- what is shown of a printed checksum: its flags alone, since its delegation may be a readable credential
+abbrev pub shown : ℕ → List ℕ
+shown flags = codes "Checksum(flags " ++ (decimal flags ++ codes ")")

@@ -6,13 +6,14 @@ ghost use Rattle.krb_gss.specs.Inner.Checked.{ReadsFront, ReadsMessage, ReadsDel
 
 use crate::{ContextFlag, ContextFlags};
 use std::alloc::{AllocError, Global};
+use std::fmt;
 use thiserror::Error;
 
 /// The type of this checksum.
 pub const CHECKSUM_TYPE: i32 = 0x8003;
 
 /// What a client says in the checksum of its authenticator.
-#[derive(Clone, Copy, Debug, PartialEq, Eq)]
+#[derive(Clone, Copy, PartialEq, Eq)]
 pub struct Checksum<'a> {
     /// What the client asks of the context.
     pub flags: ContextFlags,
@@ -23,6 +24,19 @@ pub struct Checksum<'a> {
     pub delegation: Option<&'a [u8]>,
     /// What is after the other fields. It isn't looked at.
     pub extensions: &'a [u8],
+}
+
+// The delegated credentials may be readable, so no byte is shown.
+impl fmt::Debug for Checksum<'_> {
+    ghost use Rattle.std.specs.Prelude.{Some};
+    ghost use Rattle.krb_gss.specs.Checksum.{shown};
+
+    ghost debug_output = { λ c. Some (shown c.flags.0) };
+
+    fn fmt<W: fmt::Write>(&self, f: &mut fmt::Formatter<W>) -> fmt::Result {
+        let flags = self.flags.0;
+        write!(f, "Checksum(flags {flags})")
+    }
 }
 
 /// Why bytes aren't a checksum.
