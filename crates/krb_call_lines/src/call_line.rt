@@ -10,13 +10,11 @@ ghost use Rattle.krb_call_lines.specs.Inner.Moments.{TellsMoment};
 use crate::cut::cut_at;
 use hex::{FromHex, FromHexError};
 use krb_msg::Moment;
+use krb_time::LATEST_SECOND;
 use std::alloc::{AllocError, Global};
 
 /// How many bytes a line of `accept` may have, its end not counted.
 pub const LINE_LIMIT: usize = 4_194_304;
-
-// The latest second of a moment. The earliest is nearer to 0.
-const LATEST_SECOND: u64 = 253_402_300_799;
 
 const MOST_MICROS: u64 = 999_999;
 
@@ -84,11 +82,11 @@ fn seconds_of(text: &[u8]) -> Option<i64>
 {
     match text.split_first() {
         Some((b'-', digits)) => {
-            let number = number_of(digits, 19, LATEST_SECOND)?;
+            let number = number_of(digits, 19, LATEST_SECOND as u64)?;
             Some(-(number as i64))
         }
         _ => {
-            let number = number_of(text, 19, LATEST_SECOND)?;
+            let number = number_of(text, 19, LATEST_SECOND as u64)?;
             Some(number as i64)
         }
     }

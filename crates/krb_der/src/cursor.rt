@@ -14,7 +14,7 @@ use std::fmt;
 use std::marker::Model;
 
 /// The greatest length of a message, in bytes.
-pub const LIMIT: usize = 1_048_576;
+pub const MESSAGE_LIMIT: usize = 1_048_576;
 
 /// A place in a message: an offset, and the bytes from there to the end of the enclosing element.
 #[derive(Drop)]
@@ -53,7 +53,7 @@ impl<'a> Cursor<'a> {
         ensures start { IfOk result (λ c. c ≡ begin_at bytes.entry.now) }
         ensures too_long { IfErr result (λ f. f ≡ record { kind = FaultKind.TooLong; at = 0 }) }
     {
-        if bytes.len() > LIMIT {
+        if bytes.len() > MESSAGE_LIMIT {
             return Err(Fault {
                 kind: FaultKind::TooLong,
                 at: 0,

@@ -3,7 +3,7 @@
 ghost use Rattle.krb_der.specs.Kind.{Kind, ValueOf, leaf, int32, uint32, seq_number, microseconds, constant, octets, string, flags, time};
 ghost use Rattle.krb_der.specs.Writing.{EncodesValue, IsEncoded};
 
-use crate::cursor::LIMIT;
+use crate::cursor::MESSAGE_LIMIT;
 use crate::{Constant, EncodeFault, Flags, Microseconds, Octets, Seconds, SeqNumber, Text, Writer};
 use std::alloc::Global;
 
@@ -125,7 +125,7 @@ impl Encode for Octets<'_> {
     ghost view = { λ o. o.0.now };
 
     fn write(&self, out: &mut Writer) -> Result<(), EncodeFault> {
-        if self.0.len() > LIMIT {
+        if self.0.len() > MESSAGE_LIMIT {
             return Err(EncodeFault::TooLong);
         }
         let start = out.len();
@@ -140,7 +140,7 @@ impl Encode for Text<'_> {
     ghost view = { λ t. t.0.now };
 
     fn write(&self, out: &mut Writer) -> Result<(), EncodeFault> {
-        if self.0.len() > LIMIT {
+        if self.0.len() > MESSAGE_LIMIT {
             return Err(EncodeFault::TooLong);
         }
         let start = out.len();

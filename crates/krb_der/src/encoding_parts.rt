@@ -6,7 +6,7 @@ ghost use Rattle.krb_der.specs.Spells.{IsElement, IsJoined, IfPresent, limit};
 ghost use Rattle.krb_der.specs.Size.{element_size, size_if};
 ghost use Rattle.krb_der.specs.Writing.{Appends};
 
-use crate::cursor::LIMIT;
+use crate::cursor::MESSAGE_LIMIT;
 use crate::{EncodeFault, Field, Last, Maybe, Octets, Writer};
 use std::alloc::{AllocError, Global};
 
@@ -57,7 +57,7 @@ fn sum_within(first: usize, others: usize) -> Option<usize>
     requires others { others ≤ limit }
     ensures { MatchOption result (limit < first + others) (λ n. (n ≡ first + others) × (n ≤ limit)) }
 {
-    if first + others > LIMIT {
+    if first + others > MESSAGE_LIMIT {
         return None;
     }
     Some(first + others)
@@ -120,7 +120,7 @@ impl EncodeParts for Octets<'_> {
     ghost size = { λ o. length o.0.now };
 
     fn size_within(&self) -> Option<usize> {
-        if self.0.len() > LIMIT {
+        if self.0.len() > MESSAGE_LIMIT {
             return None;
         }
         Some(self.0.len())

@@ -2,6 +2,7 @@
 //! the law.
 
 ghost use Rattle.std.specs.Prelude.{◌≡◌, ℕ, ◌≤◌, ◌++◌, ◌∷◌, ◌⊎◌, ◌↔◌, List, [], length, true};
+ghost use Rattle.krb_der.specs.declared.cursor.TheConstants.{MESSAGE_LIMIT};
 ghost use Rattle.krb_der.specs.declared.fault.Fault.{Fault};
 ghost use Rattle.krb_der.specs.Kind.{Kind, Fields, each, ValueOf, FieldsOf};
 ghost use Rattle.krb_der.specs.Content.{Elementary};
@@ -156,4 +157,9 @@ pub fn parts_found()
 pub fn parts_refused()
     ensures { (ps : Parts) (here : Place) (fault : Fault)
         → parts_at ps here ≡ Err fault → PartsFault ps here fault }
+{}
+
+/// `MESSAGE_LIMIT` is the limit of the definitions.
+pub fn the_limit_is_one()
+    ensures { MESSAGE_LIMIT ≡ limit }
 {}

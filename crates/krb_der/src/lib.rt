@@ -69,7 +69,7 @@ mod value;
 mod whole;
 mod writer;
 
-pub use cursor::Cursor;
+pub use cursor::{Cursor, MESSAGE_LIMIT};
 pub use element::Element;
 pub use encoding::{Encode, encoded};
 pub use encoding_parts::{EncodeParts, encoded_parts};

@@ -8,7 +8,7 @@ ghost use Rattle.krb_der.specs.Inner.Limited.{limited_of, settled};
 ghost use Rattle.krb_der.specs.Inner.HeadView.{IsHeadOf, filled_at, turned_at, without_room};
 ghost use Rattle.krb_der.specs.Writing.{Appends, AppendsElement, Wraps};
 
-use crate::cursor::LIMIT;
+use crate::cursor::MESSAGE_LIMIT;
 use crate::head::head_of;
 use crate::whole::shortest;
 use crate::{EncodeFault, Flags, Microseconds, Seconds, tag};
@@ -147,7 +147,7 @@ impl Writer {
     {
         let limited = match written {
             Err(_) => Err(EncodeFault::OutOfMemory),
-            Ok(()) if self.bytes.len() > LIMIT => Err(EncodeFault::TooLong),
+            Ok(()) if self.bytes.len() > MESSAGE_LIMIT => Err(EncodeFault::TooLong),
             Ok(()) => Ok(()),
         };
         self.settle(start, limited)

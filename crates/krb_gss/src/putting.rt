@@ -7,7 +7,7 @@ ghost use Rattle.krb_gss.specs.Inner.Putting.{of_token, HasToken, held_size};
 
 use crate::Mechanism;
 use crate::mechanism::SPNEGO;
-use krb_der::{EncodeParts, Field, Last, Maybe, Octets, Writer};
+use krb_der::{EncodeParts, Field, Last, MESSAGE_LIMIT, Maybe, Octets, Writer};
 use std::alloc::AllocError;
 
 /// The content of the OBJECT IDENTIFIER that names a mechanism.
@@ -57,7 +57,7 @@ impl EncodeParts for Message<'_> {
 
     fn size_within(&self) -> Option<usize> {
         let size = Octets(self.bytes).size_within()?;
-        if size + 2 > LIMIT {
+        if size + 2 > MESSAGE_LIMIT {
             return None;
         }
         Some(size + 2)
@@ -68,9 +68,6 @@ impl EncodeParts for Message<'_> {
         out.raw(self.bytes)
     }
 }
-
-/// The greatest length of a token, in bytes.
-const LIMIT: usize = 1_048_576;
 
 /// A token of Kerberos.
 #[derive(Clone, Copy)]

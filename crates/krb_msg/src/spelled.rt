@@ -7,12 +7,11 @@ ghost use Rattle.krb_msg.specs.Spelled.{spelled_ap_req_of};
 
 use crate::ticket::{Encrypted, TicketRef};
 use crate::{laws, message_type, tag};
-use krb_der::{Constant, Encode, EncodeFault, Fault, Field, Flags, Writer, write_application};
+use krb_der::{
+    Constant, Encode, EncodeFault, Fault, Field, Flags, MESSAGE_LIMIT, Writer, write_application,
+};
 use std::alloc::Global;
 use std::marker::Model;
-
-// The greatest length of a message.
-const LIMIT: usize = 1_048_576;
 
 /// A `Ticket` (RFC 4120, section 5.3) and the bytes that it was read from. It is written as they
 /// are, without a copy of its parts.
@@ -54,7 +53,7 @@ impl Encode for SpelledTicket<'_> {
 
     fn write(&self, out: &mut Writer) -> Result<(), EncodeFault> {
         krb_der::laws::written();
-        if out.len().saturating_add(self.bytes.len()) > LIMIT {
+        if out.len().saturating_add(self.bytes.len()) > MESSAGE_LIMIT {
             return Err(EncodeFault::TooLong);
         }
         out.raw(self.bytes)?;

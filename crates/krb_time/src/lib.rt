@@ -22,4 +22,4 @@ mod seconds;
 
 pub use microseconds::Microseconds;
 pub use moment::Moment;
-pub use seconds::Seconds;
+pub use seconds::{EARLIEST_SECOND, LATEST_SECOND, Seconds};

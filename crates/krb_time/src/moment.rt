@@ -39,12 +39,7 @@ impl Moment {
     pub fn new(seconds: i64, micros: u32) -> Option<Moment>
         ensures { SomeIff result (IsSeconds seconds × (micros < 1_000_000)) (micros_of seconds micros) }
     {
-        if seconds < -62_167_219_200 || seconds > 253_402_300_799 || micros >= 1_000_000 {
-            return None;
-        }
-        Some(Moment {
-            micros: 1_000_000 * seconds + i64::from(micros),
-        })
+        Some(Moment::at(Seconds::new(seconds)?, Microseconds::new(micros)?))
     }
 
     /// Returns the moment so many microseconds after a message's time, which is a second.

@@ -7,6 +7,12 @@ ghost use Rattle.krb_time.specs.Time.{IsSeconds, IsTime};
 use crate::civil::{civil_at, civil_in, text_of};
 use std::marker::Model;
 
+/// The first second of the year 0000, counted from 1970-01-01T00:00:00Z.
+pub const EARLIEST_SECOND: i64 = -62_167_219_200;
+
+/// The last second of the year 9999, counted from 1970-01-01T00:00:00Z.
+pub const LATEST_SECOND: i64 = 253_402_300_799;
+
 /// A whole second of the years 0000 to 9999, counted from 1970-01-01T00:00:00Z:
 /// -62,167,219,200 to 253,402,300,799. A contract sees it as that number.
 #[derive(Clone, Copy, Debug, PartialEq, Eq, PartialOrd, Ord, Hash)]
@@ -32,7 +38,7 @@ impl Seconds {
     pub fn new(seconds: i64) -> Option<Self>
         ensures { SomeIff result (IsSeconds seconds) seconds }
     {
-        if seconds < -62_167_219_200 || seconds > 253_402_300_799 {
+        if seconds < EARLIEST_SECOND || seconds > LATEST_SECOND {
             return None;
         }
         Some(Seconds { seconds })
