@@ -1,16 +1,14 @@
 use Rattle.std.proofs.Common.{inl, inr, rules}
-use Rattle.std.proofs.lemmas.Result.{err_from_is_err_and}
+use Rattle.krb_name.proofs.Exits.{err_is}
 use Rattle.krb_c.proofs.service_options.service_of.Goals as goal
 
 pub returns-in_err-skew-clause-fault : goal.returns-in_err-skew-clause-fault
 returns-in_err-skew-clause-fault c =
-    let p = err_from_is_err_and c.from_residual.result c.from_residual.ensures.1 in
-    rw (p.1, p.2) (inl c.in_err-skew.ensures.fault)
+    rw (err_is c.from_residual.result c.from_residual.ensures.1) (inl c.in_err-skew.ensures.fault)
 
 pub returns-in_err-keytab-clause-fault : goal.returns-in_err-keytab-clause-fault
 returns-in_err-keytab-clause-fault c =
-    let p = err_from_is_err_and c.from_residual-in_err-keytab.result c.from_residual-in_err-keytab.ensures.1 in
-    rw (p.1, p.2) (inr ((c.in_ok-skew.start, c.in_ok-skew.ensures.valid), inr ((c.in_ok-terms.terms, c.in_ok-terms.ensures.terms), inl c.in_err-keytab.ensures.unusable)))
+    rw (err_is c.from_residual-in_err-keytab.result c.from_residual-in_err-keytab.ensures.1) (inr ((c.in_ok-skew.start, c.in_ok-skew.ensures.valid), inr ((c.in_ok-terms.terms, c.in_ok-terms.ensures.terms), inl c.in_err-keytab.ensures.unusable)))
 
 pub returns-clause-fault : goal.returns-clause-fault
 returns-clause-fault c = let is = c.in_ok-keytab.ensures.served in

@@ -1,6 +1,6 @@
 use Rattle.std.proofs.Common.{ap, arith, length}
 use Rattle.std.proofs.lemmas.List.{length-append}
-use Rattle.std.proofs.lemmas.Result.{err_from_is_err_and}
+use Rattle.krb_name.proofs.Exits.{err_is}
 use Rattle.krb_ccache.specs.Format.{head_bytes, version_of}
 use Rattle.krb_ccache.specs.Spelling.{name_bytes}
 use Rattle.krb_ccache.specs.Types.{BadItem}
@@ -28,8 +28,7 @@ returns-in_err-check_credentials-clause-fault c =
     let name = passed_some (name_at c.check_head.new.cursor) c.skip.new.cursor c.in-Ok-skip.ensures.ok in
     let start = header_read opened.layout c.args.bytes.now opened.cursor header.0 c.check_head.new.cursor opened.ensures.opened header.1 in
     let lies = name_lies c.check_head.new.cursor name.0 c.skip.new.cursor header.1.takes.rest_fits name.1 in
-    let p = err_from_is_err_and c.from_residual-in_err-check_credentials.result c.from_residual-in_err-check_credentials.ensures.1 in
-    rw (p.1, p.2)
+    rw (err_is c.from_residual-in_err-check_credentials.result c.from_residual-in_err-check_credentials.ensures.1)
     (credential_fault opened.layout c.args.bytes.now header.0 c.check_head.new.cursor name.0 c.skip.new.cursor c.in_err-check_credentials.field-0.0 start lies c.in_err-check_credentials.ensures.missing)
 
 pub returns-in-Err-skip-clause-fault : goal.returns-in-Err-skip-clause-fault

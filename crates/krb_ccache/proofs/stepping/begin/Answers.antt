@@ -1,5 +1,5 @@
 use Rattle.std.proofs.Common.{rules, arith}
-use Rattle.std.proofs.lemmas.Result.{err_from_is_err_and}
+use Rattle.krb_name.proofs.Exits.{err_is}
 use Rattle.krb_ccache.specs.Spelling.{name_bytes}
 use Rattle.krb_ccache.specs.Value.{FitsName}
 use Rattle.krb_ccache.specs.Format.{version_of, head_bytes, FitsHead}
@@ -13,18 +13,15 @@ use Rattle.krb_ccache.proofs.stepping.begin.Goals as goal
 
 pub returns-in_err-layout-clause-fault : goal.returns-in_err-layout-clause-fault
 returns-in_err-layout-clause-fault g c =
-    let p = err_from_is_err_and c.from_residual.result c.from_residual.ensures.1 in
-    rw (p.1, p.2) (version_fault g.S.Source.remaining c.args.window.now c.come.new.window c.in_err-layout.field-0.0 c.requires.start c.in_err-layout.ensures.misses)
+    rw (err_is c.from_residual.result c.from_residual.ensures.1) (version_fault g.S.Source.remaining c.args.window.now c.come.new.window c.in_err-layout.field-0.0 c.requires.start c.in_err-layout.ensures.misses)
 
 pub returns-in_err-header-clause-fault : goal.returns-in_err-header-clause-fault
 returns-in_err-header-clause-fault g c =
-    let p = err_from_is_err_and c.from_residual-in_err-header.result c.from_residual-in_err-header.ensures.1 in
-    rw (p.1, p.2) (header_fault g.S.Source.remaining c.in_ok-layout.layout c.args.window.now c.come.new.window c.come-2.new.window c.in_err-header.field-0.0 c.requires.start c.in_ok-layout.ensures.comes c.in_err-header.ensures.misses)
+    rw (err_is c.from_residual-in_err-header.result c.from_residual-in_err-header.ensures.1) (header_fault g.S.Source.remaining c.in_ok-layout.layout c.args.window.now c.come.new.window c.come-2.new.window c.in_err-header.field-0.0 c.requires.start c.in_ok-layout.ensures.comes c.in_err-header.ensures.misses)
 
 pub returns-in_err-default_principal-clause-fault : goal.returns-in_err-default_principal-clause-fault
 returns-in_err-default_principal-clause-fault g c =
-    let p = err_from_is_err_and c.from_residual-in_err-default_principal.result c.from_residual-in_err-default_principal.ensures.1 in
-    rw (p.1, p.2) (name_fault g.S.Source.remaining c.in_ok-layout.layout c.args.window.now c.come.new.window c.come-2.new.window c.come-3.new.window c.in_ok-header.header.items _ c.in_err-default_principal.field-0.0 c.requires.start c.in_ok-layout.ensures.comes c.in_ok-header.ensures.comes c.in_err-default_principal.ensures.misses (search rules))
+    rw (err_is c.from_residual-in_err-default_principal.result c.from_residual-in_err-default_principal.ensures.1) (name_fault g.S.Source.remaining c.in_ok-layout.layout c.args.window.now c.come.new.window c.come-2.new.window c.come-3.new.window c.in_ok-header.header.items _ c.in_err-default_principal.field-0.0 c.requires.start c.in_ok-layout.ensures.comes c.in_ok-header.ensures.comes c.in_err-default_principal.ensures.misses (search rules))
 
 pub returns-in_err-header-clause-gave : goal.returns-in_err-header-clause-gave
 returns-in_err-header-clause-gave g c =

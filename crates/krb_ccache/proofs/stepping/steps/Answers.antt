@@ -1,7 +1,7 @@
 use Rattle.std.proofs.Common.{◌∙◌, Option, Some, Ok, List, sym, subst, arith}
-use Rattle.std.proofs.lemmas.Result.{err_from_is_err_and}
 use Rattle.std.specs.Prelude.{All}
 use Rattle.std.proofs.lemmas.List.Elements.{All-push}
+use Rattle.krb_name.proofs.Exits.{err_is}
 use Rattle.krb_ccache.specs.Types.{Credential}
 use Rattle.krb_ccache.specs.Reader.{HasTaken}
 use Rattle.krb_ccache.specs.Value.{cache_of, FitsCredential}
@@ -13,8 +13,7 @@ use Rattle.krb_ccache.proofs.stepping.steps.Goals as goal
 
 pub returns-in_err-credential-clause-fault : goal.returns-in_err-credential-clause-fault
 returns-in_err-credential-clause-fault g c =
-    let p = err_from_is_err_and c.from_residual-in_err-credential.result c.from_residual-in_err-credential.ensures.1 in
-    rw (p.1, p.2) (λ from header name start memory read.
+    rw (err_is c.from_residual-in_err-credential.result c.from_residual-in_err-credential.ensures.1) (λ from header name start memory read.
     item_fault g.S.Source.remaining c.args.layout from c.loop-credentials.window c.step.new.window (cache_of header name c.loop-credentials.credentials) c.in_err-credential.field-0.0 (c.loop-credentials.invariant.taken from header name start)
     c.in_err-credential.ensures.step.0 c.in_err-credential.ensures.step.1 memory read)
 

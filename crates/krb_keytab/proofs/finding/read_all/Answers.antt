@@ -1,14 +1,13 @@
 use Rattle.std.proofs.Common.{◌∷◌, ◌++◌, [], inl}
-use Rattle.std.proofs.lemmas.Result.{err_from_is_err_and}
+use Rattle.krb_name.proofs.Exits.{err_is}
 use Rattle.krb_keytab.specs.Format.{entry, hole}
 use Rattle.krb_keytab.proofs.ScanLaws.{hole_passed, entry_passed, stopped}
 use Rattle.krb_keytab.proofs.finding.read_all.Goals as goal
 
 pub returns-in_err-found-clause-fault : goal.returns-in_err-found-clause-fault
 returns-in_err-found-clause-fault g c =
-    let p = err_from_is_err_and c.from_residual-in_err-found.result c.from_residual-in_err-found.ensures.1 in
     let read = c.in_err-found.ensures in
-    rw (p.1, p.2) (inl (stopped _ c.each_record.invariant.spans c.in_err-found.field-0.0 c.each_record.invariant.limit read.meets read.content))
+    rw (err_is c.from_residual-in_err-found.result c.from_residual-in_err-found.ensures.1) (inl (stopped _ c.each_record.invariant.spans c.in_err-found.field-0.0 c.each_record.invariant.limit read.meets read.content))
 
 pub each_record-preserved-in-Continue-branch-3 : goal.each_record-preserved-in-Continue-branch-3
 each_record-preserved-in-Continue-branch-3 g c =

@@ -1,12 +1,11 @@
 use Rattle.std.proofs.Common.{Err, refl}
-use Rattle.std.proofs.lemmas.Result.{err_from_is_err_and}
+use Rattle.krb_name.proofs.Exits.{err_is}
 use Rattle.krb_keytab.proofs.StandLaws.{first_next, first_fault}
 use Rattle.krb_keytab.proofs.reader.pass_first.Goals as goal
 
 pub returns-in_err-read_version-clause-meets : goal.returns-in_err-read_version-clause-meets
 returns-in_err-read_version-clause-meets g c =
-    let p = err_from_is_err_and c.from_residual.result c.from_residual.ensures.1 in
-    rw (p.1, p.2) (Err c.in_err-read_version.field-0.0, refl, first_fault _ _ _ _ c.in_err-read_version.field-0.0 c.in_err-read_version.ensures.opens c.requires.start)
+    rw (err_is c.from_residual.result c.from_residual.ensures.1) (Err c.in_err-read_version.field-0.0, refl, first_fault _ _ _ _ c.in_err-read_version.field-0.0 c.in_err-read_version.ensures.opens c.requires.start)
 
 pub returns-clause-meets : goal.returns-clause-meets
 returns-clause-meets g c =

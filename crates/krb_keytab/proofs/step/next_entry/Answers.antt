@@ -1,5 +1,5 @@
 use Rattle.std.proofs.Common.{refl, arith, ◌∙◌}
-use Rattle.std.proofs.lemmas.Result.{err_from_is_err_and}
+use Rattle.krb_name.proofs.Exits.{err_is}
 use Rattle.krb_keytab.proofs.StandLaws.{passes_none, passes_hole, next_end, next_kept, next_fault}
 use Rattle.krb_keytab.proofs.step.next_entry.Goals as goal
 
@@ -8,8 +8,7 @@ loop-kept-init g c = record { passes = passes_none _ (g.F.Feed.at_hand c.args.fe
 
 pub returns-in_err-read_record-clause-meets : goal.returns-in_err-read_record-clause-meets
 returns-in_err-read_record-clause-meets g c =
-    let p = err_from_is_err_and c.from_residual.result c.from_residual.ensures.1 in
-    rw (p.1, p.2) (next_fault _ _ _ _ _ _ _ c.loop-kept.invariant.passes c.loop-kept.invariant.limit c.in_err-read_record.field-0.0 c.in_err-read_record.ensures.meets)
+    rw (err_is c.from_residual.result c.from_residual.ensures.1) (next_fault _ _ _ _ _ _ _ c.loop-kept.invariant.passes c.loop-kept.invariant.limit c.in_err-read_record.field-0.0 c.in_err-read_record.ensures.meets)
 
 pub returns-in-End-clause-meets : goal.returns-in-End-clause-meets
 returns-in-End-clause-meets g c = next_end _ _ _ _ _ _ _ c.loop-kept.invariant.passes c.loop-kept.invariant.limit (rw c.in-End.is at c.in_ok-read_record.ensures.meets)

@@ -1,7 +1,7 @@
 use Rattle.std.proofs.Common.{◌≡◌, ℕ, pos, ◌+◌, List, ◌++◌, ◌≤◌, length, Some, Err, subst, ap, append_assoc, ◌∙◌, arith}
 use Rattle.std.specs.Int.{w32}
 use Rattle.std.proofs.lemmas.List.{length-append}
-use Rattle.std.proofs.lemmas.Result.{err_from_is_err_and}
+use Rattle.krb_name.proofs.Exits.{err_is}
 use Rattle.krb_name.specs.Cursor.{signed_bytes}
 use Rattle.krb_keytab.specs.Inner.Entry.{HoldsEntry, HoldsNone}
 use Rattle.krb_keytab.specs.Inner.Meeting.{Meets}
@@ -11,8 +11,7 @@ use Rattle.krb_keytab.proofs.step.read_content.Goals as goal
 
 pub returns-in_err-hold-clause-meets : goal.returns-in_err-hold-clause-meets
 returns-in_err-hold-clause-meets g c =
-    let p = err_from_is_err_and c.from_residual.result c.from_residual.ensures.1 in
-    rw (p.1, p.2) (body_lost g.K.Keep.kept_of _ _ (g.F.Feed.at_hand c.args.feed.now) _ c.args.at c.args.count (omega (arith, c.requires.at, c.requires.limit)) _ c.in_err-hold.ensures.fills)
+    rw (err_is c.from_residual.result c.from_residual.ensures.1) (body_lost g.K.Keep.kept_of _ _ (g.F.Feed.at_hand c.args.feed.now) _ c.args.at c.args.count (omega (arith, c.requires.at, c.requires.limit)) _ c.in_err-hold.ensures.fills)
 
 pub returns-then-not-branch-clause-meets : goal.returns-then-not-branch-clause-meets
 returns-then-not-branch-clause-meets g c =
@@ -28,8 +27,7 @@ returns-then-not-branch-clause-meets g c =
 
 pub returns-in_err-kept-clause-meets : goal.returns-in_err-kept-clause-meets
 returns-in_err-kept-clause-meets g c =
-    let p = err_from_is_err_and c.from_residual-in_err-kept.result c.from_residual-in_err-kept.ensures.1 in
-    rw (p.1, p.2) (body_met g.K.Keep.kept_of _ _ (g.F.Feed.at_hand c.args.feed.now) _ c.args.at c.args.count (omega (arith, c.requires.at, c.requires.limit)) _ c.in_ok-hold.ensures.fills _ tt)
+    rw (err_is c.from_residual-in_err-kept.result c.from_residual-in_err-kept.ensures.1) (body_met g.K.Keep.kept_of _ _ (g.F.Feed.at_hand c.args.feed.now) _ c.args.at c.args.count (omega (arith, c.requires.at, c.requires.limit)) _ c.in_ok-hold.ensures.fills _ tt)
 
 pub returns-in-Some-clause-meets : goal.returns-in-Some-clause-meets
 returns-in-Some-clause-meets g c =

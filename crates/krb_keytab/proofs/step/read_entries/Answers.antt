@@ -1,5 +1,5 @@
 use Rattle.std.proofs.Common.{◌∙◌, arith, Option, Ok, subst}
-use Rattle.std.proofs.lemmas.Result.{err_from_is_err_and}
+use Rattle.krb_name.proofs.Exits.{err_is}
 use Rattle.krb_keytab.specs.Entry.{KeytabEntry}
 use Rattle.krb_keytab.specs.Inner.Meeting.{MeetsNext}
 use Rattle.krb_keytab.proofs.ToldLaws.{entry_taken, end_taken, next_faulty, next_takes}
@@ -7,8 +7,7 @@ use Rattle.krb_keytab.proofs.step.read_entries.Goals as goal
 
 pub returns-in_err-entry-clause-fault : goal.returns-in_err-entry-clause-fault
 returns-in_err-entry-clause-fault g c =
-    let p = err_from_is_err_and c.from_residual-in_err-entry.result c.from_residual-in_err-entry.ensures.1 in
-    rw (p.1, p.2) (next_faulty _ _ _ _ _ c.loop-entries.entries c.in_err-entry.field-0.0 c.loop-entries.invariant.taken c.in_err-entry.ensures.meets)
+    rw (err_is c.from_residual-in_err-entry.result c.from_residual-in_err-entry.ensures.1) (next_faulty _ _ _ _ _ c.loop-entries.entries c.in_err-entry.field-0.0 c.loop-entries.invariant.taken c.in_err-entry.ensures.meets)
 
 pub loop-entries-preserved : goal.loop-entries-preserved
 loop-entries-preserved g c =

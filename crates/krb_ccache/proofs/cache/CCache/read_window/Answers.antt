@@ -1,5 +1,5 @@
 use Rattle.std.proofs.Common.{Ok, Err}
-use Rattle.std.proofs.lemmas.Result.{err_from_is_err_and}
+use Rattle.krb_name.proofs.Exits.{err_is}
 use Rattle.krb_name.proofs.FileLaws.{gives_then, takes_file}
 use Rattle.krb_ccache.proofs.SourceLaws.{reads_whole}
 use Rattle.krb_ccache.proofs.cache.CCache.read_window.Goals as goal
@@ -7,17 +7,15 @@ use Rattle.krb_ccache.proofs.cache.CCache.read_window.Goals as goal
 pub returns-in_err-layout-clause-reads : goal.returns-in_err-layout-clause-reads
 returns-in_err-layout-clause-reads g c =
     let left = g.S.Source.remaining in
-    let p = err_from_is_err_and c.from_residual.result c.from_residual.ensures.1 in
-    rw (p.1, p.2) (reads_whole _ _ (Err c.in_err-layout.field-0.0) tt c.in_err-layout.ensures.fault (takes_file _ _ _ _ c.requires.start c.in_err-layout.ensures.gave))
+    rw (err_is c.from_residual.result c.from_residual.ensures.1) (reads_whole _ _ (Err c.in_err-layout.field-0.0) tt c.in_err-layout.ensures.fault (takes_file _ _ _ _ c.requires.start c.in_err-layout.ensures.gave))
 
 pub returns-in_err-credentials-clause-reads : goal.returns-in_err-credentials-clause-reads
 returns-in_err-credentials-clause-reads g c =
     let left = g.S.Source.remaining in
-    let p = err_from_is_err_and c.from_residual-in_err-credentials.result c.from_residual-in_err-credentials.ensures.1 in
     let start = c.in_ok-layout.field-0 in
     let gave = gives_then (left c.args.window.now.source) (left c.begin.new.window.source) (left c.steps.new.window.source) _ _ _ c.in_ok-layout.ensures.gave c.in_err-credentials.ensures.gave in
     let fault = c.in_err-credentials.ensures.fault (left c.args.window.now.source) start.header.items start.default_principal c.in_ok-layout.ensures.taken in
-    rw (p.1, p.2) (reads_whole _ _ (Err c.in_err-credentials.field-0.0) tt fault (takes_file _ _ _ _ c.requires.start gave))
+    rw (err_is c.from_residual-in_err-credentials.result c.from_residual-in_err-credentials.ensures.1) (reads_whole _ _ (Err c.in_err-credentials.field-0.0) tt fault (takes_file _ _ _ _ c.requires.start gave))
 
 pub returns-clause-reads : goal.returns-clause-reads
 returns-clause-reads g c =

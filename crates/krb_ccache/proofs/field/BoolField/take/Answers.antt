@@ -1,6 +1,6 @@
 use Rattle.std.proofs.Common.{ℕ, List, ap, slice_index_or}
 use Rattle.std.specs.Int.{w8}
-use Rattle.std.proofs.lemmas.Result.{err_from_is_err_and}
+use Rattle.krb_name.proofs.Exits.{err_is}
 use Rattle.krb_ccache.proofs.WalkParts.{byte_passed, flag_goes, number_first}
 use Rattle.krb_ccache.proofs.field.BoolField.take.Goals as goal
 
@@ -12,5 +12,4 @@ returns-clause-walk g c = λ strict.
 pub returns-in_err-byte-clause-walk : goal.returns-in_err-byte-clause-walk
 returns-in_err-byte-clause-walk g c = λ strict.
     let hand = g.T.Taker.hand in
-    let p = err_from_is_err_and c.from_residual.result c.from_residual.ensures.1 in
-    rw (p.1, p.2) (number_first g.T.Taker.Within g.T.Taker.Lacks strict c.args.left _ w8 _ (byte_passed g.T.Taker.Within g.T.Taker.Lacks strict c.args.left) (hand c.args.taker.now) (hand c.take_last.new.taker) c.in_err-byte.field-0.0 c.in_err-byte.ensures.taken)
+    rw (err_is c.from_residual.result c.from_residual.ensures.1) (number_first g.T.Taker.Within g.T.Taker.Lacks strict c.args.left _ w8 _ (byte_passed g.T.Taker.Within g.T.Taker.Lacks strict c.args.left) (hand c.args.taker.now) (hand c.take_last.new.taker) c.in_err-byte.field-0.0 c.in_err-byte.ensures.taken)

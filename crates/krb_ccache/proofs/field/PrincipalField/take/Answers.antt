@@ -1,4 +1,4 @@
-use Rattle.std.proofs.lemmas.Result.{err_from_is_err_and}
+use Rattle.krb_name.proofs.Exits.{err_is}
 use Rattle.krb_ccache.proofs.WalkLaws.{pair_goes}
 use Rattle.krb_ccache.proofs.WalkParts.{from_realm, name_first, name_walk}
 use Rattle.krb_ccache.proofs.field.PrincipalField.take.Goals as goal
@@ -12,5 +12,4 @@ returns-clause-walk g c = λ strict.
 pub returns-in_err-start-clause-walk : goal.returns-in_err-start-clause-walk
 returns-in_err-start-clause-walk g c = λ strict.
     let hand = g.T.Taker.hand in
-    let p = err_from_is_err_and c.from_residual.result c.from_residual.ensures.1 in
-    rw (p.1, p.2) (name_first g.T.Taker.Within g.T.Taker.Lacks strict c.args.left (hand c.args.taker.now) (hand c.take_last.new.taker) c.in_err-start.field-0.0 c.in_err-start.ensures.taken)
+    rw (err_is c.from_residual.result c.from_residual.ensures.1) (name_first g.T.Taker.Within g.T.Taker.Lacks strict c.args.left (hand c.args.taker.now) (hand c.take_last.new.taker) c.in_err-start.field-0.0 c.in_err-start.ensures.taken)

@@ -1,5 +1,5 @@
 use Rattle.std.proofs.Common.{true}
-use Rattle.std.proofs.lemmas.Result.{err_from_is_err_and}
+use Rattle.krb_name.proofs.Exits.{err_is}
 use Rattle.krb_ccache.specs.Inner.Row.{row_at}
 use Rattle.krb_ccache.proofs.WalkParts.{both_stop, both_walk}
 use Rattle.krb_ccache.proofs.field.Tuple2Field.take.Goals as goal
@@ -10,8 +10,7 @@ take-requires-2-clause-within g c = (c.in_ok-next.ensures.walk true).within
 pub returns-in_err-next-clause-walk : goal.returns-in_err-next-clause-walk
 returns-in_err-next-clause-walk g c = λ strict.
     let hand = g.T.Taker.hand in
-    let p = err_from_is_err_and c.from_residual.result c.from_residual.ensures.1 in
-    rw (p.1, p.2)
+    rw (err_is c.from_residual.result c.from_residual.ensures.1)
     (both_stop g.T.Taker.Within g.T.Taker.Lacks strict c.args.left (row_at g.A.Field.fields strict c.args.layout) (row_at g.B.Field.fields strict c.args.layout) (hand c.args.taker.now) (hand c.take.new.taker) c.in_err-next.field-0.0 (c.in_err-next.ensures.walk strict))
 
 pub returns-clause-walk : goal.returns-clause-walk

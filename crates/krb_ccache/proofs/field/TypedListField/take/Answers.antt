@@ -1,6 +1,6 @@
 use Rattle.std.proofs.Common.{ap, ◌∙◌}
 use Rattle.std.specs.Int.{w32, from_be_bytes}
-use Rattle.std.proofs.lemmas.Result.{err_from_is_err_and}
+use Rattle.krb_name.proofs.Exits.{err_is}
 use Rattle.krb_ccache.proofs.WalkParts.{list_passed, list_walk, number_first}
 use Rattle.krb_ccache.proofs.field.TypedListField.take.Goals as goal
 
@@ -12,5 +12,4 @@ returns-clause-walk g c = λ strict.
 pub returns-in_err-take_last-clause-walk : goal.returns-in_err-take_last-clause-walk
 returns-in_err-take_last-clause-walk g c = λ strict.
     let hand = g.T.Taker.hand in
-    let p = err_from_is_err_and c.from_residual.result c.from_residual.ensures.1 in
-    rw (p.1, p.2) (number_first g.T.Taker.Within g.T.Taker.Lacks strict c.args.left _ w32 _ list_passed (hand c.args.taker.now) (hand c.take_last.new.taker) c.in_err-take_last.field-0.0 c.in_err-take_last.ensures.taken)
+    rw (err_is c.from_residual.result c.from_residual.ensures.1) (number_first g.T.Taker.Within g.T.Taker.Lacks strict c.args.left _ w32 _ list_passed (hand c.args.taker.now) (hand c.take_last.new.taker) c.in_err-take_last.field-0.0 c.in_err-take_last.ensures.taken)

@@ -1,5 +1,5 @@
 use Rattle.std.proofs.Common.{false}
-use Rattle.std.proofs.lemmas.Result.{err_from_is_err_and}
+use Rattle.krb_name.proofs.Exits.{err_is}
 use Rattle.krb_ccache.specs.Spelling.{name_bytes}
 use Rattle.krb_ccache.specs.Value.{FitsName}
 use Rattle.krb_ccache.specs.Inner.Reading.{name_at}
@@ -12,5 +12,4 @@ returns-clause-walks g c = walks_of (passed_at name_at) name_bytes FitsName name
 
 pub returns-in_err-take_all-clause-halts : goal.returns-in_err-take_all-clause-halts
 returns-in_err-take_all-clause-halts g c =
-    let p = err_from_is_err_and c.from_residual.result c.from_residual.ensures.1 in
-    rw (p.1, p.2) (halts_of (passed_at name_at) name_bytes FitsName name_passes g.S.Source.remaining c.args.window.now c.take_all.new.taker c.in_err-take_all.field-0.0 (c.in_err-take_all.ensures.walk false))
+    rw (err_is c.from_residual.result c.from_residual.ensures.1) (halts_of (passed_at name_at) name_bytes FitsName name_passes g.S.Source.remaining c.args.window.now c.take_all.new.taker c.in_err-take_all.field-0.0 (c.in_err-take_all.ensures.walk false))

@@ -1,17 +1,15 @@
 use Rattle.std.proofs.Common.{Ok, Err, Some, None}
-use Rattle.std.proofs.lemmas.Result.{err_from_is_err_and}
+use Rattle.krb_name.proofs.Exits.{err_is}
 use Rattle.krb_keytab.proofs.EditLaws.{makes_hole, loses_entry, removal_missing, removal_faults}
 use Rattle.krb_keytab.proofs.keytab.Keytab.remove_in.Goals as goal
 
 pub returns-in_err-find_entry-clause-missing : goal.returns-in_err-find_entry-clause-missing
 returns-in_err-find_entry-clause-missing c =
-    let p = err_from_is_err_and c.from_residual.result c.from_residual.ensures.1 in
-    rw (p.1, p.2) (removal_missing c.args.file.now.items c.args.index (Err c.in_err-find_entry.field-0.0) (rw c.deref.ensures.value at c.in_err-find_entry.ensures))
+    rw (err_is c.from_residual.result c.from_residual.ensures.1) (removal_missing c.args.file.now.items c.args.index (Err c.in_err-find_entry.field-0.0) (rw c.deref.ensures.value at c.in_err-find_entry.ensures))
 
 pub returns-in_err-find_entry-clause-fault : goal.returns-in_err-find_entry-clause-fault
 returns-in_err-find_entry-clause-fault c =
-    let p = err_from_is_err_and c.from_residual.result c.from_residual.ensures.1 in
-    rw (p.1, p.2) (removal_faults c.args.file.now.items c.args.index (Err c.in_err-find_entry.field-0.0) (rw c.deref.ensures.value at c.in_err-find_entry.ensures))
+    rw (err_is c.from_residual.result c.from_residual.ensures.1) (removal_faults c.args.file.now.items c.args.index (Err c.in_err-find_entry.field-0.0) (rw c.deref.ensures.value at c.in_err-find_entry.ensures))
 
 pub returns-in-None-clause-fault : goal.returns-in-None-clause-fault
 returns-in-None-clause-fault c = removal_faults c.args.file.now.items c.args.index (Ok None) (rw (c.in-None.is, c.deref.ensures.value) at c.in_ok-find_entry.ensures)

@@ -1,11 +1,10 @@
-use Rattle.std.proofs.lemmas.Result.{err_from_is_err_and}
+use Rattle.krb_name.proofs.Exits.{err_is}
 use Rattle.krb_name.proofs.NameReading.{components_fault, components_end, components_done, at_sign}
 use Rattle.krb_name.proofs.text_cursor.TextCursor.read_components.Goals as goal
 
 pub returns-in_err-read_name : goal.returns-in_err-read_name
 returns-in_err-read_name c =
-    let p = err_from_is_err_and c.from_residual.result c.from_residual.ensures.1 in
-    rw (p.1, p.2) (components_fault c.in_err-read_name.field-0.0 _ _ _ _ c.loop-components.invariant c.in_err-read_name.ensures)
+    rw (err_is c.from_residual.result c.from_residual.ensures.1) (components_fault c.in_err-read_name.field-0.0 _ _ _ _ c.loop-components.invariant c.in_err-read_name.ensures)
 
 pub returns-in-Some : goal.returns-in-Some
 returns-in-Some c =
