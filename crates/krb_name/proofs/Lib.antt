@@ -18,3 +18,4 @@ pub mod Rows
 pub mod Moved
 pub mod WindowLaws
 pub mod FileLaws
+pub mod Continued
