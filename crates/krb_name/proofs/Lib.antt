@@ -19,3 +19,4 @@ pub mod Moved
 pub mod WindowLaws
 pub mod FileLaws
 pub mod Exits
+pub mod Continued

@@ -27,6 +27,7 @@ pub struct Principal {
 impl Principal {
     ghost use Rattle.krb_name.specs.Name.{SameName, name_hash};
     ghost use Rattle.krb_name.specs.Text.{text_of};
+    ghost use Rattle.krb_name.specs.Inner.Components.{Continues};
 
     /// Returns whether `self` and `other` name the same principal: the realms and the components
     /// are equal, byte for byte. Name types aren't compared (RFC 4120, section 6.2).
@@ -74,13 +75,18 @@ impl Principal {
         ensures ok { OnOk result (string_bytes text.new ≡ string_bytes text.old ++ text_of self.now) }
         ensures err { OnErr result (string_bytes text.new ≡ string_bytes text.old) }
     {
-        let own = self.to_text(*text.allocator())?;
-        text.push_str(&own)
+        let len = text.len();
+        let written = self.write_into(text);
+        if written.is_err() {
+            text.truncate(len);
+        }
+        written
     }
 
     // Appends the text. Without memory, it may append a part of it.
     fn write_into(&self, text: &mut String) -> Result<(), AllocError>
-        ensures { OnOk result (string_bytes text.new ≡ string_bytes text.old ++ text_of self.now) }
+        ensures ok { OnOk result (string_bytes text.new ≡ string_bytes text.old ++ text_of self.now) }
+        ensures err { OnErr result (Continues (string_bytes text.old) (string_bytes text.new)) }
     {
         write_components(text, self.components.as_slice())?;
         text.push('@')?;

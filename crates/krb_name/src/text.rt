@@ -1,18 +1,19 @@
 //! Writing the text of a name.
 
-ghost use Rattle.std.specs.Prelude.{◌≡◌, ◌≤◌, ◌++◌, All, IsTrue, OnOk, length, string_bytes, map, take};
+ghost use Rattle.std.specs.Prelude.{◌≡◌, ◌<◌, ◌≤◌, ◌++◌, All, IsTrue, OnErr, OnOk, length, string_bytes, map, take};
 ghost use Rattle.std.specs.List.{join_with_byte};
-ghost use Rattle.krb_name.specs.Text.{escaped_byte, escaped, hex_escape};
-ghost use Rattle.krb_name.specs.Inner.Components.{behind_slashes, IsPlain};
+ghost use Rattle.krb_name.specs.Text.{escaped_byte, escaped, hex_digit, hex_escape};
+ghost use Rattle.krb_name.specs.Inner.Components.{behind_slashes, Continues, IsPlain};
 
 use crate::bytes::Bytes;
 use std::alloc::AllocError;
-use std::fmt::Write;
 
 /// Writes the components with a `/` between each two.
+#[tactic(auto, using(crate::proofs::Continued::unchanged, crate::proofs::Continued::goes_on))]
 pub(crate) fn write_components(text: &mut String, components: &[Bytes]) -> Result<(), AllocError>
-    ensures { OnOk result (string_bytes text.new
+    ensures ok { OnOk result (string_bytes text.new
         ≡ string_bytes text.old ++ join_with_byte 0x2f (map escaped components.now)) }
+    ensures err { OnErr result (Continues (string_bytes text.old) (string_bytes text.new)) }
 {
     let Some((first, others)) = components.split_first() else {
         return Ok(());
@@ -21,9 +22,11 @@ pub(crate) fn write_components(text: &mut String, components: &[Bytes]) -> Resul
     write_others(text, others)
 }
 
+#[tactic(auto, using(crate::proofs::Continued::unchanged, crate::proofs::Continued::goes_on))]
 fn write_others(text: &mut String, others: &[Bytes]) -> Result<(), AllocError>
-    ensures { OnOk result (string_bytes text.new
+    ensures ok { OnOk result (string_bytes text.new
         ≡ string_bytes text.old ++ behind_slashes others.now) }
+    ensures err { OnErr result (Continues (string_bytes text.old) (string_bytes text.new)) }
 {
     for component in others {
         text.push('/')?;
@@ -33,8 +36,10 @@ fn write_others(text: &mut String, others: &[Bytes]) -> Result<(), AllocError>
 }
 
 /// Writes the bytes of a realm or a component.
+#[tactic(auto, using(crate::proofs::Continued::unchanged, crate::proofs::Continued::goes_on))]
 pub(crate) fn write_escaped(text: &mut String, bytes: &[u8]) -> Result<(), AllocError>
-    ensures { OnOk result (string_bytes text.new ≡ string_bytes text.old ++ escaped bytes.now) }
+    ensures ok { OnOk result (string_bytes text.new ≡ string_bytes text.old ++ escaped bytes.now) }
+    ensures err { OnErr result (Continues (string_bytes text.old) (string_bytes text.new)) }
 {
     let (plain, rest) = bytes.split_at(plain_len(bytes));
     write_plain(text, plain)?;
@@ -64,9 +69,11 @@ fn is_plain(byte: u8) -> bool
     }
 }
 
+#[tactic(auto, using(crate::proofs::Continued::unchanged, crate::proofs::Continued::goes_on))]
 fn write_plain(text: &mut String, bytes: &[u8]) -> Result<(), AllocError>
     requires { All IsPlain bytes.now }
-    ensures { OnOk result (string_bytes text.new ≡ string_bytes text.old ++ bytes.now) }
+    ensures ok { OnOk result (string_bytes text.new ≡ string_bytes text.old ++ bytes.now) }
+    ensures err { OnErr result (Continues (string_bytes text.old) (string_bytes text.new)) }
 {
     match str::from_utf8(bytes) {
         Ok(plain) => text.push_str(plain),
@@ -74,8 +81,10 @@ fn write_plain(text: &mut String, bytes: &[u8]) -> Result<(), AllocError>
     }
 }
 
+#[tactic(auto, using(crate::proofs::Continued::unchanged, crate::proofs::Continued::goes_on))]
 fn write_bytes(text: &mut String, bytes: &[u8]) -> Result<(), AllocError>
-    ensures { OnOk result (string_bytes text.new ≡ string_bytes text.old ++ escaped bytes.now) }
+    ensures ok { OnOk result (string_bytes text.new ≡ string_bytes text.old ++ escaped bytes.now) }
+    ensures err { OnErr result (Continues (string_bytes text.old) (string_bytes text.new)) }
 {
     for byte in bytes {
         write_byte(text, *byte)?;
@@ -83,8 +92,10 @@ fn write_bytes(text: &mut String, bytes: &[u8]) -> Result<(), AllocError>
     Ok(())
 }
 
+#[tactic(auto, using(crate::proofs::Continued::unchanged, crate::proofs::Continued::goes_on))]
 fn write_byte(text: &mut String, byte: u8) -> Result<(), AllocError>
-    ensures { OnOk result (string_bytes text.new ≡ string_bytes text.old ++ escaped_byte byte) }
+    ensures ok { OnOk result (string_bytes text.new ≡ string_bytes text.old ++ escaped_byte byte) }
+    ensures err { OnErr result (Continues (string_bytes text.old) (string_bytes text.new)) }
 {
     match byte {
         b'/' | b'@' | b'\\' => {
@@ -96,9 +107,25 @@ fn write_byte(text: &mut String, byte: u8) -> Result<(), AllocError>
     }
 }
 
-#[tactic(auto, using(std::proofs::lemmas::Fmt::hex_byte))]
+#[tactic(auto, using(crate::proofs::Continued::unchanged, crate::proofs::Continued::goes_on))]
 fn write_hex(text: &mut String, byte: u8) -> Result<(), AllocError>
-    ensures { OnOk result (string_bytes text.new ≡ string_bytes text.old ++ hex_escape byte) }
+    ensures ok { OnOk result (string_bytes text.new ≡ string_bytes text.old ++ hex_escape byte) }
+    ensures err { OnErr result (Continues (string_bytes text.old) (string_bytes text.new)) }
 {
-    write!(text, "\\x{byte:02x}")
+    text.push('\\')?;
+    text.push('x')?;
+    text.push(hex_digit(byte / 16))?;
+    text.push(hex_digit(byte % 16))
+}
+
+fn hex_digit(digit: u8) -> char
+    requires { digit < 16 }
+    ensures value { result ≡ hex_digit digit }
+    ensures ascii { result < 128 }
+{
+    if digit < 10 {
+        char::from(b'0' + digit)
+    } else {
+        char::from(b'a' - 10 + digit)
+    }
 }

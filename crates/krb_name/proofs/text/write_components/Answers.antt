@@ -4,8 +4,8 @@ use Rattle.krb_name.specs.Text.{escaped}
 use Rattle.krb_name.proofs.TextLaws.{components_written}
 use Rattle.krb_name.proofs.text.write_components.Goals as goal
 
-pub returns : goal.returns
-returns c =
-    let written = c.in_ok-write_escaped.ensures ∙ ap (λ first. string_bytes c.args.text.now ++ escaped first) c.as_slice.ensures in
+pub returns-clause-ok : goal.returns-clause-ok
+returns-clause-ok c =
+    let written = c.in_ok-write_escaped.ensures.ok ∙ ap (λ first. string_bytes c.args.text.now ++ escaped first) c.as_slice.ensures in
     let parts = c.in-Some.ensures.cases.0 in
-    IfOk-equal c.write_others.result _ _ _ c.write_others.ensures (components_written (string_bytes c.args.text.now) _ c.in-Some.first.now c.in-Some.others.now _ written parts)
+    IfOk-equal c.write_others.result _ _ _ c.write_others.ensures.ok (components_written (string_bytes c.args.text.now) _ c.in-Some.first.now c.in-Some.others.now _ written parts)
