@@ -1,4 +1,3 @@
 pub mod BaseKey
-pub mod Derived
 pub mod KeyBytes
 pub mod NotSealed

@@ -34,11 +34,11 @@
 #![tactic(auto)]
 
 mod checksum_key;
-mod derived;
 mod enctype;
 pub mod etype;
 mod fault;
 mod key;
+mod key_bytes;
 pub mod laws;
 mod profiles;
 mod tag;

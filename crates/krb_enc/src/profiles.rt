@@ -1,4 +1,7 @@
-//! The two encryption types.
+//! The two encryption types: all that differs between them.
+//!
+//! What derives, prepares or expands keys is never inlined. So each has a stack frame of its own: one
+//! frame follows another, and their sizes don't add up.
 
 ghost use Rattle.std.specs.Prelude.{◌≡◌, ◌⊎◌, pos, refl, length};
 ghost use Rattle.std.proofs.Common.{inl, inr};
@@ -6,11 +9,16 @@ ghost use Rattle.krb_enc.specs.Sealed.{aes128_sha256, aes256_sha384};
 
 use crate::enctype::{Enctype, Inside};
 use crate::etype::{AES128_CTS_HMAC_SHA256_128, AES256_CTS_HMAC_SHA384_192};
-use crate::key::{BaseKey, Key};
-use crate::tag::Tag;
-use crate::texts::INITIAL_VECTOR;
-use crate::usage_key::UsageKey;
-use krb_kdf::{MacPurpose, Purpose, derive_19, derive_20, hmac_sha256, hmac_sha384};
+use crate::key_bytes::KeyBytes;
+use krb_aes::KeySchedule;
+use krb_kdf::{HmacSha256, HmacSha384, MacPurpose, Purpose};
+
+/// Ki and Ke of one usage.
+#[derive(Drop)]
+pub struct Derived<const MAC: usize, const KEY: usize> {
+    integrity: [u8; MAC],
+    encryption: [u8; KEY],
+}
 
 /// aes128-cts-hmac-sha256-128: AES with keys of 128 bits, and tags of 128 bits by HMAC with
 /// SHA-256.
@@ -32,21 +40,37 @@ impl Enctype for Sha256Aes128 {
 
     ghost TAG_LEN = { 16 };
 
-    fn usage_key(_: Inside, key: &[u8], usage: u32) -> UsageKey {
-        let bytes = BaseKey::Short(array_of(key));
-        Key { bytes }.for_usage(usage)
+    type Derived = Derived<16, 16>;
+
+    ghost integrity = { λ derived. derived.integrity };
+
+    ghost encryption = { λ derived. derived.encryption };
+
+    #[tactic(auto, unfolding(krb_kdf::specs::Kdf::kdf, krb_kdf::specs::Kdf::kdf_of, krb_kdf::specs::Hmac::hmac))]
+    #[inline(never)]
+    fn derived(_: Inside, key: &[u8], usage: u32) -> Derived<16, 16> {
+        let base = HmacSha256::new(key);
+        Derived {
+            integrity: base.derive_19(usage, Purpose::Ki),
+            encryption: base.derive_19(usage, Purpose::Ke),
+        }
     }
 
-    #[tactic(auto, unfolding(crate::specs::Sealed::tag_of))]
-    fn tag(key: &[u8], usage: u32, text: &[u8]) -> Tag {
-        let integrity_key = derive_19(&array_of(key), usage, Purpose::Ki);
-        Tag::new(&hmac_sha256(&integrity_key, &[&INITIAL_VECTOR, text])[..16])
+    #[inline(never)]
+    fn integrity_key(_: Inside, key: &[u8], derived: &Derived<16, 16>) -> KeyBytes {
+        KeyBytes::Short(array_of(key), HmacSha256::new(&derived.integrity))
     }
 
-    #[tactic(auto, unfolding(crate::specs::Sealed::checksum_of))]
-    fn checksum(key: &[u8], usage: u32, text: &[u8]) -> Tag {
-        let checksum_key = derive_19(&array_of(key), usage, Purpose::Kc);
-        Tag::new(&hmac_sha256(&checksum_key, &[text])[..16])
+    #[inline(never)]
+    fn schedule(_: Inside, derived: &Derived<16, 16>) -> KeySchedule {
+        KeySchedule::new_128(&derived.encryption)
+    }
+
+    #[tactic(auto, unfolding(krb_kdf::specs::Kdf::kdf, krb_kdf::specs::Kdf::kdf_of, krb_kdf::specs::Hmac::hmac))]
+    #[inline(never)]
+    fn mac_key(_: Inside, key: &[u8], usage: u32, purpose: MacPurpose) -> KeyBytes {
+        let mac_key = HmacSha256::new(key).derive_19(usage, purpose.into());
+        KeyBytes::Short(array_of(key), HmacSha256::new(&mac_key))
     }
 
     ghost is_profile = { inl refl };
@@ -80,21 +104,37 @@ impl Enctype for Sha384Aes256 {
 
     ghost TAG_LEN = { 24 };
 
-    fn usage_key(_: Inside, key: &[u8], usage: u32) -> UsageKey {
-        let bytes = BaseKey::Long(array_of(key));
-        Key { bytes }.for_usage(usage)
+    type Derived = Derived<24, 32>;
+
+    ghost integrity = { λ derived. derived.integrity };
+
+    ghost encryption = { λ derived. derived.encryption };
+
+    #[tactic(auto, unfolding(krb_kdf::specs::Kdf::kdf, krb_kdf::specs::Kdf::kdf_of, krb_kdf::specs::Hmac::hmac))]
+    #[inline(never)]
+    fn derived(_: Inside, key: &[u8], usage: u32) -> Derived<24, 32> {
+        let base = HmacSha384::new(key);
+        Derived {
+            integrity: base.derive_20(usage, MacPurpose::Ki),
+            encryption: base.derive_20_ke(usage),
+        }
     }
 
-    #[tactic(auto, unfolding(crate::specs::Sealed::tag_of))]
-    fn tag(key: &[u8], usage: u32, text: &[u8]) -> Tag {
-        let integrity_key = derive_20(&array_of(key), usage, MacPurpose::Ki);
-        Tag::new(&hmac_sha384(&integrity_key, &[&INITIAL_VECTOR, text])[..24])
+    #[inline(never)]
+    fn integrity_key(_: Inside, key: &[u8], derived: &Derived<24, 32>) -> KeyBytes {
+        KeyBytes::Long(array_of(key), HmacSha384::new(&derived.integrity))
     }
 
-    #[tactic(auto, unfolding(crate::specs::Sealed::checksum_of))]
-    fn checksum(key: &[u8], usage: u32, text: &[u8]) -> Tag {
-        let checksum_key = derive_20(&array_of(key), usage, MacPurpose::Kc);
-        Tag::new(&hmac_sha384(&checksum_key, &[text])[..24])
+    #[inline(never)]
+    fn schedule(_: Inside, derived: &Derived<24, 32>) -> KeySchedule {
+        KeySchedule::new_256(&derived.encryption)
+    }
+
+    #[tactic(auto, unfolding(krb_kdf::specs::Kdf::kdf, krb_kdf::specs::Kdf::kdf_of, krb_kdf::specs::Hmac::hmac))]
+    #[inline(never)]
+    fn mac_key(_: Inside, key: &[u8], usage: u32, purpose: MacPurpose) -> KeyBytes {
+        let mac_key = HmacSha384::new(key).derive_20(usage, purpose);
+        KeyBytes::Long(array_of(key), HmacSha384::new(&mac_key))
     }
 
     ghost is_profile = { inr refl };

@@ -8,10 +8,11 @@ ghost use Rattle.krb_cts.specs.Undo.{undo};
 ghost use Rattle.krb_enc.specs.Written.{IsWritten};
 ghost use Rattle.krb_enc.specs.Inner.KeyBytes.{value_of, IsReadyFor};
 
-use crate::derived::Derived;
-use crate::etype::{AES128_CTS_HMAC_SHA256_128, AES256_CTS_HMAC_SHA384_192};
+use crate::enctype::{Enctype, Inside};
 use crate::fault::{NotSealed, OpenFault, OpenToFault, ShortSlice};
-use crate::key::{Key, KeyBytes};
+use crate::key::{BaseKey, Key};
+use crate::key_bytes::KeyBytes;
+use crate::profiles::{Sha256Aes128, Sha384Aes256};
 use crate::tag::{Tag, are_same};
 use crate::texts::{CONFOUNDER_LEN, INITIAL_VECTOR, decrypted, encrypt_to, encrypted};
 use krb_aes::KeySchedule;
@@ -45,16 +46,25 @@ impl Key {
     pub fn for_usage(&self, usage: u32) -> UsageKey
         ensures { result ≡ record { key = self.now; usage = usage } }
     {
-        let keys = Derived::new(&self.bytes, usage);
-        UsageKey {
-            bytes: keys.key_bytes(),
-            usage,
-            schedule: keys.schedule(),
+        match &self.bytes {
+            BaseKey::Short(key) => Sha256Aes128::usage_key(Inside, key, usage),
+            BaseKey::Long(key) => Sha384Aes256::usage_key(Inside, key, usage),
         }
     }
 }
 
 impl UsageKey {
+    pub(crate) fn new(bytes: KeyBytes, usage: u32, schedule: KeySchedule) -> UsageKey
+        requires { IsReadyFor bytes usage schedule }
+        ensures { result ≡ record { key = value_of bytes; usage = usage } }
+    {
+        UsageKey {
+            bytes,
+            usage,
+            schedule,
+        }
+    }
+
     /// Returns whether these are the keys of the base key of type `etype` with the bytes `key`, for
     /// `usage`.
     ///
@@ -64,9 +74,8 @@ impl UsageKey {
             ↔ (self.now ≡ record { key = record { etype = etype; bytes = key.now }; usage = usage }) }
     {
         let is_same_key = match &self.bytes {
-            KeyBytes::Short(bytes, _) => etype == AES128_CTS_HMAC_SHA256_128
-                && are_same(bytes, key),
-            KeyBytes::Long(bytes, _) => etype == AES256_CTS_HMAC_SHA384_192 && are_same(bytes, key),
+            KeyBytes::Short(bytes, _) => etype == Sha256Aes128::ETYPE && are_same(bytes, key),
+            KeyBytes::Long(bytes, _) => etype == Sha384Aes256::ETYPE && are_same(bytes, key),
         };
         is_same_key && self.usage == usage
     }
@@ -305,10 +314,7 @@ impl UsageKey {
         ensures value { result ≡ (profile_of self.now.key).tag_len }
         ensures most { result ≤ 24 }
     {
-        match &self.bytes {
-            KeyBytes::Short(..) => 16,
-            KeyBytes::Long(..) => 24,
-        }
+        self.bytes.tag_len()
     }
 
     #[tactic(auto, unfolding(crate::specs::Sealed::tag_of, krb_kdf::specs::Hmac::hmac))]
@@ -316,9 +322,6 @@ impl UsageKey {
         ensures { result
             ≡ tag_of (profile_of self.now.key) self.now.key.bytes self.now.usage text.now }
     {
-        match &self.bytes {
-            KeyBytes::Short(_, mac) => Tag::new(&mac.code(&[&INITIAL_VECTOR, text])[..16]),
-            KeyBytes::Long(_, mac) => Tag::new(&mac.code(&[&INITIAL_VECTOR, text])[..24]),
-        }
+        self.bytes.short_mac(&[&INITIAL_VECTOR, text])
     }
 }
