@@ -1,3 +1,4 @@
 pub mod BaseKey
+pub mod Derived
 pub mod KeyBytes
 pub mod NotSealed

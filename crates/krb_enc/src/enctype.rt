@@ -1,17 +1,21 @@
 //! The trait of encryption types.
 
-ghost use Rattle.std.specs.Prelude.{◌≡◌, ◌≢◌, ◌↔◌, ◌⊎◌, ◌≤◌, ◌<◌, ◌+◌, ℕ, ℤ, List, length, All, IfOk, IsErrOf, MatchResult, take, vec_len};
+ghost use Rattle.std.specs.Prelude.{◌≡◌, ◌≢◌, ◌↔◌, ◌⊎◌, ◌≤◌, ◌<◌, ◌+◌, ℕ, ℤ, List, length, All, IfOk, IsErrOf, MatchResult, vec_len};
 ghost use Rattle.krb_aes.specs.Cipher.{IsBlock};
-ghost use Rattle.krb_kdf.specs.Hmac.{block_key};
+ghost use Rattle.krb_kdf.specs.Hmac.{block_key, joined};
 ghost use Rattle.krb_kdf.specs.Kdf.{purpose_of};
-ghost use Rattle.krb_kdf.specs.declared.purpose.Purpose.TheVariants.{Ki};
-ghost use Rattle.krb_enc.specs.Sealed.{Profile, IsProfile, encryption_key, mac_key, tag_of, checksum_of, sealed};
+ghost use Rattle.krb_kdf.specs.declared.purpose.Purpose.TheVariants.{Kc, Ki};
+ghost use Rattle.krb_enc.specs.Sealed.{Profile, IsProfile, encryption_key, mac_key, short_mac, tag_of, checksum_of, sealed};
 ghost use Rattle.krb_enc.specs.Key.{KeyValue, UsageKeyValue, numbered};
+ghost use Rattle.krb_enc.specs.Inner.BaseKey.{base_of};
+ghost use Rattle.krb_enc.specs.Inner.Derived.{key_of, integrity_of, encryption_of};
 ghost use Rattle.krb_enc.specs.Inner.KeyBytes.{value_of, mac_of};
 ghost use Rattle.krb_enc.specs.Opens.{HasTag, Opens, OpensOnlyTo, OpensToNothing};
 ghost use Rattle.krb_enc.specs.Backwards.{OpensBackOnlyTo};
 
+use crate::derived::Derived;
 use crate::fault::OpenFault;
+use crate::key::{BaseKey, Key};
 use crate::key_bytes::KeyBytes;
 use crate::tag::Tag;
 use crate::texts::INITIAL_VECTOR;
@@ -48,49 +52,53 @@ pub trait Enctype {
 
     ghost TAG_LEN: { ℕ };
 
-    /// Ki and Ke of one usage.
-    type Derived: Drop;
-
-    /// Ki.
-    ghost integrity: { Self.Derived → List ℕ };
-
-    /// Ke.
-    ghost encryption: { Self.Derived → List ℕ };
+    /// Makes a base key of these bytes.
+    fn base_key(inside: Inside, key: &[u8]) -> BaseKey
+        requires { length key.now ≡ KEY_LEN }
+        ensures { base_of result ≡ record { etype = ETYPE; bytes = key.now } };
 
     /// Derives Ki and Ke of a usage.
     ///
     /// Source: RFC 8009, section 5.
-    fn derived(inside: Inside, key: &[u8], usage: u32) -> Self::Derived
+    fn derived(inside: Inside, key: &[u8], usage: u32) -> Derived
         requires { length key.now ≡ KEY_LEN }
-        ensures integrity { integrity result ≡ mac_key profile key.now usage Ki }
-        ensures encryption { encryption result ≡ encryption_key profile key.now usage };
+        ensures key { key_of result ≡ record { etype = ETYPE; bytes = key.now } }
+        ensures integrity { integrity_of result ≡ mac_key profile key.now usage Ki }
+        ensures encryption { encryption_of result ≡ encryption_key profile key.now usage };
 
-    /// Prepares Ki as a key of HMAC.
-    fn integrity_key(inside: Inside, key: &[u8], derived: &Self::Derived) -> KeyBytes
+    /// Prepares Kc or Ki as a key of HMAC.
+    fn prepared(inside: Inside, key: &[u8], mac_key: &[u8]) -> KeyBytes
         requires { length key.now ≡ KEY_LEN }
         ensures key { value_of result ≡ record { etype = ETYPE; bytes = key.now } }
-        ensures mac { mac_of result ≡ block_key profile.hash (integrity derived.now) };
+        ensures mac { mac_of result ≡ block_key profile.hash mac_key.now };
 
     /// Expands Ke.
-    fn schedule(inside: Inside, derived: &Self::Derived) -> KeySchedule
-        ensures { result ≡ encryption derived.now };
+    fn schedule(inside: Inside, encryption_key: &[u8]) -> KeySchedule
+        requires { length encryption_key.now ≡ KEY_LEN }
+        ensures { result ≡ encryption_key.now };
 
-    /// Derives Kc or Ki of a usage, and prepares it as a key of HMAC.
+    /// Derives Kc of a usage, and prepares it as a key of HMAC.
     ///
     /// Source: RFC 8009, section 5.
-    fn mac_key(inside: Inside, key: &[u8], usage: u32, purpose: MacPurpose) -> KeyBytes
+    fn checksum_key(inside: Inside, key: &[u8], usage: u32) -> KeyBytes
         requires { length key.now ≡ KEY_LEN }
         ensures key { value_of result ≡ record { etype = ETYPE; bytes = key.now } }
-        ensures mac { mac_of result
-            ≡ block_key profile.hash (mac_key profile key.now usage (purpose_of purpose)) };
+        ensures mac { mac_of result ≡ block_key profile.hash (mac_key profile key.now usage Kc) };
 
-    /// Returns the first bytes of an HMAC, as many as a tag has.
-    final fn tag_of_code(_: Inside, code: &[u8]) -> Tag
-        requires { TAG_LEN ≤ length code.now }
-        ensures { result ≡ take TAG_LEN code.now }
-    {
-        Tag::new(&code[..Self::TAG_LEN])
-    }
+    /// Returns the first bytes of the HMAC, under Kc or Ki of a usage, of the parts joined in order: as
+    /// many as a tag has.
+    ///
+    /// Source: RFC 8009, section 5.
+    fn short_mac(
+        inside: Inside,
+        key: &[u8],
+        usage: u32,
+        purpose: MacPurpose,
+        parts: &[&[u8]],
+    ) -> Tag
+        requires { length key.now ≡ KEY_LEN }
+        ensures { result
+            ≡ short_mac profile (mac_key profile key.now usage (purpose_of purpose)) (joined parts.now) };
 
     /// Prepares the keys of a usage. Other crates use `Key::for_usage`.
     ///
@@ -99,31 +107,30 @@ pub trait Enctype {
         requires { length key.now ≡ KEY_LEN }
         ensures { result ≡ record { key = record { etype = ETYPE; bytes = key.now }; usage = usage } }
     {
-        let derived = Self::derived(Inside, key, usage);
-        let bytes = Self::integrity_key(Inside, key, &derived);
-        UsageKey::new(bytes, usage, Self::schedule(Inside, &derived))
+        let bytes = Self::base_key(Inside, key);
+        Key { bytes }.for_usage(usage)
     }
 
     /// Returns the tag of a ciphertext: 16 or 24 bytes.
     ///
     /// Source: RFC 8009, section 5.
-    #[tactic(auto, unfolding(crate::specs::Sealed::tag_of, krb_kdf::specs::Hmac::hmac))]
+    #[tactic(auto, unfolding(crate::specs::Sealed::tag_of))]
     final fn tag(key: &[u8], usage: u32, text: &[u8]) -> Tag
         requires { length key.now ≡ KEY_LEN }
         ensures { result ≡ tag_of profile key.now usage text.now }
     {
-        Self::mac_key(Inside, key, usage, MacPurpose::Ki).short_mac(&[&INITIAL_VECTOR, text])
+        Self::short_mac(Inside, key, usage, MacPurpose::Ki, &[&INITIAL_VECTOR, text])
     }
 
     /// Returns the checksum of a text: 16 or 24 bytes.
     ///
     /// Source: RFC 8009, section 6.
-    #[tactic(auto, unfolding(crate::specs::Sealed::checksum_of, krb_kdf::specs::Hmac::hmac))]
+    #[tactic(auto, unfolding(crate::specs::Sealed::checksum_of))]
     final fn checksum(key: &[u8], usage: u32, text: &[u8]) -> Tag
         requires { length key.now ≡ KEY_LEN }
         ensures { result ≡ checksum_of profile key.now usage text.now }
     {
-        Self::mac_key(Inside, key, usage, MacPurpose::Kc).short_mac(&[text])
+        Self::short_mac(Inside, key, usage, MacPurpose::Kc, &[text])
     }
 
     /// Seals `plain`: encrypts the confounder (16 random bytes, new for each call) and the plain

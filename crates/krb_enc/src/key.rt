@@ -8,14 +8,13 @@ use crate::etype::{AES128_CTS_HMAC_SHA256_128, AES256_CTS_HMAC_SHA384_192};
 use crate::fault::{KeyFault, OpenFault};
 use crate::profiles::{Sha256Aes128, Sha384Aes256};
 use crate::tag::Tag;
-use krb_kdf::MacPurpose;
 use std::alloc::{AllocError, Global};
 use std::fmt;
 use std::marker::Model;
 
-// The bytes of a base key.
+/// The bytes of a base key. Other crates can't write its name.
 #[derive(Drop)]
-pub(crate) enum BaseKey {
+pub enum BaseKey {
     Short([u8; 16]),
     Long([u8; 32]),
 }
@@ -124,8 +123,8 @@ impl Key {
         ensures { result ≡ record { key = self.now; usage = usage } }
     {
         let bytes = match &self.bytes {
-            BaseKey::Short(key) => Sha256Aes128::mac_key(Inside, key, usage, MacPurpose::Kc),
-            BaseKey::Long(key) => Sha384Aes256::mac_key(Inside, key, usage, MacPurpose::Kc),
+            BaseKey::Short(key) => Sha256Aes128::checksum_key(Inside, key, usage),
+            BaseKey::Long(key) => Sha384Aes256::checksum_key(Inside, key, usage),
         };
         ChecksumKey::new(bytes, usage)
     }
@@ -196,7 +195,10 @@ impl Key {
     pub fn checksum(&self, usage: u32, text: &[u8]) -> Tag
         ensures { result ≡ checksum_of (profile_of self.now) self.now.bytes usage text.now }
     {
-        self.for_checksums(usage).checksum(&[text])
+        match &self.bytes {
+            BaseKey::Short(key) => Sha256Aes128::checksum(key, usage, text),
+            BaseKey::Long(key) => Sha384Aes256::checksum(key, usage, text),
+        }
     }
 
     /// Returns whether `tag` is the whole checksum of `text` under this key for `usage`.

@@ -5,7 +5,7 @@ ghost use Rattle.krb_kdf.specs.Hmac.{hmac_of, joined};
 ghost use Rattle.krb_enc.specs.Key.{profile_of};
 ghost use Rattle.krb_enc.specs.Inner.KeyBytes.{value_of, mac_of};
 
-use crate::enctype::{Enctype, Inside};
+use crate::enctype::Enctype;
 use crate::profiles::{Sha256Aes128, Sha384Aes256};
 use crate::tag::Tag;
 use krb_kdf::{HmacSha256, HmacSha384};
@@ -25,8 +25,8 @@ impl KeyBytes {
             (hmac_of (profile_of (value_of self.now)).hash (mac_of self.now) (joined parts.now)) }
     {
         match self {
-            KeyBytes::Short(_, hmac) => Sha256Aes128::tag_of_code(Inside, &hmac.code(parts)),
-            KeyBytes::Long(_, hmac) => Sha384Aes256::tag_of_code(Inside, &hmac.code(parts)),
+            KeyBytes::Short(_, hmac) => Tag::new(&hmac.code(parts)[..Sha256Aes128::TAG_LEN]),
+            KeyBytes::Long(_, hmac) => Tag::new(&hmac.code(parts)[..Sha384Aes256::TAG_LEN]),
         }
     }
 

@@ -34,6 +34,7 @@
 #![tactic(auto)]
 
 mod checksum_key;
+mod derived;
 mod enctype;
 pub mod etype;
 mod fault;

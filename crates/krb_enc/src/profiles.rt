@@ -1,24 +1,17 @@
 //! The two encryption types: all that differs between them.
-//!
-//! What derives, prepares or expands keys is never inlined. So each has a stack frame of its own: one
-//! frame follows another, and their sizes don't add up.
 
 ghost use Rattle.std.specs.Prelude.{◌≡◌, ◌⊎◌, pos, refl, length};
 ghost use Rattle.std.proofs.Common.{inl, inr};
 ghost use Rattle.krb_enc.specs.Sealed.{aes128_sha256, aes256_sha384};
 
+use crate::derived::Derived;
 use crate::enctype::{Enctype, Inside};
 use crate::etype::{AES128_CTS_HMAC_SHA256_128, AES256_CTS_HMAC_SHA384_192};
+use crate::key::BaseKey;
 use crate::key_bytes::KeyBytes;
+use crate::tag::Tag;
 use krb_aes::KeySchedule;
-use krb_kdf::{HmacSha256, HmacSha384, MacPurpose, Purpose};
-
-/// Ki and Ke of one usage.
-#[derive(Drop)]
-pub struct Derived<const MAC: usize, const KEY: usize> {
-    integrity: [u8; MAC],
-    encryption: [u8; KEY],
-}
+use krb_kdf::{HmacSha256, HmacSha384, MacPurpose, Purpose, hmac_sha256, hmac_sha384};
 
 /// aes128-cts-hmac-sha256-128: AES with keys of 128 bits, and tags of 128 bits by HMAC with
 /// SHA-256.
@@ -40,37 +33,39 @@ impl Enctype for Sha256Aes128 {
 
     ghost TAG_LEN = { 16 };
 
-    type Derived = Derived<16, 16>;
-
-    ghost integrity = { λ derived. derived.integrity };
-
-    ghost encryption = { λ derived. derived.encryption };
+    fn base_key(_: Inside, key: &[u8]) -> BaseKey {
+        BaseKey::Short(array_of(key))
+    }
 
     #[tactic(auto, unfolding(krb_kdf::specs::Kdf::kdf, krb_kdf::specs::Kdf::kdf_of, krb_kdf::specs::Hmac::hmac))]
     #[inline(never)]
-    fn derived(_: Inside, key: &[u8], usage: u32) -> Derived<16, 16> {
+    fn derived(_: Inside, key: &[u8], usage: u32) -> Derived {
         let base = HmacSha256::new(key);
-        Derived {
+        Derived::Short {
+            base: array_of(key),
             integrity: base.derive_19(usage, Purpose::Ki),
             encryption: base.derive_19(usage, Purpose::Ke),
         }
     }
 
-    #[inline(never)]
-    fn integrity_key(_: Inside, key: &[u8], derived: &Derived<16, 16>) -> KeyBytes {
-        KeyBytes::Short(array_of(key), HmacSha256::new(&derived.integrity))
+    fn prepared(_: Inside, key: &[u8], mac_key: &[u8]) -> KeyBytes {
+        KeyBytes::Short(array_of(key), HmacSha256::new(mac_key))
     }
 
-    #[inline(never)]
-    fn schedule(_: Inside, derived: &Derived<16, 16>) -> KeySchedule {
-        KeySchedule::new_128(&derived.encryption)
+    fn schedule(_: Inside, encryption_key: &[u8]) -> KeySchedule {
+        KeySchedule::new_128(&array_of(encryption_key))
     }
 
     #[tactic(auto, unfolding(krb_kdf::specs::Kdf::kdf, krb_kdf::specs::Kdf::kdf_of, krb_kdf::specs::Hmac::hmac))]
-    #[inline(never)]
-    fn mac_key(_: Inside, key: &[u8], usage: u32, purpose: MacPurpose) -> KeyBytes {
+    fn checksum_key(_: Inside, key: &[u8], usage: u32) -> KeyBytes {
+        let checksum_key = HmacSha256::new(key).derive_19(usage, Purpose::Kc);
+        Self::prepared(Inside, key, &checksum_key)
+    }
+
+    #[tactic(auto, unfolding(krb_kdf::specs::Kdf::kdf, krb_kdf::specs::Kdf::kdf_of, krb_kdf::specs::Hmac::hmac))]
+    fn short_mac(_: Inside, key: &[u8], usage: u32, purpose: MacPurpose, parts: &[&[u8]]) -> Tag {
         let mac_key = HmacSha256::new(key).derive_19(usage, purpose.into());
-        KeyBytes::Short(array_of(key), HmacSha256::new(&mac_key))
+        Tag::new(&hmac_sha256(&mac_key, parts)[..Self::TAG_LEN])
     }
 
     ghost is_profile = { inl refl };
@@ -104,37 +99,39 @@ impl Enctype for Sha384Aes256 {
 
     ghost TAG_LEN = { 24 };
 
-    type Derived = Derived<24, 32>;
-
-    ghost integrity = { λ derived. derived.integrity };
-
-    ghost encryption = { λ derived. derived.encryption };
+    fn base_key(_: Inside, key: &[u8]) -> BaseKey {
+        BaseKey::Long(array_of(key))
+    }
 
     #[tactic(auto, unfolding(krb_kdf::specs::Kdf::kdf, krb_kdf::specs::Kdf::kdf_of, krb_kdf::specs::Hmac::hmac))]
     #[inline(never)]
-    fn derived(_: Inside, key: &[u8], usage: u32) -> Derived<24, 32> {
+    fn derived(_: Inside, key: &[u8], usage: u32) -> Derived {
         let base = HmacSha384::new(key);
-        Derived {
+        Derived::Long {
+            base: array_of(key),
             integrity: base.derive_20(usage, MacPurpose::Ki),
             encryption: base.derive_20_ke(usage),
         }
     }
 
-    #[inline(never)]
-    fn integrity_key(_: Inside, key: &[u8], derived: &Derived<24, 32>) -> KeyBytes {
-        KeyBytes::Long(array_of(key), HmacSha384::new(&derived.integrity))
+    fn prepared(_: Inside, key: &[u8], mac_key: &[u8]) -> KeyBytes {
+        KeyBytes::Long(array_of(key), HmacSha384::new(mac_key))
     }
 
-    #[inline(never)]
-    fn schedule(_: Inside, derived: &Derived<24, 32>) -> KeySchedule {
-        KeySchedule::new_256(&derived.encryption)
+    fn schedule(_: Inside, encryption_key: &[u8]) -> KeySchedule {
+        KeySchedule::new_256(&array_of(encryption_key))
     }
 
     #[tactic(auto, unfolding(krb_kdf::specs::Kdf::kdf, krb_kdf::specs::Kdf::kdf_of, krb_kdf::specs::Hmac::hmac))]
-    #[inline(never)]
-    fn mac_key(_: Inside, key: &[u8], usage: u32, purpose: MacPurpose) -> KeyBytes {
+    fn checksum_key(_: Inside, key: &[u8], usage: u32) -> KeyBytes {
+        let checksum_key = HmacSha384::new(key).derive_20(usage, MacPurpose::Kc);
+        Self::prepared(Inside, key, &checksum_key)
+    }
+
+    #[tactic(auto, unfolding(krb_kdf::specs::Kdf::kdf, krb_kdf::specs::Kdf::kdf_of, krb_kdf::specs::Hmac::hmac))]
+    fn short_mac(_: Inside, key: &[u8], usage: u32, purpose: MacPurpose, parts: &[&[u8]]) -> Tag {
         let mac_key = HmacSha384::new(key).derive_20(usage, purpose);
-        KeyBytes::Long(array_of(key), HmacSha384::new(&mac_key))
+        Tag::new(&hmac_sha384(&mac_key, parts)[..Self::TAG_LEN])
     }
 
     ghost is_profile = { inr refl };

@@ -8,9 +8,10 @@ ghost use Rattle.krb_cts.specs.Undo.{undo};
 ghost use Rattle.krb_enc.specs.Written.{IsWritten};
 ghost use Rattle.krb_enc.specs.Inner.KeyBytes.{value_of, IsReadyFor};
 
-use crate::enctype::{Enctype, Inside};
+use crate::derived::Derived;
+use crate::enctype::Enctype;
 use crate::fault::{NotSealed, OpenFault, OpenToFault, ShortSlice};
-use crate::key::{BaseKey, Key};
+use crate::key::Key;
 use crate::key_bytes::KeyBytes;
 use crate::profiles::{Sha256Aes128, Sha384Aes256};
 use crate::tag::{Tag, are_same};
@@ -46,25 +47,16 @@ impl Key {
     pub fn for_usage(&self, usage: u32) -> UsageKey
         ensures { result ≡ record { key = self.now; usage = usage } }
     {
-        match &self.bytes {
-            BaseKey::Short(key) => Sha256Aes128::usage_key(Inside, key, usage),
-            BaseKey::Long(key) => Sha384Aes256::usage_key(Inside, key, usage),
+        let keys = Derived::new(&self.bytes, usage);
+        UsageKey {
+            bytes: keys.key_bytes(),
+            usage,
+            schedule: keys.schedule(),
         }
     }
 }
 
 impl UsageKey {
-    pub(crate) fn new(bytes: KeyBytes, usage: u32, schedule: KeySchedule) -> UsageKey
-        requires { IsReadyFor bytes usage schedule }
-        ensures { result ≡ record { key = value_of bytes; usage = usage } }
-    {
-        UsageKey {
-            bytes,
-            usage,
-            schedule,
-        }
-    }
-
     /// Returns whether these are the keys of the base key of type `etype` with the bytes `key`, for
     /// `usage`.
     ///
