@@ -1,13 +1,13 @@
 //! The keys that are derived from a base key for one key usage (RFC 8009, section 5).
 //!
-//! Each step is a function with a stack frame of its own, so that one frame follows another and their
-//! sizes don't add up.
+//! What derives, prepares or expands keys is never inlined: each step has a stack frame of its own, so
+//! that one frame follows another and their sizes don't add up.
 
 ghost use Rattle.std.specs.Prelude.{◌≡◌};
 ghost use Rattle.krb_kdf.specs.Hmac.{block_key};
 ghost use Rattle.krb_kdf.specs.declared.purpose.Purpose.TheVariants.{Ki};
 ghost use Rattle.krb_enc.specs.Sealed.{encryption_key, mac_key};
-ghost use Rattle.krb_enc.specs.Key.{profile_of, IsUsable};
+ghost use Rattle.krb_enc.specs.Key.{profile_of};
 ghost use Rattle.krb_enc.specs.Inner.BaseKey.{base_of};
 ghost use Rattle.krb_enc.specs.Inner.Derived.{key_of, integrity_of, encryption_of};
 ghost use Rattle.krb_enc.specs.Inner.KeyBytes.{value_of, mac_of};
@@ -16,7 +16,6 @@ use crate::enctype::{Enctype, Inside};
 use crate::key::BaseKey;
 use crate::key_bytes::KeyBytes;
 use crate::profiles::{Sha256Aes128, Sha384Aes256};
-use krb_aes::KeySchedule;
 
 /// A base key, and its keys Ki and Ke of one usage. Other crates can't write its name.
 #[derive(Drop)]
@@ -66,17 +65,6 @@ impl Derived {
                 integrity,
                 ..
             } => Sha384Aes256::prepared(Inside, base, integrity),
-        }
-    }
-
-    /// Expands Ke.
-    #[inline(never)]
-    pub(crate) fn schedule(&self) -> KeySchedule
-        ensures { result ≡ encryption_of self.now }
-    {
-        match self {
-            Derived::Short { encryption, .. } => Sha256Aes128::schedule(Inside, encryption),
-            Derived::Long { encryption, .. } => Sha384Aes256::schedule(Inside, encryption),
         }
     }
 }

@@ -52,6 +52,7 @@ impl Enctype for Sha256Aes128 {
         KeyBytes::Short(array_of(key), HmacSha256::new(mac_key))
     }
 
+    #[inline(never)]
     fn schedule(_: Inside, encryption_key: &[u8]) -> KeySchedule {
         KeySchedule::new_128(&array_of(encryption_key))
     }
@@ -118,6 +119,7 @@ impl Enctype for Sha384Aes256 {
         KeyBytes::Long(array_of(key), HmacSha384::new(mac_key))
     }
 
+    #[inline(never)]
     fn schedule(_: Inside, encryption_key: &[u8]) -> KeySchedule {
         KeySchedule::new_256(&array_of(encryption_key))
     }

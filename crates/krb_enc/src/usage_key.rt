@@ -9,7 +9,7 @@ ghost use Rattle.krb_enc.specs.Written.{IsWritten};
 ghost use Rattle.krb_enc.specs.Inner.KeyBytes.{value_of, IsReadyFor};
 
 use crate::derived::Derived;
-use crate::enctype::Enctype;
+use crate::enctype::{Enctype, Inside};
 use crate::fault::{NotSealed, OpenFault, OpenToFault, ShortSlice};
 use crate::key::Key;
 use crate::key_bytes::KeyBytes;
@@ -51,7 +51,11 @@ impl Key {
         UsageKey {
             bytes: keys.key_bytes(),
             usage,
-            schedule: keys.schedule(),
+            // (A function that chose would hold the schedule once more on the stack.)
+            schedule: match &keys {
+                Derived::Short { encryption, .. } => Sha256Aes128::schedule(Inside, encryption),
+                Derived::Long { encryption, .. } => Sha384Aes256::schedule(Inside, encryption),
+            },
         }
     }
 }
