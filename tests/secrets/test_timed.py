@@ -24,8 +24,8 @@ TABLES = {
     "krb_aes::lanes::decrypt_two_blocks",
     "krb_aes::schedule::KeySchedule::decrypt_block",
     "krb_aes::schedule::KeySchedule::encrypt_block",
-    "krb_enc::derived::expanded_128",
-    "krb_enc::derived::expanded_256",
+    "krb_enc::profiles::Sha256Aes128Enctype::schedule",
+    "krb_enc::profiles::Sha384Aes256Enctype::schedule",
 }
 STEPS = 62
 

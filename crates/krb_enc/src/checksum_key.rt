@@ -6,7 +6,7 @@ ghost use Rattle.krb_enc.specs.Key.{UsageKeyValue, profile_of};
 ghost use Rattle.krb_enc.specs.Sealed.{checksum_of};
 ghost use Rattle.krb_enc.specs.Inner.KeyBytes.{value_of, IsReadyForChecksums};
 
-use crate::key::KeyBytes;
+use crate::key_bytes::KeyBytes;
 use crate::tag::Tag;
 use std::marker::Model;
 
@@ -47,10 +47,7 @@ impl ChecksumKey {
         ensures { result
             ≡ checksum_of (profile_of self.now.key) self.now.key.bytes self.now.usage (joined parts.now) }
     {
-        match &self.bytes {
-            KeyBytes::Short(_, mac) => Tag::new(&mac.code(parts)[..16]),
-            KeyBytes::Long(_, mac) => Tag::new(&mac.code(parts)[..24]),
-        }
+        self.bytes.short_mac(parts)
     }
 
     /// Returns whether `tag` is the whole checksum of the parts joined in order. Compares all bytes,

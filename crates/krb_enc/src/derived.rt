@@ -1,18 +1,25 @@
 //! The keys that are derived from a base key for one key usage (RFC 8009, section 5).
 //!
-//! Each step is a function with a stack frame of its own, so that one frame follows another and their
-//! sizes don't add up.
+//! What derives, prepares or expands keys is never inlined: each step has a stack frame of its own, so
+//! that one frame follows another and their sizes don't add up.
 
 ghost use Rattle.std.specs.Prelude.{◌≡◌};
-ghost use Rattle.krb_enc.specs.Inner.Derived.{derived_of, encryption_of, held_of};
+ghost use Rattle.krb_kdf.specs.Hmac.{block_key};
+ghost use Rattle.krb_kdf.specs.declared.purpose.Purpose.TheVariants.{Ki};
+ghost use Rattle.krb_enc.specs.Sealed.{encryption_key, mac_key};
+ghost use Rattle.krb_enc.specs.Key.{profile_of};
+ghost use Rattle.krb_enc.specs.Inner.BaseKey.{base_of};
+ghost use Rattle.krb_enc.specs.Inner.Derived.{key_of, integrity_of, encryption_of};
+ghost use Rattle.krb_enc.specs.Inner.KeyBytes.{value_of, mac_of};
 
-use crate::key::{BaseKey, KeyBytes};
-use krb_aes::KeySchedule;
-use krb_kdf::{HmacSha256, HmacSha384, MacPurpose, Purpose};
+use crate::enctype::{Enctype, Inside};
+use crate::key::BaseKey;
+use crate::key_bytes::KeyBytes;
+use crate::profiles::{Sha256Aes128, Sha384Aes256};
 
-/// A base key, and its keys Ki and Ke of one usage.
+/// A base key, and its keys Ki and Ke of one usage. Other crates can't write its name.
 #[derive(Drop)]
-pub(crate) enum Derived {
+pub enum Derived {
     Short {
         base: [u8; 16],
         integrity: [u8; 16],
@@ -28,82 +35,36 @@ pub(crate) enum Derived {
 impl Derived {
     /// Derives Ki and Ke of a usage.
     pub(crate) fn new(key: &BaseKey, usage: u32) -> Derived
-        ensures { result ≡ derived_of key.now usage }
+        ensures key { key_of result ≡ base_of key.now }
+        ensures integrity { integrity_of result
+            ≡ mac_key (profile_of (base_of key.now)) (base_of key.now).bytes usage Ki }
+        ensures encryption { encryption_of result
+            ≡ encryption_key (profile_of (base_of key.now)) (base_of key.now).bytes usage }
     {
         match key {
-            BaseKey::Short(base) => Derived::short(base, usage),
-            BaseKey::Long(base) => Derived::long(base, usage),
+            BaseKey::Short(key) => Sha256Aes128::derived(Inside, key, usage),
+            BaseKey::Long(key) => Sha384Aes256::derived(Inside, key, usage),
         }
     }
 
-    #[tactic(auto, unfolding(krb_kdf::specs::Kdf::kdf, krb_kdf::specs::Kdf::kdf_of, krb_kdf::specs::Hmac::hmac))]
-    #[inline(never)]
-    fn short(base: &[u8; 16], usage: u32) -> Derived
-        ensures { result ≡ derived_of (BaseKey.Short base.now) usage }
-    {
-        let key = HmacSha256::new(base);
-        Derived::Short {
-            base: *base,
-            integrity: key.derive_19(usage, Purpose::Ki),
-            encryption: key.derive_19(usage, Purpose::Ke),
-        }
-    }
-
-    #[tactic(auto, unfolding(krb_kdf::specs::Kdf::kdf, krb_kdf::specs::Kdf::kdf_of, krb_kdf::specs::Hmac::hmac))]
-    #[inline(never)]
-    fn long(base: &[u8; 32], usage: u32) -> Derived
-        ensures { result ≡ derived_of (BaseKey.Long base.now) usage }
-    {
-        let key = HmacSha384::new(base);
-        Derived::Long {
-            base: *base,
-            integrity: key.derive_20(usage, MacPurpose::Ki),
-            encryption: key.derive_20_ke(usage),
-        }
-    }
-
-    /// Makes Ki ready as a key of HMAC.
+    /// Prepares Ki as a key of HMAC.
     #[inline(never)]
     pub(crate) fn key_bytes(&self) -> KeyBytes
-        ensures { result ≡ held_of self.now }
+        ensures key { value_of result ≡ key_of self.now }
+        ensures mac { mac_of result
+            ≡ block_key (profile_of (key_of self.now)).hash (integrity_of self.now) }
     {
         match self {
             Derived::Short {
                 base,
                 integrity,
                 ..
-            } => { KeyBytes::Short(*base, HmacSha256::new(integrity)) }
+            } => Sha256Aes128::prepared(Inside, base, integrity),
             Derived::Long {
                 base,
                 integrity,
                 ..
-            } => { KeyBytes::Long(*base, HmacSha384::new(integrity)) }
+            } => Sha384Aes256::prepared(Inside, base, integrity),
         }
     }
-
-    /// Expands Ke.
-    #[inline(never)]
-    pub(crate) fn schedule(&self) -> KeySchedule
-        ensures { result ≡ encryption_of self.now }
-    {
-        match self {
-            Derived::Short { encryption, .. } => expanded_128(encryption),
-            Derived::Long { encryption, .. } => expanded_256(encryption),
-        }
-    }
-}
-
-// Each expansion has a stack frame of its own, so a call needs room for one of them.
-#[inline(never)]
-fn expanded_128(key: &[u8; 16]) -> KeySchedule
-    ensures { result ≡ key.now }
-{
-    KeySchedule::new_128(key)
-}
-
-#[inline(never)]
-fn expanded_256(key: &[u8; 32]) -> KeySchedule
-    ensures { result ≡ key.now }
-{
-    KeySchedule::new_256(key)
 }

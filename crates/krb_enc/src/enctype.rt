@@ -2,22 +2,37 @@
 
 ghost use Rattle.std.specs.Prelude.{◌≡◌, ◌≢◌, ◌↔◌, ◌⊎◌, ◌≤◌, ◌<◌, ◌+◌, ℕ, ℤ, List, length, All, IfOk, IsErrOf, MatchResult, vec_len};
 ghost use Rattle.krb_aes.specs.Cipher.{IsBlock};
-ghost use Rattle.krb_enc.specs.Sealed.{Profile, IsProfile, tag_of, checksum_of, sealed};
+ghost use Rattle.krb_kdf.specs.Hmac.{block_key, joined};
+ghost use Rattle.krb_kdf.specs.Kdf.{purpose_of};
+ghost use Rattle.krb_kdf.specs.declared.purpose.Purpose.TheVariants.{Kc, Ki};
+ghost use Rattle.krb_enc.specs.Sealed.{Profile, IsProfile, encryption_key, mac_key, short_mac, tag_of, checksum_of, sealed};
 ghost use Rattle.krb_enc.specs.Key.{KeyValue, UsageKeyValue, numbered};
+ghost use Rattle.krb_enc.specs.Inner.BaseKey.{base_of};
+ghost use Rattle.krb_enc.specs.Inner.Derived.{key_of, integrity_of, encryption_of};
+ghost use Rattle.krb_enc.specs.Inner.KeyBytes.{value_of, mac_of};
 ghost use Rattle.krb_enc.specs.Opens.{HasTag, Opens, OpensOnlyTo, OpensToNothing};
 ghost use Rattle.krb_enc.specs.Backwards.{OpensBackOnlyTo};
 
+use crate::derived::Derived;
 use crate::fault::OpenFault;
+use crate::key::{BaseKey, Key};
+use crate::key_bytes::KeyBytes;
 use crate::tag::Tag;
+use crate::texts::INITIAL_VECTOR;
 use crate::usage_key::UsageKey;
+use krb_aes::KeySchedule;
+use krb_kdf::MacPurpose;
 use std::alloc::{AllocError, Global};
 
-/// A token that only this crate can make, because other crates can't write its name.
+/// A token that only this crate can make, because other crates can't write its name. What takes it
+/// is called only here.
 #[derive(Clone, Copy)]
 pub struct Inside;
 
-/// An encryption type of RFC 8009. Its calls take the bytes of a base key, which must be `KEY_LEN`
-/// long.
+/// An encryption type of RFC 8009: what differs between the two types, and what is made of it for
+/// both. Its calls take the bytes of a base key, which must be `KEY_LEN` long.
+///
+/// Other crates can't implement the trait.
 pub trait Enctype {
     /// The type's number (RFC 8009, section 7).
     const ETYPE: i32;
@@ -37,27 +52,86 @@ pub trait Enctype {
 
     ghost TAG_LEN: { ℕ };
 
-    /// Prepares the keys of a usage. Only this crate can call it; other crates use
-    /// `Key::for_usage`.
+    /// Makes a base key of these bytes.
+    fn base_key(inside: Inside, key: &[u8]) -> BaseKey
+        requires { length key.now ≡ KEY_LEN }
+        ensures { base_of result ≡ record { etype = ETYPE; bytes = key.now } };
+
+    /// Derives Ki and Ke of a usage.
     ///
     /// Source: RFC 8009, section 5.
-    fn usage_key(inside: Inside, key: &[u8], usage: u32) -> UsageKey
+    fn derived(inside: Inside, key: &[u8], usage: u32) -> Derived
         requires { length key.now ≡ KEY_LEN }
-        ensures { result ≡ record { key = record { etype = ETYPE; bytes = key.now }; usage = usage } };
+        ensures key { key_of result ≡ record { etype = ETYPE; bytes = key.now } }
+        ensures integrity { integrity_of result ≡ mac_key profile key.now usage Ki }
+        ensures encryption { encryption_of result ≡ encryption_key profile key.now usage };
+
+    /// Prepares Kc or Ki as a key of HMAC.
+    fn prepared(inside: Inside, key: &[u8], mac_key: &[u8]) -> KeyBytes
+        requires { length key.now ≡ KEY_LEN }
+        ensures key { value_of result ≡ record { etype = ETYPE; bytes = key.now } }
+        ensures mac { mac_of result ≡ block_key profile.hash mac_key.now };
+
+    /// Expands Ke.
+    fn schedule(inside: Inside, encryption_key: &[u8]) -> KeySchedule
+        requires { length encryption_key.now ≡ KEY_LEN }
+        ensures { result ≡ encryption_key.now };
+
+    /// Derives Kc of a usage, and prepares it as a key of HMAC.
+    ///
+    /// Source: RFC 8009, section 5.
+    fn checksum_key(inside: Inside, key: &[u8], usage: u32) -> KeyBytes
+        requires { length key.now ≡ KEY_LEN }
+        ensures key { value_of result ≡ record { etype = ETYPE; bytes = key.now } }
+        ensures mac { mac_of result ≡ block_key profile.hash (mac_key profile key.now usage Kc) };
+
+    /// Returns the first bytes of the HMAC, under Kc or Ki of a usage, of the parts joined in order: as
+    /// many as a tag has.
+    ///
+    /// Source: RFC 8009, section 5.
+    fn short_mac(
+        inside: Inside,
+        key: &[u8],
+        usage: u32,
+        purpose: MacPurpose,
+        parts: &[&[u8]],
+    ) -> Tag
+        requires { length key.now ≡ KEY_LEN }
+        ensures { result
+            ≡ short_mac profile (mac_key profile key.now usage (purpose_of purpose)) (joined parts.now) };
+
+    /// Prepares the keys of a usage. Other crates use `Key::for_usage`.
+    ///
+    /// Source: RFC 8009, section 5.
+    final fn usage_key(_: Inside, key: &[u8], usage: u32) -> UsageKey
+        requires { length key.now ≡ KEY_LEN }
+        ensures { result ≡ record { key = record { etype = ETYPE; bytes = key.now }; usage = usage } }
+    {
+        let bytes = Self::base_key(Inside, key);
+        Key { bytes }.for_usage(usage)
+    }
 
     /// Returns the tag of a ciphertext: 16 or 24 bytes.
     ///
     /// Source: RFC 8009, section 5.
-    fn tag(key: &[u8], usage: u32, text: &[u8]) -> Tag
+    #[tactic(auto, unfolding(crate::specs::Sealed::tag_of))]
+    final fn tag(key: &[u8], usage: u32, text: &[u8]) -> Tag
         requires { length key.now ≡ KEY_LEN }
-        ensures { result ≡ tag_of profile key.now usage text.now };
+        ensures { result ≡ tag_of profile key.now usage text.now }
+    {
+        Self::short_mac(Inside, key, usage, MacPurpose::Ki, &[&INITIAL_VECTOR, text])
+    }
 
     /// Returns the checksum of a text: 16 or 24 bytes.
     ///
     /// Source: RFC 8009, section 6.
-    fn checksum(key: &[u8], usage: u32, text: &[u8]) -> Tag
+    #[tactic(auto, unfolding(crate::specs::Sealed::checksum_of))]
+    final fn checksum(key: &[u8], usage: u32, text: &[u8]) -> Tag
         requires { length key.now ≡ KEY_LEN }
-        ensures { result ≡ checksum_of profile key.now usage text.now };
+        ensures { result ≡ checksum_of profile key.now usage text.now }
+    {
+        Self::short_mac(Inside, key, usage, MacPurpose::Kc, &[text])
+    }
 
     /// Seals `plain`: encrypts the confounder (16 random bytes, new for each call) and the plain
     /// text, and appends the tag.

@@ -3,28 +3,20 @@
 ghost use Rattle.std.specs.Prelude.{◌≡◌, ◌↔◌, ◌⊎◌, ◌≤◌, ◌<◌, ◌+◌, ℕ, List, length, vec_len, Some, IsTrue, IfOk, IsOk, IsErrOf, MatchResult};
 
 use crate::checksum_key::ChecksumKey;
-use crate::enctype::Enctype;
+use crate::enctype::{Enctype, Inside};
 use crate::etype::{AES128_CTS_HMAC_SHA256_128, AES256_CTS_HMAC_SHA384_192};
 use crate::fault::{KeyFault, OpenFault};
 use crate::profiles::{Sha256Aes128, Sha384Aes256};
 use crate::tag::Tag;
-use krb_kdf::{HmacSha256, HmacSha384, MacPurpose, Purpose, hmac_sha256, hmac_sha384};
 use std::alloc::{AllocError, Global};
 use std::fmt;
 use std::marker::Model;
 
-// The bytes of a base key.
+/// The bytes of a base key. Other crates can't write its name.
 #[derive(Drop)]
-pub(crate) enum BaseKey {
+pub enum BaseKey {
     Short([u8; 16]),
     Long([u8; 32]),
-}
-
-// The bytes of a base key, and a key of HMAC with its type's hash function, made ready.
-#[derive(Drop)]
-pub(crate) enum KeyBytes {
-    Short([u8; 16], HmacSha256),
-    Long([u8; 32], HmacSha384),
 }
 
 /// A base key of one of the two encryption types: 16 bytes of type 19 (aes128-cts-hmac-sha256-128)
@@ -127,19 +119,12 @@ impl Key {
     /// Prepares the key of checksums of `usage`, for many texts.
     ///
     /// Source: RFC 8009, section 6.
-    #[tactic(auto, unfolding(krb_kdf::specs::Kdf::kdf, krb_kdf::specs::Kdf::kdf_of, krb_kdf::specs::Hmac::hmac))]
     pub fn for_checksums(&self, usage: u32) -> ChecksumKey
         ensures { result ≡ record { key = self.now; usage = usage } }
     {
         let bytes = match &self.bytes {
-            BaseKey::Short(bytes) => {
-                let checksum_key = HmacSha256::new(bytes).derive_19(usage, Purpose::Kc);
-                KeyBytes::Short(*bytes, HmacSha256::new(&checksum_key))
-            }
-            BaseKey::Long(bytes) => {
-                let checksum_key = HmacSha384::new(bytes).derive_20(usage, MacPurpose::Kc);
-                KeyBytes::Long(*bytes, HmacSha384::new(&checksum_key))
-            }
+            BaseKey::Short(key) => Sha256Aes128::checksum_key(Inside, key, usage),
+            BaseKey::Long(key) => Sha384Aes256::checksum_key(Inside, key, usage),
         };
         ChecksumKey::new(bytes, usage)
     }
@@ -207,19 +192,12 @@ impl Key {
     /// 20).
     ///
     /// Source: RFC 8009, section 6.
-    #[tactic(auto, unfolding(crate::specs::Sealed::checksum_of, krb_kdf::specs::Kdf::kdf, krb_kdf::specs::Kdf::kdf_of, krb_kdf::specs::Hmac::hmac))]
     pub fn checksum(&self, usage: u32, text: &[u8]) -> Tag
         ensures { result ≡ checksum_of (profile_of self.now) self.now.bytes usage text.now }
     {
         match &self.bytes {
-            BaseKey::Short(bytes) => {
-                let checksum_key = HmacSha256::new(bytes).derive_19(usage, Purpose::Kc);
-                Tag::new(&hmac_sha256(&checksum_key, &[text])[..16])
-            }
-            BaseKey::Long(bytes) => {
-                let checksum_key = HmacSha384::new(bytes).derive_20(usage, MacPurpose::Kc);
-                Tag::new(&hmac_sha384(&checksum_key, &[text])[..24])
-            }
+            BaseKey::Short(key) => Sha256Aes128::checksum(key, usage, text),
+            BaseKey::Long(key) => Sha384Aes256::checksum(key, usage, text),
         }
     }
 

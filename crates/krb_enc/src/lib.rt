@@ -39,6 +39,7 @@ mod enctype;
 pub mod etype;
 mod fault;
 mod key;
+mod key_bytes;
 pub mod laws;
 mod profiles;
 mod tag;

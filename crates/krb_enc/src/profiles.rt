@@ -1,16 +1,17 @@
-//! The two encryption types.
+//! The two encryption types: all that differs between them.
 
 ghost use Rattle.std.specs.Prelude.{◌≡◌, ◌⊎◌, pos, refl, length};
 ghost use Rattle.std.proofs.Common.{inl, inr};
 ghost use Rattle.krb_enc.specs.Sealed.{aes128_sha256, aes256_sha384};
 
+use crate::derived::Derived;
 use crate::enctype::{Enctype, Inside};
 use crate::etype::{AES128_CTS_HMAC_SHA256_128, AES256_CTS_HMAC_SHA384_192};
-use crate::key::{BaseKey, Key};
+use crate::key::BaseKey;
+use crate::key_bytes::KeyBytes;
 use crate::tag::Tag;
-use crate::texts::INITIAL_VECTOR;
-use crate::usage_key::UsageKey;
-use krb_kdf::{MacPurpose, Purpose, derive_19, derive_20, hmac_sha256, hmac_sha384};
+use krb_aes::KeySchedule;
+use krb_kdf::{HmacSha256, HmacSha384, MacPurpose, Purpose, hmac_sha256, hmac_sha384};
 
 /// aes128-cts-hmac-sha256-128: AES with keys of 128 bits, and tags of 128 bits by HMAC with
 /// SHA-256.
@@ -32,21 +33,40 @@ impl Enctype for Sha256Aes128 {
 
     ghost TAG_LEN = { 16 };
 
-    fn usage_key(_: Inside, key: &[u8], usage: u32) -> UsageKey {
-        let bytes = BaseKey::Short(array_of(key));
-        Key { bytes }.for_usage(usage)
+    fn base_key(_: Inside, key: &[u8]) -> BaseKey {
+        BaseKey::Short(array_of(key))
     }
 
-    #[tactic(auto, unfolding(crate::specs::Sealed::tag_of))]
-    fn tag(key: &[u8], usage: u32, text: &[u8]) -> Tag {
-        let integrity_key = derive_19(&array_of(key), usage, Purpose::Ki);
-        Tag::new(&hmac_sha256(&integrity_key, &[&INITIAL_VECTOR, text])[..16])
+    #[tactic(auto, unfolding(krb_kdf::specs::Kdf::kdf, krb_kdf::specs::Kdf::kdf_of, krb_kdf::specs::Hmac::hmac))]
+    #[inline(never)]
+    fn derived(_: Inside, key: &[u8], usage: u32) -> Derived {
+        let base = HmacSha256::new(key);
+        Derived::Short {
+            base: array_of(key),
+            integrity: base.derive_19(usage, Purpose::Ki),
+            encryption: base.derive_19(usage, Purpose::Ke),
+        }
     }
 
-    #[tactic(auto, unfolding(crate::specs::Sealed::checksum_of))]
-    fn checksum(key: &[u8], usage: u32, text: &[u8]) -> Tag {
-        let checksum_key = derive_19(&array_of(key), usage, Purpose::Kc);
-        Tag::new(&hmac_sha256(&checksum_key, &[text])[..16])
+    fn prepared(_: Inside, key: &[u8], mac_key: &[u8]) -> KeyBytes {
+        KeyBytes::Short(array_of(key), HmacSha256::new(mac_key))
+    }
+
+    #[inline(never)]
+    fn schedule(_: Inside, encryption_key: &[u8]) -> KeySchedule {
+        KeySchedule::new_128(&array_of(encryption_key))
+    }
+
+    #[tactic(auto, unfolding(krb_kdf::specs::Kdf::kdf, krb_kdf::specs::Kdf::kdf_of, krb_kdf::specs::Hmac::hmac))]
+    fn checksum_key(_: Inside, key: &[u8], usage: u32) -> KeyBytes {
+        let checksum_key = HmacSha256::new(key).derive_19(usage, Purpose::Kc);
+        Self::prepared(Inside, key, &checksum_key)
+    }
+
+    #[tactic(auto, unfolding(krb_kdf::specs::Kdf::kdf, krb_kdf::specs::Kdf::kdf_of, krb_kdf::specs::Hmac::hmac))]
+    fn short_mac(_: Inside, key: &[u8], usage: u32, purpose: MacPurpose, parts: &[&[u8]]) -> Tag {
+        let mac_key = HmacSha256::new(key).derive_19(usage, purpose.into());
+        Tag::new(&hmac_sha256(&mac_key, parts)[..Self::TAG_LEN])
     }
 
     ghost is_profile = { inl refl };
@@ -80,21 +100,40 @@ impl Enctype for Sha384Aes256 {
 
     ghost TAG_LEN = { 24 };
 
-    fn usage_key(_: Inside, key: &[u8], usage: u32) -> UsageKey {
-        let bytes = BaseKey::Long(array_of(key));
-        Key { bytes }.for_usage(usage)
+    fn base_key(_: Inside, key: &[u8]) -> BaseKey {
+        BaseKey::Long(array_of(key))
     }
 
-    #[tactic(auto, unfolding(crate::specs::Sealed::tag_of))]
-    fn tag(key: &[u8], usage: u32, text: &[u8]) -> Tag {
-        let integrity_key = derive_20(&array_of(key), usage, MacPurpose::Ki);
-        Tag::new(&hmac_sha384(&integrity_key, &[&INITIAL_VECTOR, text])[..24])
+    #[tactic(auto, unfolding(krb_kdf::specs::Kdf::kdf, krb_kdf::specs::Kdf::kdf_of, krb_kdf::specs::Hmac::hmac))]
+    #[inline(never)]
+    fn derived(_: Inside, key: &[u8], usage: u32) -> Derived {
+        let base = HmacSha384::new(key);
+        Derived::Long {
+            base: array_of(key),
+            integrity: base.derive_20(usage, MacPurpose::Ki),
+            encryption: base.derive_20_ke(usage),
+        }
     }
 
-    #[tactic(auto, unfolding(crate::specs::Sealed::checksum_of))]
-    fn checksum(key: &[u8], usage: u32, text: &[u8]) -> Tag {
-        let checksum_key = derive_20(&array_of(key), usage, MacPurpose::Kc);
-        Tag::new(&hmac_sha384(&checksum_key, &[text])[..24])
+    fn prepared(_: Inside, key: &[u8], mac_key: &[u8]) -> KeyBytes {
+        KeyBytes::Long(array_of(key), HmacSha384::new(mac_key))
+    }
+
+    #[inline(never)]
+    fn schedule(_: Inside, encryption_key: &[u8]) -> KeySchedule {
+        KeySchedule::new_256(&array_of(encryption_key))
+    }
+
+    #[tactic(auto, unfolding(krb_kdf::specs::Kdf::kdf, krb_kdf::specs::Kdf::kdf_of, krb_kdf::specs::Hmac::hmac))]
+    fn checksum_key(_: Inside, key: &[u8], usage: u32) -> KeyBytes {
+        let checksum_key = HmacSha384::new(key).derive_20(usage, MacPurpose::Kc);
+        Self::prepared(Inside, key, &checksum_key)
+    }
+
+    #[tactic(auto, unfolding(krb_kdf::specs::Kdf::kdf, krb_kdf::specs::Kdf::kdf_of, krb_kdf::specs::Hmac::hmac))]
+    fn short_mac(_: Inside, key: &[u8], usage: u32, purpose: MacPurpose, parts: &[&[u8]]) -> Tag {
+        let mac_key = HmacSha384::new(key).derive_20(usage, purpose);
+        Tag::new(&hmac_sha384(&mac_key, parts)[..Self::TAG_LEN])
     }
 
     ghost is_profile = { inr refl };

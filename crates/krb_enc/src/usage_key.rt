@@ -9,9 +9,11 @@ ghost use Rattle.krb_enc.specs.Written.{IsWritten};
 ghost use Rattle.krb_enc.specs.Inner.KeyBytes.{value_of, IsReadyFor};
 
 use crate::derived::Derived;
-use crate::etype::{AES128_CTS_HMAC_SHA256_128, AES256_CTS_HMAC_SHA384_192};
+use crate::enctype::{Enctype, Inside};
 use crate::fault::{NotSealed, OpenFault, OpenToFault, ShortSlice};
-use crate::key::{Key, KeyBytes};
+use crate::key::Key;
+use crate::key_bytes::KeyBytes;
+use crate::profiles::{Sha256Aes128, Sha384Aes256};
 use crate::tag::{Tag, are_same};
 use crate::texts::{CONFOUNDER_LEN, INITIAL_VECTOR, decrypted, encrypt_to, encrypted};
 use krb_aes::KeySchedule;
@@ -49,7 +51,11 @@ impl Key {
         UsageKey {
             bytes: keys.key_bytes(),
             usage,
-            schedule: keys.schedule(),
+            // (A function that chose would hold the schedule once more on the stack.)
+            schedule: match &keys {
+                Derived::Short { encryption, .. } => Sha256Aes128::schedule(Inside, encryption),
+                Derived::Long { encryption, .. } => Sha384Aes256::schedule(Inside, encryption),
+            },
         }
     }
 }
@@ -64,9 +70,8 @@ impl UsageKey {
             ↔ (self.now ≡ record { key = record { etype = etype; bytes = key.now }; usage = usage }) }
     {
         let is_same_key = match &self.bytes {
-            KeyBytes::Short(bytes, _) => etype == AES128_CTS_HMAC_SHA256_128
-                && are_same(bytes, key),
-            KeyBytes::Long(bytes, _) => etype == AES256_CTS_HMAC_SHA384_192 && are_same(bytes, key),
+            KeyBytes::Short(bytes, _) => etype == Sha256Aes128::ETYPE && are_same(bytes, key),
+            KeyBytes::Long(bytes, _) => etype == Sha384Aes256::ETYPE && are_same(bytes, key),
         };
         is_same_key && self.usage == usage
     }
@@ -305,10 +310,7 @@ impl UsageKey {
         ensures value { result ≡ (profile_of self.now.key).tag_len }
         ensures most { result ≤ 24 }
     {
-        match &self.bytes {
-            KeyBytes::Short(..) => 16,
-            KeyBytes::Long(..) => 24,
-        }
+        self.bytes.tag_len()
     }
 
     #[tactic(auto, unfolding(crate::specs::Sealed::tag_of, krb_kdf::specs::Hmac::hmac))]
@@ -316,9 +318,6 @@ impl UsageKey {
         ensures { result
             ≡ tag_of (profile_of self.now.key) self.now.key.bytes self.now.usage text.now }
     {
-        match &self.bytes {
-            KeyBytes::Short(_, mac) => Tag::new(&mac.code(&[&INITIAL_VECTOR, text])[..16]),
-            KeyBytes::Long(_, mac) => Tag::new(&mac.code(&[&INITIAL_VECTOR, text])[..24]),
-        }
+        self.bytes.short_mac(&[&INITIAL_VECTOR, text])
     }
 }

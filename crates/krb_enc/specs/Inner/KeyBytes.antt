@@ -4,8 +4,8 @@ use Rattle.krb_kdf.specs.Hmac.{block_key}
 use Rattle.krb_kdf.specs.declared.purpose.Purpose.TheVariants.{Kc, Ki}
 use Rattle.krb_enc.specs.Sealed.{encryption_key, mac_key}
 use Rattle.krb_enc.specs.Key.{KeyValue, IsUsable, profile_of}
-use Rattle.krb_enc.specs.declared.key.KeyBytes.{KeyBytes}
-use Rattle.krb_enc.specs.declared.key.KeyBytes.TheVariants.{Short, Long}
+use Rattle.krb_enc.specs.declared.key_bytes.KeyBytes.{KeyBytes}
+use Rattle.krb_enc.specs.declared.key_bytes.KeyBytes.TheVariants.{Short, Long}
 
 abbrev pub value_of : KeyBytes → KeyValue
 value_of (Short bytes _) = record { etype = pos 19; bytes = bytes }
