@@ -29,7 +29,7 @@ INNER = re.compile(r"#!\[[^\[\]]*\]")
 SHOWS = ("Debug", "Display")
 FORMATS = "{}"
 FORMATTING = re.compile(
-    r"\b(?:Debug|Display|fmt|\w+_output|to_string|unwrap\w*|expect\w*|(?:format|write|writeln|e?print|e?println|panic|dbg|assert\w*)!)"
+    r"\b(?:Debug|Display|fmt|\w+_output|to_string|unwrap(?:_err)?\b|expect(?:_err)?\(\s*\"|(?:format|write|writeln|e?print|e?println|panic|dbg|assert\w*)!)"
 )
 # After a block with one of these an item goes on: it was a clause's.
 GOES_ON = re.compile(r"\s*(?:[;,=.)]|ensures|requires|where)")

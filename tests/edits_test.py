@@ -358,7 +358,7 @@ def check_items(hold):
     is_debug = lambda words: any(it.startswith("impl fmt::Debug for Shown") for it in said(*words))
     hold("what shows a value, if something is formatted", is_debug({"Shown", edits_items.FORMATS}) and not is_debug({"Shown", "Debug"}))
     hold("what formats", all(map(edits_items.formats, ["write!(f, \"{x:?}\")", "x.unwrap_err()", "λ x. x.debug_output", "assert_eq!(x, y)"])))
-    hold("what doesn't", not any(map(edits_items.formats, ["x.writer()", "self.information", "#[derive(Clone)]"])))
+    hold("what doesn't", not any(map(edits_items.formats, ["x.writer()", "x.unwrap_or(y)", "x.expect(y)", "#[derive(Clone)]"])))
     hold("what a name leads to", said("Shown") == always | {"#[derive(Drop)] pub struct Shown", "impl Model for Shown", "impl Named for Shown"})
 
 

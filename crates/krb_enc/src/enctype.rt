@@ -7,7 +7,6 @@ ghost use Rattle.krb_kdf.specs.Kdf.{purpose_of};
 ghost use Rattle.krb_kdf.specs.declared.purpose.Purpose.TheVariants.{Kc, Ki};
 ghost use Rattle.krb_enc.specs.Sealed.{Profile, IsProfile, encryption_key, mac_key, short_mac, tag_of, checksum_of, sealed};
 ghost use Rattle.krb_enc.specs.Key.{KeyValue, UsageKeyValue, numbered};
-ghost use Rattle.krb_enc.specs.Inner.BaseKey.{base_of};
 ghost use Rattle.krb_enc.specs.Inner.Derived.{key_of, integrity_of, encryption_of};
 ghost use Rattle.krb_enc.specs.Inner.KeyBytes.{value_of, mac_of};
 ghost use Rattle.krb_enc.specs.Opens.{HasTag, Opens, OpensOnlyTo, OpensToNothing};
@@ -15,7 +14,7 @@ ghost use Rattle.krb_enc.specs.Backwards.{OpensBackOnlyTo};
 
 use crate::derived::Derived;
 use crate::fault::OpenFault;
-use crate::key::{BaseKey, Key};
+use crate::key::Key;
 use crate::key_bytes::KeyBytes;
 use crate::tag::Tag;
 use crate::texts::INITIAL_VECTOR;
@@ -53,9 +52,9 @@ pub trait Enctype {
     ghost TAG_LEN: { ℕ };
 
     /// Makes a base key of these bytes.
-    fn base_key(inside: Inside, key: &[u8]) -> BaseKey
+    fn base_key(inside: Inside, key: &[u8]) -> Key
         requires { length key.now ≡ KEY_LEN }
-        ensures { base_of result ≡ record { etype = ETYPE; bytes = key.now } };
+        ensures { result ≡ record { etype = ETYPE; bytes = key.now } };
 
     /// Derives Ki and Ke of a usage.
     ///
@@ -107,8 +106,7 @@ pub trait Enctype {
         requires { length key.now ≡ KEY_LEN }
         ensures { result ≡ record { key = record { etype = ETYPE; bytes = key.now }; usage = usage } }
     {
-        let bytes = Self::base_key(Inside, key);
-        Key { bytes }.for_usage(usage)
+        Self::base_key(Inside, key).for_usage(usage)
     }
 
     /// Returns the tag of a ciphertext: 16 or 24 bytes.

@@ -12,9 +12,9 @@ use std::alloc::{AllocError, Global};
 use std::fmt;
 use std::marker::Model;
 
-/// The bytes of a base key. Other crates can't write its name.
+// The bytes of a base key.
 #[derive(Drop)]
-pub enum BaseKey {
+pub(crate) enum BaseKey {
     Short([u8; 16]),
     Long([u8; 32]),
 }

@@ -7,7 +7,7 @@ ghost use Rattle.krb_enc.specs.Sealed.{aes128_sha256, aes256_sha384};
 use crate::derived::Derived;
 use crate::enctype::{Enctype, Inside};
 use crate::etype::{AES128_CTS_HMAC_SHA256_128, AES256_CTS_HMAC_SHA384_192};
-use crate::key::BaseKey;
+use crate::key::{BaseKey, Key};
 use crate::key_bytes::KeyBytes;
 use crate::tag::Tag;
 use krb_aes::KeySchedule;
@@ -33,8 +33,9 @@ impl Enctype for Sha256Aes128 {
 
     ghost TAG_LEN = { 16 };
 
-    fn base_key(_: Inside, key: &[u8]) -> BaseKey {
-        BaseKey::Short(array_of(key))
+    fn base_key(_: Inside, key: &[u8]) -> Key {
+        let bytes = BaseKey::Short(array_of(key));
+        Key { bytes }
     }
 
     #[tactic(auto, unfolding(krb_kdf::specs::Kdf::kdf, krb_kdf::specs::Kdf::kdf_of, krb_kdf::specs::Hmac::hmac))]
@@ -100,8 +101,9 @@ impl Enctype for Sha384Aes256 {
 
     ghost TAG_LEN = { 24 };
 
-    fn base_key(_: Inside, key: &[u8]) -> BaseKey {
-        BaseKey::Long(array_of(key))
+    fn base_key(_: Inside, key: &[u8]) -> Key {
+        let bytes = BaseKey::Long(array_of(key));
+        Key { bytes }
     }
 
     #[tactic(auto, unfolding(krb_kdf::specs::Kdf::kdf, krb_kdf::specs::Kdf::kdf_of, krb_kdf::specs::Hmac::hmac))]
