@@ -31,6 +31,7 @@ FORMATS = "{}"
 FORMATTING = re.compile(
     r"\b(?:Debug|Display|fmt|\w+_output|to_string|unwrap(?:_err)?\b|expect(?:_err)?\(\s*\"|(?:format|write|writeln|e?print|e?println|panic|dbg|assert\w*)!)"
 )
+DERIVES = re.compile(r"#\[derive\(([^()]*)\)\]")
 # After a block with one of these an item goes on: it was a clause's.
 GOES_ON = re.compile(r"\s*(?:[;,=.)]|ensures|requires|where)")
 FRONT = re.compile(r"(?:(?:pub|abbrev|unfoldable|opaque|record|data)\s+)*")
@@ -162,13 +163,25 @@ def shown(texts):
             yield " ".join(VALUE.sub("", it).split()) if trait == "Model" and named in hidden else it
 
 
+def split_derived(text):
+    """A type's text without the Debug that it derives, and the names by which a check comes to that, if it derives it."""
+    found, named = DERIVES.match(text), NAMED.match(text)
+    derived = found[1].replace(" ", "").split(",") if found else []
+    if not named or "Debug" not in derived:
+        return text, ()
+    return f"#[derive({', '.join(it for it in derived if it != 'Debug')})]{text[found.end() :]}", (frozenset({named[1], FORMATS}),)
+
+
 def items_of_source(name, code, imported, traits, is_below):
     """The items of a source's code without bodies, each with what it imports; of a crate below, what it shows."""
     texts = [text for it in pieces_of(code) if (text := " ".join(it.split()))]
-    for text in shown(texts) if is_below else texts:
+    for whole in shown(texts) if is_below else texts:
+        text, of_debug = split_derived(whole)
         if text:
             used, names = imported(text), names_of_item(text, traits, is_below)
             yield Item((name, text, used), words_of(text).union(*map(words_of, used)), names)
+        if of_debug:
+            yield Item((name, "Debug", whole), frozenset(), of_debug)
 
 
 def traits_of(code):
