@@ -1,6 +1,7 @@
 //! The commands of a client, by the words of the command line, which are read before a file is opened.
 
-ghost use Rattle.std.specs.Prelude.{◌≤◌, IfSome};
+ghost use Rattle.std.specs.Prelude.{◌≡◌, ◌≤◌, ℤ, IfSome, Option, Some};
+ghost use Rattle.krb_gss.specs.declared.opening.Wrapping.{Wrapping};
 ghost use Rattle.krb_file_commands.specs.Words.{Asks};
 ghost use Rattle.krb_client_commands.specs.Requesting.{IsTokenWord};
 ghost use Rattle.krb_client_commands.specs.Words.{IsMoment};
@@ -64,7 +65,8 @@ pub fn run_finish<R: AllocGlobal + Files + Print + Eprint>(rt: &R, words: Finish
 
 // `None` for a word of no token.
 fn wrapping_of(word: Option<&str>) -> Option<Option<Wrapping>>
-    ensures found { IfSome result (Asks IsTokenWord word.entry) }
+    ensures asked { IfSome result (Asks IsTokenWord word.entry) }
+    ensures all { (wrapping : Option Wrapping) → Asks IsTokenWord word.entry wrapping → result ≡ Some wrapping }
 {
     match word {
         Some(word) => Some(Some(read_wrapping(word)?)),
@@ -74,7 +76,8 @@ fn wrapping_of(word: Option<&str>) -> Option<Option<Wrapping>>
 
 // The words of the command line were read as numbers in these ranges.
 fn moment_of(seconds: &str, micros: &str) -> Option<Moment>
-    ensures { IfSome result (IsMoment seconds.now micros.now) }
+    ensures asked { IfSome result (IsMoment seconds.now micros.now) }
+    ensures all { (moment : ℤ) → IsMoment seconds.now micros.now moment → result ≡ Some moment }
 {
     Moment::new(seconds.parse::<i64>().ok()?, micros.parse::<u32>().ok()?)
 }

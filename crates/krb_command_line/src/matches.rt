@@ -1,6 +1,7 @@
 //! What clap's matches have of an argument.
 
-ghost use Rattle.std.specs.Prelude.{IfSome};
+ghost use Rattle.std.specs.Prelude.{ℕ, List, IfSome, IsSome};
+ghost use Rattle.std.specs.Borrow.{Bor};
 ghost use Rattle.clap.specs.Words.{rows_of, found_of};
 ghost use Rattle.krb_command_line.specs.Arguments.{given, optional, word};
 ghost use Rattle.krb_command_line.specs.CommandLine.{HasValue};
@@ -8,11 +9,11 @@ ghost use Rattle.krb_command_line.specs.CommandLine.{HasValue};
 use clap::ArgMatches;
 
 /// The value of an operand or an option.
-#[tactic(auto, using(crate::proofs::Getters::getters))]
 pub(crate) fn word_of<'a>(matches: &ArgMatches<'a>, name: &str) -> Option<&'a str>
-    ensures { IfSome result (λ value. HasValue (rows_of (found_of matches.now)) name.now (word value)) }
+    ensures found { IfSome result (λ value. HasValue (rows_of (found_of matches.now)) name.now (word value)) }
+    ensures all { (value : Bor (List ℕ)) → HasValue (rows_of (found_of matches.now)) name.now (word value) → IsSome result }
 {
-    matches.get_str(name)
+    option_of(matches, name)
 }
 
 /// The value of an option, if it isn't left out.

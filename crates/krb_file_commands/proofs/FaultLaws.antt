@@ -1,6 +1,11 @@
 -- Answers that are values or faults.
-use Rattle.std.specs.Prelude.{IfOk, IfErr, IfSome, OnOk, Option, Some, None}
-use Rattle.std.proofs.Common.{◌≡◌, ◌⊎◌, Result, Ok, Err, ◌∙◌, sym, inl, inr}
+use Rattle.std.specs.Prelude.{IfOk, IfErr, IfSome, IsErrAnd, OnOk, Option, Some, None}
+use Rattle.std.proofs.Common.{◌≡◌, ◌⊎◌, Result, Ok, Err, ◌∙◌, ap, sym, inl, inr}
+
+-- what `?` returns at its exit, by what `From` makes of the callee's fault
+pub err_is : {X F : Type 0} {fault : F} (result : Result X F) → IsErrAnd result (λ it. it ≡ fault) → result ≡ Err fault
+err_is (Ok value) is = absurd is
+err_is {F = F} (Err it) is = ap (λ (f : F). Err f) is
 
 -- the answer is this fault, or one of two others
 abbrev pub IsOneOf : {X F : Type 0} → Result X F → F → F → F → Type 0

@@ -1,6 +1,6 @@
 //! The encryption type that a word of the command line stands for.
 
-ghost use Rattle.std.specs.Prelude.{◌≡◌, IfSome, None, Some, ℤ, FitsSigned, map};
+ghost use Rattle.std.specs.Prelude.{◌≡◌, IfSome, Some, ℤ, FitsSigned, map};
 ghost use Rattle.std.specs.Int.{w32};
 ghost use Rattle.std.specs.Str.{str_eq_ignore_ascii_case};
 ghost use Rattle.krb_readable.specs.Named.{row_of};

@@ -1,6 +1,6 @@
 //! Why a command on files ended early, what the program says of it, and its exit status.
 
-ghost use Rattle.std.specs.Prelude.{◌≡◌, codes};
+ghost use Rattle.std.specs.Prelude.{◌≡◌};
 ghost use Rattle.krb_file_commands.specs.FaultText as text;
 ghost use Rattle.krb_file_commands.specs.Status as status;
 ghost use Rattle.krb_file_commands.specs.declared.fault.PickFault.TheVariants.{Keytab as Unread, OutOfMemory as OutOfMemoryForLine};

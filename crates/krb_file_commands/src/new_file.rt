@@ -1,6 +1,6 @@
 //! A new file that takes the place of another.
 
-ghost use Rattle.std.specs.Prelude.{◌≡◌, ◌++◌, IfOk, bit_and, codes, if◌then◌else◌, string_bytes};
+ghost use Rattle.std.specs.Prelude.{◌≡◌, ◌++◌, IfOk, bit_and, codes, if◌then◌else◌, is_ok, string_bytes};
 ghost use Rattle.hex.specs.Hex.{encode_lower};
 
 use crate::replacing::{Replacement, StepFailed};
@@ -103,7 +103,9 @@ impl<R: Files> Replacement for NewFile<'_, R> {
     }
 }
 
-fn done(step: io::Result<()>) -> Result<(), StepFailed> {
+fn done(step: io::Result<()>) -> Result<(), StepFailed>
+    ensures { is_ok result ≡ is_ok step }
+{
     match step {
         Ok(()) => Ok(()),
         Err(_) => Err(StepFailed),

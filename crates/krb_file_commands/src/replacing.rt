@@ -1,6 +1,6 @@
 //! Replacing a file by a new one, which is written beside it.
 
-ghost use Rattle.std.specs.Prelude.{◌≡◌, List, ℕ, Option, None, Err, IfErr, OnOk};
+ghost use Rattle.std.specs.Prelude.{◌≡◌, Option, None, Err, IfErr, OnOk};
 ghost use Rattle.krb_file_commands.specs.Replacing.{Becomes, Holds, IsAlone, IsEmpty, IsSafe, Stays, TwoFiles, created, removed, renamed, synced, written};
 
 /// A step of a replacement failed.

@@ -1,5 +1,9 @@
 //! What the name of a file to write leads to.
 
+ghost use Rattle.std.specs.Prelude.{◌≡◌, ◌↔◌, IsTrue};
+ghost use Rattle.std.specs.Path.{path_buf_bytes, path_parent};
+ghost use Rattle.krb_file_commands.specs.Inner.Paths.{EndsInName, folder_by};
+
 use std::fs::Metadata;
 use std::io::ErrorKind;
 use std::path::PathBuf;
@@ -69,7 +73,9 @@ fn look_at<R: AllocGlobal + Files>(rt: &R, path: PathBuf) -> io::Result<Step> {
 }
 
 // Whether the path ends in a name, and not in `..`, `.` or a slash, which name folders.
-fn has_name(path: &PathBuf) -> bool {
+fn has_name(path: &PathBuf) -> bool
+    ensures { IsTrue result ↔ EndsInName (path_buf_bytes path.now) }
+{
     match path.file_name() {
         Some(name) => path.as_str().ends_with(name),
         None => false,
@@ -88,7 +94,9 @@ fn followed<R: AllocGlobal + Files>(rt: &R, link: PathBuf) -> io::Result<Step> {
 }
 
 /// The folder of a file.
-pub(crate) fn folder_of(path: &PathBuf) -> &str {
+pub(crate) fn folder_of(path: &PathBuf) -> &str
+    ensures { result.now ≡ folder_by (path_parent (path_buf_bytes path.entry.now)) }
+{
     match path.parent() {
         Some(folder) if !folder.as_str().is_empty() => folder.as_str(),
         _ => ".",

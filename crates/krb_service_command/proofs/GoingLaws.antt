@@ -109,6 +109,7 @@ pub stays_on : {M : Type 0} {old mid new : Session} {service then next : Service
 stays_on first second = record {
   setup = second.setup ∙ first.setup;
   options = second.options ∙ first.options;
+  known = λ before. second.known (first.known before);
 }
 
 module _ {M : Type 0} {has : M → Stamp → Type 0} {newest : M → Option ℤ} where

@@ -2,3 +2,4 @@ pub mod FaultLaws
 pub mod GoingLaws
 pub mod EndLaws
 pub mod ExplainLaws
+pub mod TaskLaws

@@ -1,6 +1,5 @@
 -- What `explain` prints of a text, or why it prints nothing.
-use Rattle.std.specs.Prelude.{◌≡◌, ⊤, ℕ, ℤ, ◌<◌, ◌≤◌, List, length, Option, Some, None, IfSome, Ok, Err, codes}
-use Rattle.std.specs.Str.Parse.{signed_digits_value}
+use Rattle.std.specs.Prelude.{◌≡◌, ⊤, ℕ, ◌<◌, ◌≤◌, List, length, Option, Some, None, IfSome, Ok, Err, codes}
 use Rattle.krb_name.specs.File.{file_limit}
 use Rattle.krb_explain.specs.Explained.{IsExplanation}
 use Rattle.krb_explain.specs.Input.{read_of}
@@ -45,10 +44,6 @@ pub record IsKeyedPage (wanted : ExplainWithKeys) (entries : List KeytabEntry) (
 -- it is made of a file that is a keytab
 abbrev pub MakesKeyedPage : ExplainWithKeys → Option (List ℕ) → List ℕ → Type 0
 MakesKeyedPage wanted from page = OfFile IsKeytab from (λ entries. IsKeyedPage wanted entries page)
-
--- the text writes the second in decimal
-abbrev pub IsSecond : List ℕ → ℤ → Type 0
-IsSecond text second = second ≡ signed_digits_value 10 text
 
 -- ---- reading it
 

@@ -1,21 +1,47 @@
--- What words of the command line ask of `accept`.
-use Rattle.std.specs.Prelude.{◌≡◌, ◌*◌, ℕ, ℤ, List, Option, Some, None}
+-- What words of the command line ask of `accept` and of `explain`.
+use Rattle.std.specs.Prelude.{◌≡◌, ◌≤◌, ◌*◌, ℕ, ℤ, pos, List, Option, Some, None, Ok, Err}
 use Rattle.std.specs.Borrow.{Bor}
-use Rattle.std.specs.Str.Parse.{digits_value, signed_digits_value, without_leading_plus}
 use Rattle.krb_time.specs.Moments.{micros_of}
+use Rattle.krb_time.specs.Time.{IsSeconds}
+use Rattle.krb_name.specs.Reading.{IsReadAs}
 use Rattle.krb_name.specs.declared.principal.Principal.{Principal}
-use Rattle.krb_keytab.specs.Entry.{KeytabEntry}
-use Rattle.krb_keytab.specs.Only.{KeepsOnly}
+use Rattle.krb_name.specs.declared.text_fault.TextFault.{TextFault}
+use Rattle.krb_command_line.specs.declared.command_line.AcceptWords.{AcceptWords}
+use Rattle.krb_file_commands.specs.Status.{service_status}
+use Rattle.krb_file_commands.specs.Words.{Asks, IsNumber, WritesInteger}
 
--- the text writes in decimal how many seconds clocks may differ; a skew counts microseconds
-abbrev pub IsSkew : List ℕ → ℕ → Type 0
-IsSkew text skew = skew ≡ 1_000_000 * digits_value 10 (without_leading_plus text)
+-- the text writes in decimal how many seconds clocks may differ, up to a day; a skew counts microseconds
+pub record IsSkew (text : List ℕ) (skew : ℕ) : Type 0 where
+  pub seconds : ℕ
+  pub writes_seconds : IsNumber text seconds
+  pub limit : seconds ≤ 86_400
+  pub skew_is : skew ≡ 1_000_000 * seconds
+
+-- the text writes in decimal a second of the years 0000 to 9999
+abbrev pub IsSecond : List ℕ → ℤ → Type 0
+IsSecond text second = WritesInteger text second × IsSeconds second
 
 -- the text writes in decimal the second at which the service was started again
-abbrev pub IsStart : List ℕ → ℤ → Type 0
-IsStart text start = start ≡ micros_of (signed_digits_value 10 text) 0
+pub record IsStart (text : List ℕ) (start : ℤ) : Type 0 where
+  pub second : ℤ
+  pub writes_second : IsSecond text second
+  pub start_is : start ≡ micros_of second 0
 
--- requests are accepted by these of the keytab's entries: those of the name, if there is one
-abbrev pub IsServed : Option (Bor Principal) → List KeytabEntry → List KeytabEntry → Type 0
-IsServed None entries served = served ≡ entries
-IsServed (Some name) entries served = KeepsOnly name.now entries served
+-- the text is the name of a service on a host
+abbrev pub IsServiceName : List ℕ → Principal → Type 0
+IsServiceName text name = IsReadAs text (Ok name) × (name.name_type ≡ pos 3)
+
+-- this is the exit status if an option is there that isn't such a name
+abbrev pub IsUnreadName : Option (Bor (List ℕ)) → ℕ → Type 0
+IsUnreadName None status = ⊥
+IsUnreadName (Some text) status = (fault : TextFault) × (IsReadAs text.now (Err fault) × (status ≡ service_status fault))
+
+-- ---- what the words of `accept` don't ask for
+
+-- a skew and a start
+abbrev pub LacksTimes : AcceptWords → Type 0
+LacksTimes words = (skew : ℕ) (start : Option ℤ) → IsSkew words.skew.now skew → ¬ Asks IsStart words.started start
+
+-- a name, or none
+abbrev pub LacksName : Option (Bor (List ℕ)) → Type 0
+LacksName text = (name : Option Principal) → ¬ Asks IsServiceName text name

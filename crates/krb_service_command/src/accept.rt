@@ -1,10 +1,10 @@
 //! The engine of `accept`.
 
-ghost use Rattle.std.specs.Prelude.{◌≡◌, ◌≢◌, ◌⊎◌, ◌<◌, ◌≤◌, ◌++◌, ◌∷◌, [], ℕ, List, All, Option, Ok, Err, Some, IfOk, IfErr, OnOk, OnErr, max, length, take, is_ok, if◌then◌else◌};
+ghost use Rattle.std.specs.Prelude.{◌≡◌, ◌≢◌, ◌⊎◌, ◌<◌, ◌≤◌, ◌++◌, ◌∷◌, [], ℕ, List, All, Ok, Err, Some, IfOk, IfErr, OnOk, OnErr, length, take, is_ok, if◌then◌else◌};
 ghost use Rattle.std.specs.Io.KnownBytes.{Consumes, IsAtEnd, Keeps};
 ghost use Rattle.krb_name.specs.Flow.{counted};
 ghost use Rattle.krb_name.specs.File.{TakesAtMost};
-ghost use Rattle.krb_ap.specs.Setup.{Setup, Arrival, arrival};
+ghost use Rattle.krb_ap.specs.Setup.{Arrival};
 ghost use Rattle.krb_ap.specs.History.{StandsFor};
 ghost use Rattle.krb_ap.specs.Service.{Stands};
 ghost use Rattle.krb_service_command.specs.Answering.{AnswersAll, AnswersBeginning, AnswersWhole, Came, input_limit};
@@ -281,6 +281,9 @@ pub fn accept_lines<M: ReplayMemory, S: Source, K: Sink>(
     ensures reads { (result ≡ Err ServiceFault.Input) ⊎ (S.failure_count source.new ≡ S.failure_count source.old) }
     ensures taken { TakesAtMost (S.remaining source.old) (S.remaining source.new) input_limit }
     ensures writes { K.failure_count sink.new ≡ counted (K.failure_count sink.old) (failed_writes result) }
+
+    // Nor is there another exit status, whatever is known of the source.
+    ensures known { IfOk result (λ status. status ≤ 3) }
 {
     let mut piece = vec![in alloc; 0u8; PIECE]?;
     let mut session = Session {

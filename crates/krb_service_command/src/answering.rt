@@ -1,6 +1,6 @@
 //! What `accept` prints for a line.
 
-ghost use Rattle.std.specs.Prelude.{◌≡◌, ◌⊎◌, ◌++◌, ◌∷◌, IfOk, IfErr, OnOk, OnErr, codes, string_bytes};
+ghost use Rattle.std.specs.Prelude.{◌≡◌, ◌≤◌, ◌⊎◌, ◌++◌, ◌∷◌, IfOk, IfErr, OnOk, OnErr, codes, string_bytes};
 ghost use Rattle.std.specs.Fmt.{decimal, signed_decimal};
 ghost use Rattle.std.specs.Io.KnownBytes.{Appends};
 ghost use Rattle.krb_name.specs.Flow.{counted, AppendsBeginning};
@@ -116,7 +116,8 @@ fn refused_text(alloc: Global, refusal: &Refusal, end: &AnswerEnd) -> Result<Str
 /// Returns what an outcome makes of the exit status: 0 if a request was accepted, 1 if a line or its token was bad or its
 /// request was refused, 3 if memory ran out, for a call or for what follows its answer.
 pub(crate) fn status_of_outcome(outcome: &LineOutcome) -> u8
-    ensures { result ≡ outcome_status outcome.now }
+    ensures status { result ≡ outcome_status outcome.now }
+    ensures known { result ≤ 3 }
 {
     match outcome {
         LineOutcome::BadLine | LineOutcome::BadToken(_) => REFUSED,
@@ -127,7 +128,8 @@ pub(crate) fn status_of_outcome(outcome: &LineOutcome) -> u8
 }
 
 fn status_of_call(outcome: &Outcome) -> u8
-    ensures { result ≡ call_status outcome.now }
+    ensures status { result ≡ call_status outcome.now }
+    ensures known { result ≤ 3 }
 {
     match outcome {
         Ok(_) => 0,

@@ -1,67 +1,47 @@
 //! `accept`, by the words of the command line, which are read before its keytab is opened.
 
-ghost use Rattle.std.specs.Prelude.{◌≡◌, ◌≢◌, ◌⊎◌, Ok, IfErr, IfOk, IfSome, if◌then◌else◌};
-ghost use Rattle.krb_name.specs.Reading.{IsReadAs};
+ghost use Rattle.std.specs.Prelude.{◌≡◌, ◌≢◌, ◌≤◌, ◌⊎◌, ℕ, List, [], Some, IfErr, IfOk, IfSome, OnErr};
 ghost use Rattle.krb_keytab.specs.Format.{IsFaultOf, IsKeytab};
-ghost use Rattle.krb_call_lines.specs.declared.form.Form.TheVariants.{Message, Token};
+ghost use Rattle.krb_ap.specs.Service.{Stands};
 ghost use Rattle.krb_file_commands.specs.Engine.{OfFile};
-ghost use Rattle.krb_file_commands.specs.Words.{Asks};
-ghost use Rattle.krb_service_command.specs.Words.{IsServed, IsSkew, IsStart};
+ghost use Rattle.krb_service_command.specs.Explaining.{IsServedBy};
+ghost use Rattle.krb_service_command.specs.Inner.Task.{AnswersInput, BeginsInput};
+ghost use Rattle.krb_service_command.specs.Words.{LacksName, LacksTimes};
 
 use crate::accept::{AnswerOptions, accept_lines};
 use crate::fault::ServiceFault;
+use crate::task::{AcceptTask, Times, accept_task_of, answer_options_of};
 use krb_ap::Acceptor;
-use krb_call_lines::Form;
 use krb_command_line::AcceptWords;
-use krb_file_commands::{WRONG_WORDS, complain_of, open_file, service_of, source_of};
+use krb_file_commands::{complain_of, open_file, source_of};
 use krb_keytab::{Keytab, KeytabFault};
-use krb_msg::Moment;
-use krb_name::{Principal, ReadSource, Source, WriteSink};
-use krb_replay::{Skew, TimedMemory};
+use krb_name::{Principal, ReadSource, Sink, Source, WriteSink};
+use krb_replay::{ReplayMemory, TimedMemory};
 use std::alloc::Global;
 use std::io;
 use std::io::Input;
 use std::rt::Files;
 
-// By how much clocks may differ, and when the service was started again.
-#[derive(Clone, Copy)]
-struct Times {
-    skew: Skew,
-    start: Option<Moment>,
-}
-
 /// Answers the lines of standard input by the keytab, and returns the exit status.
 pub fn run_accept<R: AllocGlobal + Files + Input + Print + Eprint>(
     rt: &R,
     words: AcceptWords<'_>,
-) -> u8 {
-    let Some(times) = times_of(words.skew, words.started) else {
-        return WRONG_WORDS;
-    };
-    let service = match name_of(rt, "service", words.service) {
-        Ok(service) => service,
-        Err(status) => return status,
-    };
-    let only = match name_of(rt, "only", words.only) {
-        Ok(only) => only,
-        Err(status) => return status,
-    };
-    let options = AnswerOptions {
-        form: form_of(words.tokens),
-        service: service.as_ref(),
-    };
-    serve(rt, words.keytab, only.as_ref(), times, &options)
+) -> u8
+    ensures known { result ≤ 3 }
+    ensures times { LacksTimes words.entry → result ≡ 2 }
+    ensures names { LacksName words.entry.service ⊎ LacksName words.entry.only → (result ≡ 2) ⊎ (result ≡ 3) }
+{
+    match accept_task_of(rt, words) {
+        Ok(task) => serve(rt, &task),
+        Err(status) => status,
+    }
 }
 
-// Answers the lines by the entries of this name, or all.
-fn serve<R: AllocGlobal + Files + Input + Print + Eprint>(
-    rt: &R,
-    path: &str,
-    only: Option<&Principal>,
-    times: Times,
-    options: &AnswerOptions<'_>,
-) -> u8 {
-    let opened = match open_file(rt, path) {
+// Does what is asked for, and returns the exit status.
+fn serve<R: AllocGlobal + Files + Input + Print + Eprint>(rt: &R, task: &AcceptTask<'_>) -> u8
+    ensures { result ≤ 3 }
+{
+    let opened = match open_file(rt, task.keytab) {
         Ok(opened) => opened,
         Err(status) => return status,
     };
@@ -70,13 +50,9 @@ fn serve<R: AllocGlobal + Files + Input + Print + Eprint>(
         Err(status) => return status,
     };
     let mut source = source;
-    let keytab = match read_keytab(rt.alloc(), &mut source, only) {
-        Ok(keytab) => keytab,
-        Err(fault) => return complain_of(rt, &fault, path, "accept"),
-    };
-    match answered(rt, keytab, times, options) {
-        Ok(status) => status,
-        Err(fault) => complain_of(rt, &fault, path, "accept"),
+    match read_keytab(rt.alloc(), &mut source, &task.only) {
+        Ok(keytab) => answer_input(rt, keytab, task),
+        Err(fault) => complain_of(rt, &fault, task.keytab, "accept"),
     }
 }
 
@@ -84,9 +60,9 @@ fn serve<R: AllocGlobal + Files + Input + Print + Eprint>(
 fn read_keytab<S: Source>(
     alloc: Global,
     source: &mut S,
-    only: Option<&Principal>,
+    only: &Option<Principal>,
 ) -> Result<Keytab, KeytabFault>
-    ensures served { IfOk result (λ keytab. OfFile IsKeytab (S.remaining source.old) (λ entries. IsServed only.entry entries keytab)) }
+    ensures served { IfOk result (λ keytab. OfFile IsKeytab (S.remaining source.old) (λ entries. IsServedBy only.now entries keytab)) }
     ensures fault { IfErr result (λ e. e ≢ KeytabFault.OutOfMemory → e ≢ KeytabFault.Read
         → IfSome (S.remaining source.old) (λ given. IsFaultOf given e)) }
 {
@@ -97,61 +73,54 @@ fn read_keytab<S: Source>(
     }
 }
 
-// The words of the command line were read as numbers in these ranges.
-fn times_of(skew: &str, started: Option<&str>) -> Option<Times>
-    ensures skew { IfSome result (λ times. IsSkew skew.now times.skew) }
-    ensures start { IfSome result (λ times. Asks IsStart started.entry times.start) }
+// Answers the lines of standard input. Each answer is written at once, so that another program can wait for it.
+fn answer_input<R: AllocGlobal + Input + Print + Eprint>(
+    rt: &R,
+    keytab: Keytab,
+    task: &AcceptTask<'_>,
+) -> u8
+    ensures { result ≤ 3 }
 {
-    let skew = Skew::new(skew.parse::<u32>().ok()?)?;
-    let start = start_of(started)?;
-    Some(Times { skew, start })
-}
-
-fn start_of(started: Option<&str>) -> Option<Option<Moment>>
-    ensures { IfSome result (Asks IsStart started.entry) }
-{
-    match started {
-        Some(seconds) => Some(Some(Moment::new(seconds.parse::<i64>().ok()?, 0)?)),
-        None => Some(None),
+    let mut source = ReadSource::new(rt.reader());
+    let mut sink = WriteSink::new(io::writer(rt));
+    let options = answer_options_of(task);
+    match answer_lines(
+        rt.alloc(),
+        keytab,
+        task.times,
+        &options,
+        &mut source,
+        &mut sink,
+    ) {
+        Ok(status) => status,
+        Err(fault) => complain_of(rt, &fault, task.keytab, "accept"),
     }
 }
 
-fn form_of(tokens: bool) -> Form
-    ensures { result ≡ (if tokens then Token else Message) }
-{
-    if tokens { Form::Token } else { Form::Message }
-}
-
-/// Reads a name of the command line, if it is there. If it isn't a name, that is printed, and the exit status is the error.
-pub(crate) fn name_of<R: AllocGlobal + Eprint>(
-    rt: &R,
-    argument: &str,
-    text: Option<&str>,
-) -> Result<Option<Principal>, u8>
-    ensures read { IfOk result (Asks (λ text name. IsReadAs text (Ok name)) text.entry) }
-    ensures status { IfErr result (λ status. (status ≡ 2) ⊎ (status ≡ 3)) }
-{
-    match text {
-        Some(text) => Ok(Some(service_of(rt, argument, text)?)),
-        None => Ok(None),
-    }
-}
-
-// Each answer is written at once, so that another program can wait for it.
-fn answered<R: AllocGlobal + Input + Print>(
-    rt: &R,
+// Answers the lines of a source as a new service.
+fn answer_lines<S: Source, K: Sink>(
+    alloc: Global,
     keytab: Keytab,
     times: Times,
     options: &AnswerOptions<'_>,
-) -> Result<u8, ServiceFault> {
-    let mut acceptor = acceptor_of(rt.alloc(), keytab, times);
-    let mut source = ReadSource::new(rt.reader());
-    let mut sink = WriteSink::new(io::writer(rt));
-    accept_lines(rt.alloc(), &mut acceptor, &mut source, &mut sink, options)
+    source: &mut S,
+    sink: &mut K,
+) -> Result<u8, ServiceFault>
+    ensures answered { (input : List ℕ) → S.remaining source.old ≡ Some input
+        → IfOk result (λ status. AnswersInput options.now (record { entries = keytab; skew = times.skew; start = times.start }) input status
+        (K.taken sink.old) (K.taken sink.new)) }
+    ensures begun { (input : List ℕ) → S.remaining source.old ≡ Some input
+        → OnErr result (BeginsInput options.now (record { entries = keytab; skew = times.skew; start = times.start }) input
+        (K.taken sink.old) (K.taken sink.new)) }
+    ensures known { IfOk result (λ status. status ≤ 3) }
+{
+    let mut acceptor = acceptor_of(alloc, keytab, times);
+    accept_lines(alloc, &mut acceptor, source, sink, options)
 }
 
 fn acceptor_of(alloc: Global, keytab: Keytab, times: Times) -> Acceptor<TimedMemory>
-    ensures { result.setup ≡ record { entries = keytab; skew = times.skew; start = times.start } }
+    ensures setup { result.setup ≡ record { entries = keytab; skew = times.skew; start = times.start } }
+    ensures stands { Stands ⟦<TimedMemory as ReplayMemory>⟧.has ⟦<TimedMemory as ReplayMemory>⟧.newest result [] }
 {
     let memory = TimedMemory::new(alloc);
     match times.start {

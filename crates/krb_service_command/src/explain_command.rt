@@ -1,12 +1,11 @@
 //! `explain`, by the words of the command line.
 
-ghost use Rattle.std.specs.Prelude.{◌≡◌, ◌⊎◌, ◌≤◌, IfErr, IfOk, IfSome};
-ghost use Rattle.krb_service_command.specs.Explaining.{IsSecond};
-ghost use Rattle.krb_service_command.specs.Words.{IsSkew};
+ghost use Rattle.std.specs.Prelude.{◌≡◌, ◌⊎◌, ◌≤◌, ℤ, IfErr, IfOk, IfSome, OnErr};
+ghost use Rattle.krb_service_command.specs.Words.{IsSecond};
 
-use crate::commands::name_of;
 use crate::explain::Explain;
 use crate::explain_keys::ExplainWithKeys;
+use crate::task::{name_of, second_in, skew_of};
 use crate::text::read_message;
 use krb_command_line::ExplainWords;
 use krb_file_commands::{
@@ -15,7 +14,6 @@ use krb_file_commands::{
 };
 use krb_msg::Seconds;
 use krb_name::{ReadSource, SliceSource, Source, WriteSink};
-use krb_replay::Skew;
 use std::io;
 use std::io::Input;
 use std::rt::Files;
@@ -104,20 +102,15 @@ fn explain_by<R: AllocGlobal + Files + Clock + Input + Print + Eprint>(
     run_product(rt, &wanted, "explain", keytab, None)
 }
 
-// The word of the command line was read as a number in this range.
-fn skew_of(text: &str) -> Option<Skew>
-    ensures { IfSome result (IsSkew text.now) }
-{
-    Skew::new(text.parse::<u32>().ok()?)
-}
-
 // The second that is asked for, or that of the machine's clock. If the clock can't be read, that is printed, and the exit status is the
 // error.
 fn second_of<R: Clock + Eprint>(rt: &R, text: Option<&str>) -> Result<Seconds, u8>
+    ensures asked { IfOk result (λ second. IfSome text.entry (λ word. IsSecond word.now second)) }
+    ensures unread { OnErr result (IfSome text.entry (λ word. (second : ℤ) → ¬ IsSecond word.now second)) }
     ensures status { IfErr result (λ status. (status ≡ 2) ⊎ (status ≡ 3)) }
 {
     match text {
-        Some(text) => match read_second(text) {
+        Some(text) => match second_in(text) {
             Some(second) => Ok(second),
             None => Err(WRONG_WORDS),
         },
@@ -126,13 +119,6 @@ fn second_of<R: Clock + Eprint>(rt: &R, text: Option<&str>) -> Result<Seconds, u
             None => Err(complain(rt, file_line(CLOCK), FAILED)),
         },
     }
-}
-
-// The word of the command line was read as a number in this range.
-fn read_second(text: &str) -> Option<Seconds>
-    ensures { IfSome result (IsSecond text.now) }
-{
-    Seconds::new(text.parse::<i64>().ok()?)
 }
 
 // The second of the machine's clock, if it is between 1970 and 9999.

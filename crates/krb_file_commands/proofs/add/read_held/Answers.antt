@@ -1,10 +1,9 @@
 use Rattle.std.proofs.Common.{◌≡◌, List, ℕ, refl, rules, subst, sym, ap, ◌∙◌}
-use Rattle.std.proofs.lemmas.Result.{err_from_is_err_and}
 use Rattle.krb_keytab.specs.Entry.{KeytabEntry}
 use Rattle.krb_keytab.specs.Format.{IsKeytab}
 use Rattle.krb_file_commands.specs.Status.{of_keytab}
 use Rattle.krb_file_commands.proofs.AddLaws.{parsed_reads}
-use Rattle.krb_file_commands.proofs.FaultLaws.{if_some_map, no_ok}
+use Rattle.krb_file_commands.proofs.FaultLaws.{err_is, if_some_map, no_ok}
 use Rattle.krb_file_commands.proofs.FileLaws.{of_file}
 use Rattle.krb_file_commands.proofs.ReadingLaws.{lacking}
 use Rattle.krb_file_commands.proofs.RemoveLaws.{unread_exits}
@@ -13,17 +12,16 @@ use Rattle.krb_file_commands.proofs.add.read_held.Goals as goal
 
 pub returns-in_err-file-clause-reads : goal.returns-in_err-file-clause-reads
 returns-in_err-file-clause-reads g c =
-    let p = err_from_is_err_and c.from_residual.result c.from_residual.ensures.1 in
-    rw (p.1, p.2) (lacking _ _ _ _ _ _ _ _ _ c.in_err-file.field-0.0 (unread_exits c.in_err-file.field-0.0 c.in_err-file.ensures.which) tt (search rules) c.in_err-file.ensures.taken)
+    rw (err_is c.from_residual.result c.from_residual.ensures.1)
+    (lacking _ _ _ _ _ _ _ _ _ c.in_err-file.field-0.0 (unread_exits c.in_err-file.field-0.0 c.in_err-file.ensures.which) tt (search rules) c.in_err-file.ensures.taken)
 
 pub returns-in_err-held-clause-reads : goal.returns-in_err-held-clause-reads
 returns-in_err-held-clause-reads g c =
-    let p = err_from_is_err_and c.from_residual-in_err-held.result c.from_residual-in_err-held.ensures.1 in
     let from = g.S.Source.remaining c.args.source.now in
     let file = c.in_ok-file.file.items in
     let met = c.in_err-held.field-0.0 in
     let fault = rw c.deref.ensures.value at c.in_err-held.ensures.fault in
-    rw (p.1, p.2) (record {
+    rw (err_is c.from_residual-in_err-held.result c.from_residual-in_err-held.ensures.1) (record {
       made = tt;
       fault = λ content. fault_known from file met c.in_ok-file.ensures.bytes (fault (λ memory. content (ap of_keytab memory)));
       faulty = λ given e tells has. tt;

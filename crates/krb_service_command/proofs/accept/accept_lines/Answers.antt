@@ -1,8 +1,7 @@
-use Rattle.std.proofs.Common.{arith, [], ap, sym, refl, inl, inr, ◌∙◌, Err}
+use Rattle.std.proofs.Common.{arith, [], sym, refl, inl, inr, ◌∙◌}
 use Rattle.std.proofs.KnownBytes.{Consumes-nil}
-use Rattle.std.proofs.lemmas.Result.{err_from_is_err_and}
 use Rattle.krb_service_command.specs.declared.fault.ServiceFault.TheVariants.{Input}
-use Rattle.krb_file_commands.proofs.FaultLaws.{no_ok}
+use Rattle.krb_file_commands.proofs.FaultLaws.{err_is, no_ok}
 use Rattle.krb_service_command.proofs.FaultLaws.{not_input, same_fault}
 use Rattle.krb_call_lines.proofs.CallLaws.{unlike}
 use Rattle.krb_service_command.proofs.GoingLaws.{going_start}
@@ -19,36 +18,30 @@ returns-in_err-piece-clause-taken g c = record { piece = []; taken = Consumes-ni
 
 pub returns-in_err-answer_source-clause-unread : goal.returns-in_err-answer_source-clause-unread
 returns-in_err-answer_source-clause-unread g c = λ input history tells stands err.
-    let p = err_from_is_err_and c.from_residual-in_err-answer_source.result c.from_residual-in_err-answer_source.ensures.1 in
-    let was = c.in_err-answer_source.was ∙ same_fault (sym (p.1 ∙ ap (λ e. Err e) p.2) ∙ err) in
+    let was = c.in_err-answer_source.was ∙ same_fault (sym (err_is c.from_residual-in_err-answer_source.result c.from_residual-in_err-answer_source.ensures.1) ∙ err) in
     whole_answered tells (c.answer_source.ensures.input _ (going_start history _ _ _ c.new.ensures refl stands) was)
 
 pub returns-in_err-answer_source-clause-begun : goal.returns-in_err-answer_source-clause-begun
 returns-in_err-answer_source-clause-begun g c = λ input history tells stands err.
-    let p = err_from_is_err_and c.from_residual-in_err-answer_source.result c.from_residual-in_err-answer_source.ensures.1 in
-    let was = sym (p.1 ∙ ap (λ e. Err e) p.2) in
+    let was = sym (err_is c.from_residual-in_err-answer_source.result c.from_residual-in_err-answer_source.ensures.1) in
     stop_begun tells (c.answer_source.ensures.stop _ (going_start history _ _ _ c.new.ensures refl stands)
     (elim err [ inl e ↦ inl (c.in_err-answer_source.was ∙ same_fault (was ∙ e)) | inr e ↦ inr (c.in_err-answer_source.was ∙ same_fault (was ∙ e)) ]))
 
 pub returns-in_err-answer_source-clause-failed : goal.returns-in_err-answer_source-clause-failed
 returns-in_err-answer_source-clause-failed g c = λ err.
-    let p = err_from_is_err_and c.from_residual-in_err-answer_source.result c.from_residual-in_err-answer_source.ensures.1 in
-    c.answer_source.ensures.failed (c.in_err-answer_source.was ∙ same_fault (sym (p.1 ∙ ap (λ e. Err e) p.2) ∙ err))
+    c.answer_source.ensures.failed (c.in_err-answer_source.was ∙ same_fault (sym (err_is c.from_residual-in_err-answer_source.result c.from_residual-in_err-answer_source.ensures.1) ∙ err))
 
 pub returns-in_err-answer_source-clause-reads : goal.returns-in_err-answer_source-clause-reads
 returns-in_err-answer_source-clause-reads g c =
-    let p = err_from_is_err_and c.from_residual-in_err-answer_source.result c.from_residual-in_err-answer_source.ensures.1 in
-    elim c.answer_source.ensures.reads [ inl e ↦ inl (p.1 ∙ ap (λ e. Err e) p.2 ∙ same_fault (sym c.in_err-answer_source.was ∙ e)) | inr same ↦ inr same ]
+    elim c.answer_source.ensures.reads [ inl e ↦ inl (err_is c.from_residual-in_err-answer_source.result c.from_residual-in_err-answer_source.ensures.1 ∙ same_fault (sym c.in_err-answer_source.was ∙ e)) | inr same ↦ inr same ]
 
 pub returns-in_err-answer_line-clause-unread : goal.returns-in_err-answer_line-clause-unread
 returns-in_err-answer_line-clause-unread g c = λ input history tells stands err.
-    let p = err_from_is_err_and c.from_residual-in_err-answer_line.result c.from_residual-in_err-answer_line.ensures.1 in
-    absurd (not_input c.in_err-answer_line.field-0.0 c.in_err-answer_line.ensures.which (sym (p.1 ∙ ap (λ e. Err e) p.2) ∙ err))
+    absurd (not_input c.in_err-answer_line.field-0.0 c.in_err-answer_line.ensures.which (sym (err_is c.from_residual-in_err-answer_line.result c.from_residual-in_err-answer_line.ensures.1) ∙ err))
 
 pub returns-in_err-answer_line-clause-failed : goal.returns-in_err-answer_line-clause-failed
 returns-in_err-answer_line-clause-failed g c = λ err.
-    let p = err_from_is_err_and c.from_residual-in_err-answer_line.result c.from_residual-in_err-answer_line.ensures.1 in
-    absurd (not_input c.in_err-answer_line.field-0.0 c.in_err-answer_line.ensures.which (sym (p.1 ∙ ap (λ e. Err e) p.2) ∙ err))
+    absurd (not_input c.in_err-answer_line.field-0.0 c.in_err-answer_line.ensures.which (sym (err_is c.from_residual-in_err-answer_line.result c.from_residual-in_err-answer_line.ensures.1) ∙ err))
 
 pub returns-in_err-answer_line-clause-begun : goal.returns-in_err-answer_line-clause-begun
 returns-in_err-answer_line-clause-begun g c = λ input history tells stands _.
@@ -59,8 +52,8 @@ returns-in_err-answer_line-clause-begun g c = λ input history tells stands _.
 
 pub returns-in_err-answer_line-clause-which : goal.returns-in_err-answer_line-clause-which
 returns-in_err-answer_line-clause-which g c =
-    let p = err_from_is_err_and c.from_residual-in_err-answer_line.result c.from_residual-in_err-answer_line.ensures.1 in
-    rw p.1 (inr (elim c.in_err-answer_line.ensures.which [ inl e ↦ inl (p.2 ∙ e) | inr e ↦ inr (p.2 ∙ e) ]))
+    rw (err_is c.from_residual-in_err-answer_line.result c.from_residual-in_err-answer_line.ensures.1)
+    (inr c.in_err-answer_line.ensures.which)
 
 pub returns-in_err-answer_line-clause-reads : goal.returns-in_err-answer_line-clause-reads
 returns-in_err-answer_line-clause-reads g c = elim c.in_ok-answer_source.ensures.reads [ inl e ↦ absurd (no_ok _ Input e) | inr same ↦ inr same ]
@@ -94,3 +87,9 @@ returns-then-is_empty-clause-setup g c = c.answer_source.ensures.stays.setup
 
 pub returns-then-is_empty-clause-reads : goal.returns-then-is_empty-clause-reads
 returns-then-is_empty-clause-reads g c = elim c.in_ok-answer_source.ensures.reads [ inl e ↦ absurd (no_ok _ Input e) | inr same ↦ inr same ]
+
+pub returns-then-is_empty-clause-known : goal.returns-then-is_empty-clause-known
+returns-then-is_empty-clause-known g c = c.answer_source.ensures.stays.known (omega arith)
+
+pub returns-clause-known : goal.returns-clause-known
+returns-clause-known g c = c.answer_line.ensures.stays.known (c.answer_source.ensures.stays.known (omega arith))

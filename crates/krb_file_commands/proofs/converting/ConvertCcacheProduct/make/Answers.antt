@@ -1,18 +1,18 @@
 use Rattle.std.proofs.Common.{refl, rules, inl}
-use Rattle.std.proofs.lemmas.Result.{err_from_is_err_and}
 use Rattle.krb_ccache.specs.Format.{IsAnswerOf}
 use Rattle.krb_ccache.specs.Format.{written}
 use Rattle.krb_ccache.specs.declared.fault.CacheFault.{CacheFault}
 use Rattle.krb_ccache.specs.declared.fault.CacheFault.TheVariants.{OutOfMemory, Read, TooLong}
 use Rattle.krb_file_commands.specs.Status.{of_cache, cache_reads}
+use Rattle.krb_file_commands.proofs.FaultLaws.{err_is}
 use Rattle.krb_file_commands.proofs.ConvertLaws.{cache_unwritten, rewritten}
 use Rattle.krb_file_commands.proofs.ReadingLaws.{cache_counted, fault_met}
 use Rattle.krb_file_commands.proofs.converting.ConvertCcacheProduct.make.Goals as goal
 
 pub returns-in_err-cache : goal.returns-in_err-cache
 returns-in_err-cache g c =
-    let p = err_from_is_err_and c.from_residual.result c.from_residual.ensures.1 in
-    rw (p.1, p.2) (fault_met _ _ _ _ _ _ _ _ _ IsAnswerOf OutOfMemory Read c.read.result c.read.ensures.reads (λ (f : CacheFault). f) c.in_err-cache.field-0.0 c.in_err-cache.was refl refl (λ given is. inl is) tt
+    rw (err_is c.from_residual.result c.from_residual.ensures.1)
+    (fault_met _ _ _ _ _ _ _ _ _ IsAnswerOf OutOfMemory Read c.read.result c.read.ensures.reads (λ (f : CacheFault). f) c.in_err-cache.field-0.0 c.in_err-cache.was refl refl (λ given is. inl is) tt
     (search (rules, cache_counted)))
 
 pub returns : goal.returns

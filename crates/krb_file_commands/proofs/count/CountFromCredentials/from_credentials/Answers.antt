@@ -1,9 +1,9 @@
 use Rattle.std.proofs.Common.{◌≡◌, ◌∙◌, arith, ap, length, refl, rules, Bool, Ok, Err}
-use Rattle.std.proofs.lemmas.Result.{err_from_is_err_and}
 use Rattle.krb_ccache.specs.Format.{IsCache}
 use Rattle.krb_ccache.specs.Value.{Cache}
 use Rattle.krb_ccache.specs.declared.fault.CacheFault.TheVariants.{OutOfMemory}
 use Rattle.krb_file_commands.specs.Lines.{ok_line}
+use Rattle.krb_file_commands.proofs.FaultLaws.{err_is}
 use Rattle.krb_file_commands.proofs.FileLaws.{of_file_map}
 use Rattle.krb_file_commands.proofs.ReadingLaws.{cache_read, lacking}
 use Rattle.krb_file_commands.proofs.WalkLaws.{credential_counted, cache_told, fault_told, credentials_taken}
@@ -11,9 +11,8 @@ use Rattle.krb_file_commands.proofs.count.CountFromCredentials.from_credentials.
 
 pub returns-in_err-pass-clause-made : goal.returns-in_err-pass-clause-made
 returns-in_err-pass-clause-made g c =
-    let p = err_from_is_err_and c.from_residual.result c.from_residual.ensures.1 in
     let pass = c.in_err-pass.ensures in
-    rw (p.1, p.2) (λ from opened.
+    rw (err_is c.from_residual.result c.from_residual.ensures.1) (λ from opened.
     let counted = c.loop-count.invariant.counted from opened in
     cache_read c.each_file_has_one_answer.ensures.one _ _ _ _ _ (Err c.in_err-pass.field-0.0) tt
     (λ memory read. fault_told from (g.S.Source.remaining c.pass.new.self.source) c.in_err-pass.field-0.0 c.a_source_tells_its_file.ensures (pass.fault from counted.cache_read counted.read memory read))
@@ -35,9 +34,9 @@ loop-count-preserved g c =
 
 pub returns-in_err-ok_line-clause-made : goal.returns-in_err-ok_line-clause-made
 returns-in_err-ok_line-clause-made g c =
-    let p = err_from_is_err_and c.from_residual-in_err-ok_line.result c.from_residual-in_err-ok_line.ensures.1 in
     let pass = c.in_ok-pass.ensures in
-    rw (p.1, p.2) (λ from opened. lacking _ _ _ _ _ _ _ _ _ OutOfMemory refl tt (search rules)
+    rw (err_is c.from_residual-in_err-ok_line.result c.from_residual-in_err-ok_line.ensures.1)
+    (λ from opened. lacking _ _ _ _ _ _ _ _ _ OutOfMemory refl tt (search rules)
     (credentials_taken g.S.Source.remaining from c.loop-count.reader c.pass.new.self _ (c.loop-count.invariant.counted from opened) pass.given pass.limit))
 
 pub returns-clause-made : goal.returns-clause-made

@@ -1,8 +1,8 @@
 use Rattle.std.proofs.Common.{◌∙◌, arith, ap, refl, rules, Bool, Ok, Err}
-use Rattle.std.proofs.lemmas.Result.{err_from_is_err_and}
 use Rattle.krb_keytab.specs.Format.{IsKeytab}
 use Rattle.krb_keytab.specs.declared.fault.KeytabFault.TheVariants.{OutOfMemory}
 use Rattle.krb_file_commands.specs.Lines.{ok_line}
+use Rattle.krb_file_commands.proofs.FaultLaws.{err_is}
 use Rattle.krb_file_commands.proofs.FileLaws.{of_file_map}
 use Rattle.krb_file_commands.proofs.ReadingLaws.{keytab_read, lacking}
 use Rattle.krb_file_commands.proofs.WalkLaws.{one_counted, all_given, fault_given, entries_taken}
@@ -10,9 +10,9 @@ use Rattle.krb_file_commands.proofs.count.CountFromEntries.from_entries.Goals as
 
 pub returns-in_err-pass-clause-made : goal.returns-in_err-pass-clause-made
 returns-in_err-pass-clause-made g c =
-    let p = err_from_is_err_and c.from_residual.result c.from_residual.ensures.1 in
     let pass = c.in_err-pass.ensures in
-    rw (p.1, p.2) (keytab_read c.each_file_has_one_answer.ensures.one _ _ _ _ _ (Err c.in_err-pass.field-0.0) tt
+    rw (err_is c.from_residual.result c.from_residual.ensures.1)
+    (keytab_read c.each_file_has_one_answer.ensures.one _ _ _ _ _ (Err c.in_err-pass.field-0.0) tt
     (fault_given _ _ _ c.loop-count.reader c.pass.new.self _ c.in_err-pass.field-0.0 c.a_reader_tells_the_file.ensures.fault c.loop-count.invariant.counted pass.reads pass.stage)
     (entries_taken _ _ _ c.loop-count.reader c.pass.new.self _ _ c.loop-count.invariant.counted pass.reads pass.limit) (search rules))
 
@@ -31,8 +31,8 @@ loop-count-preserved g c =
 
 pub returns-in_err-ok_line-clause-made : goal.returns-in_err-ok_line-clause-made
 returns-in_err-ok_line-clause-made g c =
-    let p = err_from_is_err_and c.from_residual-in_err-ok_line.result c.from_residual-in_err-ok_line.ensures.1 in
-    rw (p.1, p.2) (lacking _ _ _ _ _ _ _ _ _ OutOfMemory refl tt (search rules)
+    rw (err_is c.from_residual-in_err-ok_line.result c.from_residual-in_err-ok_line.ensures.1)
+    (lacking _ _ _ _ _ _ _ _ _ OutOfMemory refl tt (search rules)
     (entries_taken _ _ _ c.loop-count.reader c.pass.new.self _ _ c.loop-count.invariant.counted (rw c.if-branch.false at c.in_ok-pass.ensures.reads) c.in_ok-pass.ensures.limit))
 
 pub returns-clause-made : goal.returns-clause-made

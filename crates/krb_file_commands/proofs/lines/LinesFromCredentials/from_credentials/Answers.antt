@@ -1,5 +1,5 @@
 use Rattle.std.proofs.Common.{◌≡◌, ◌∙◌, arith, ap, refl, rules, string_bytes, Option, Ok, Err}
-use Rattle.std.proofs.lemmas.Result.{err_from_is_err_and}
+use Rattle.krb_file_commands.proofs.FaultLaws.{err_is}
 use Rattle.krb_name.proofs.FileLaws.{takes_file}
 use Rattle.krb_ccache.specs.Format.{IsCache}
 use Rattle.krb_ccache.specs.Value.{Cache}
@@ -13,14 +13,13 @@ use Rattle.krb_file_commands.proofs.lines.LinesFromCredentials.from_credentials.
 
 pub returns-in_err-lines-clause-made : goal.returns-in_err-lines-clause-made
 returns-in_err-lines-clause-made g c =
-    let p = err_from_is_err_and c.from_residual.result c.from_residual.ensures.1 in
-    rw (p.1, p.2) (λ from opened. lacking _ _ _ _ _ _ _ _ _ OutOfMemory refl tt (search rules) (takes_file _ _ 0 _ refl opened.gave))
+    rw (err_is c.from_residual.result c.from_residual.ensures.1)
+    (λ from opened. lacking _ _ _ _ _ _ _ _ _ OutOfMemory refl tt (search rules) (takes_file _ _ 0 _ refl opened.gave))
 
 pub returns-in_err-credential-clause-made : goal.returns-in_err-credential-clause-made
 returns-in_err-credential-clause-made g c =
-    let p = err_from_is_err_and c.from_residual-in_err-credential.result c.from_residual-in_err-credential.ensures.1 in
     let next = c.in_err-credential.ensures in
-    rw (p.1, p.2) (λ from opened.
+    rw (err_is c.from_residual-in_err-credential.result c.from_residual-in_err-credential.ensures.1) (λ from opened.
     let listed = c.loop-lines.invariant.listed from opened in
     cache_read c.each_file_has_one_answer.ensures.one _ _ _ _ _ (Err c.in_err-credential.field-0.0) tt
     (λ memory read. fault_told from (g.S.Source.remaining c.next.new.self.source) c.in_err-credential.field-0.0 c.a_source_tells_its_file.ensures (next.fault from listed.cache_read listed.read memory read))
@@ -28,8 +27,8 @@ returns-in_err-credential-clause-made g c =
 
 pub returns-in_err-write_credential-clause-made : goal.returns-in_err-write_credential-clause-made
 returns-in_err-write_credential-clause-made g c =
-    let p = err_from_is_err_and c.from_residual-in_err-write_credential.result c.from_residual-in_err-write_credential.ensures.1 in
-    rw (p.1, p.2) (λ from opened. lacking _ _ _ _ _ _ _ _ _ OutOfMemory refl tt (search rules)
+    rw (err_is c.from_residual-in_err-write_credential.result c.from_residual-in_err-write_credential.ensures.1)
+    (λ from opened. lacking _ _ _ _ _ _ _ _ _ OutOfMemory refl tt (search rules)
     (credentials_taken g.S.Source.remaining from c.loop-lines.reader c.next.new.self _ (c.loop-lines.invariant.listed from opened) c.next.ensures.given c.next.ensures.limit))
 
 pub loop-lines-preserved : goal.loop-lines-preserved

@@ -1,7 +1,7 @@
 use Rattle.std.proofs.Common.{◌∙◌, arith, refl, rules, None, Ok, Err}
-use Rattle.std.proofs.lemmas.Result.{err_from_is_err_and}
 use Rattle.krb_keytab.specs.Format.{IsKeytab}
 use Rattle.krb_keytab.specs.declared.fault.KeytabFault.TheVariants.{OutOfMemory}
+use Rattle.krb_file_commands.proofs.FaultLaws.{err_is}
 use Rattle.krb_file_commands.proofs.FileLaws.{of_file_map}
 use Rattle.krb_file_commands.proofs.ReadingLaws.{keytab_read, lacking}
 use Rattle.krb_file_commands.proofs.WalkLaws.{gives_reads, one_listed, all_given, fault_given, entries_taken}
@@ -9,17 +9,17 @@ use Rattle.krb_file_commands.proofs.lines.LinesFromEntries.from_entries.Goals as
 
 pub returns-in_err-entry-clause-made : goal.returns-in_err-entry-clause-made
 returns-in_err-entry-clause-made g c =
-    let p = err_from_is_err_and c.from_residual.result c.from_residual.ensures.1 in
     let next = c.in_err-entry.ensures in
     let reads = gives_reads _ _ _ _ (Err c.in_err-entry.field-0.0) next.reads in
-    rw (p.1, p.2) (keytab_read c.each_file_has_one_answer.ensures.one _ _ _ _ _ (Err c.in_err-entry.field-0.0) tt
+    rw (err_is c.from_residual.result c.from_residual.ensures.1)
+    (keytab_read c.each_file_has_one_answer.ensures.one _ _ _ _ _ (Err c.in_err-entry.field-0.0) tt
     (fault_given _ _ _ c.loop-lines.reader c.next.new.self _ c.in_err-entry.field-0.0 c.a_reader_tells_the_file.ensures.fault c.loop-lines.invariant.listed reads next.stage)
     (entries_taken _ _ _ c.loop-lines.reader c.next.new.self _ _ c.loop-lines.invariant.listed reads next.limit) (search rules))
 
 pub returns-in_err-write_entry-clause-made : goal.returns-in_err-write_entry-clause-made
 returns-in_err-write_entry-clause-made g c =
-    let p = err_from_is_err_and c.from_residual-in_err-write_entry.result c.from_residual-in_err-write_entry.ensures.1 in
-    rw (p.1, p.2) (lacking _ _ _ _ _ _ _ _ _ OutOfMemory refl tt (search rules)
+    rw (err_is c.from_residual-in_err-write_entry.result c.from_residual-in_err-write_entry.ensures.1)
+    (lacking _ _ _ _ _ _ _ _ _ OutOfMemory refl tt (search rules)
     (entries_taken _ _ _ c.loop-lines.reader c.next.new.self _ _ c.loop-lines.invariant.listed (gives_reads _ _ _ _ c.next.result c.next.ensures.reads) c.next.ensures.limit))
 
 pub loop-lines-preserved : goal.loop-lines-preserved

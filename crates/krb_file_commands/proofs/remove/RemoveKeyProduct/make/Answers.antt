@@ -1,21 +1,21 @@
 use Rattle.std.proofs.Common.{rules}
-use Rattle.std.proofs.lemmas.Result.{err_from_is_err_and}
+use Rattle.krb_file_commands.proofs.FaultLaws.{err_is}
 use Rattle.krb_file_commands.proofs.RemoveLaws.{answer_means, no_failed_read, none_unremoved, removed_known, unread_exits, unremoved_known}
 use Rattle.krb_file_commands.proofs.ReadingLaws.{faulty, lacking}
 use Rattle.krb_file_commands.proofs.remove.RemoveKeyProduct.make.Goals as goal
 
 pub returns-in_err-file : goal.returns-in_err-file
 returns-in_err-file g c =
-    let p = err_from_is_err_and c.from_residual.result c.from_residual.ensures.1 in
-    rw (p.1, p.2) (lacking _ _ _ _ _ _ _ _ _ c.in_err-file.field-0.0 (unread_exits c.in_err-file.field-0.0 c.in_err-file.ensures.which) tt (search rules) c.in_err-file.ensures.taken)
+    rw (err_is c.from_residual.result c.from_residual.ensures.1)
+    (lacking _ _ _ _ _ _ _ _ _ c.in_err-file.field-0.0 (unread_exits c.in_err-file.field-0.0 c.in_err-file.ensures.which) tt (search rules) c.in_err-file.ensures.taken)
 
 pub returns-in_err-remove_in : goal.returns-in_err-remove_in
 returns-in_err-remove_in g c =
-    let p = err_from_is_err_and c.from_residual-in_err-remove_in.result c.from_residual-in_err-remove_in.ensures.1 in
     let met = c.in_err-remove_in.field-0.0 in
     let means = answer_means c.remove_in.result c.in_ok-file.file.items c.args.self.now.index met c.remove_in.ensures.missing c.remove_in.ensures.fault in
     let unremoved = means.0 c.in_err-remove_in.was in
-    rw (p.1, p.2) (faulty _ _ _ _ _ _ _ _ _ met (unremoved_known (g.S.Source.remaining c.args.source.now) c.in_ok-file.file.items c.args.self.now.index met c.in_ok-file.ensures.bytes unremoved) tt
+    rw (err_is c.from_residual-in_err-remove_in.result c.from_residual-in_err-remove_in.ensures.1)
+    (faulty _ _ _ _ _ _ _ _ _ met (unremoved_known (g.S.Source.remaining c.args.source.now) c.in_ok-file.file.items c.args.self.now.index met c.in_ok-file.ensures.bytes unremoved) tt
     (rw (no_failed_read met c.in_ok-file.file.items c.args.self.now.index unremoved) (search rules)) c.in_ok-file.ensures.taken)
 
 pub returns : goal.returns

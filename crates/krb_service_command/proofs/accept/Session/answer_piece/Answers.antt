@@ -1,5 +1,5 @@
 use Rattle.std.proofs.Common.{rules, arith, ◌≢◌, ◌++◌, ◌∷◌, [], All, refl, append-nil, sym}
-use Rattle.std.proofs.lemmas.Result.{err_from_is_err_and}
+use Rattle.krb_file_commands.proofs.FaultLaws.{err_is}
 use Rattle.krb_service_command.proofs.GoingLaws.{going_bytes, left_on, line_on, piece_is, stays_on, stopped_before, stopped_more, whole_is}
 use Rattle.krb_service_command.proofs.accept.Session.answer_piece.Goals as goal
 
@@ -9,16 +9,15 @@ lines-init g c = (
   record {
     parts = refl;
     going = λ start came going. rw (append-nil came) going;
-    stays = record { setup = refl; options = refl };
+    stays = record { setup = refl; options = refl; known = λ before. before };
     counted = refl;
   },
 )
 
 pub returns-in_err-end_line-clause-err : goal.returns-in_err-end_line-clause-err
 returns-in_err-end_line-clause-err g c = λ start came going.
-    let p = err_from_is_err_and c.from_residual.result c.from_residual.ensures.1 in
     let gone = c.lines.invariant.0 in
-    rw (p.1, sym (whole_is came c.args.piece.now gone c.lines.left.now c.in-Some.bytes.now c.in-Some.rest.now c.lines.invariant.1.parts c.in-Some.ensures.0))
+    rw (err_is c.from_residual.result c.from_residual.ensures.1, sym (whole_is came c.args.piece.now gone c.lines.left.now c.in-Some.bytes.now c.in-Some.rest.now c.lines.invariant.1.parts c.in-Some.ensures.0))
     (stopped_more c.in-Some.rest.now (c.in_err-end_line.ensures.err start (came ++ gone) (c.lines.invariant.1.going start came going)))
 
 pub lines-preserved : goal.lines-preserved
@@ -36,8 +35,7 @@ lines-preserved g c =
 
 pub returns-in_err-extend-clause-err : goal.returns-in_err-extend-clause-err
 returns-in_err-extend-clause-err g c = λ start came going.
-    let p = err_from_is_err_and c.from_residual-in_err-extend.result c.from_residual-in_err-extend.ensures.1 in
-    rw (p.1, sym (piece_is came c.args.piece.now c.lines.invariant.0 c.lines.left.now c.lines.invariant.1.parts))
+    rw (err_is c.from_residual-in_err-extend.result c.from_residual-in_err-extend.ensures.1, sym (piece_is came c.args.piece.now c.lines.invariant.0 c.lines.left.now c.lines.invariant.1.parts))
     (stopped_before (c.lines.invariant.1.going start came going) c.lines.left.now)
 
 pub returns-clause-ok : goal.returns-clause-ok
