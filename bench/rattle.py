@@ -162,6 +162,14 @@ def memory() -> Iterator[Row]:
                       Side("{krb_bench} %s %s 1000000 1" % (what, order)), "1,000,000 held", nothing, 1, ())
 
 
+def remembered() -> Iterator[Row]:
+    """`accept` by a service that remembers a request of each of 1,000,000 clients, or of 1,000."""
+    for what, clients, each, count, counted in (LIVES[0], LIVES[3]):
+        side = "{krb_exchange} held {at}/keytab {now} {count} {at}/messages %d"
+        yield Row("greatest", f"accept, {what}: 1,000,000 remembered", Side(side % 1_000_000), Side(side % 1_000),
+                  "1,000 remembered", messages("requests", 19, 0, clients, each, count), count, counted)
+
+
 def greatest(folder, program, held=10_000_000, lines=2_000):
     """What a call takes more at most, of 20,000 calls on a memory that has as many tuples as its limits allow.
 
@@ -188,7 +196,8 @@ def found(folder, bench, groups, has_times):
     bench.programs.update(built(folder))
     if "greatest" in groups:
         greatest(folder, bench.programs["krb_bench"])
-    rows = [row for of in (cipher, sealing, of_messages, requests) for row in of()] if "rattle" in groups else []
+    rows = list(remembered()) if "greatest" in groups else []
+    rows += [row for of in (cipher, sealing, of_messages, requests) for row in of()] if "rattle" in groups else []
     if has_times and "memory" in groups:
         rows += memory()
     return run.found_of(bench, rows, has_times)

@@ -3,52 +3,7 @@
  * of output that begins with `wrong` is one. */
 #include "asked.h"
 #include "checks.h"
-
-/* In front of each piece: its size. */
-#define HEAD 16
-
-void *__real_malloc(size_t size);
-void *__real_realloc(void *at, size_t size);
-void __real_free(void *at);
-void *__wrap_malloc(size_t size);
-void *__wrap_realloc(void *at, size_t size);
-void __wrap_free(void *at);
-
-static size_t held = 0;
-
-static void *sized(uint8_t *at, size_t size)
-{
-    if (at == NULL)
-        return NULL;
-    memcpy(at, &size, sizeof size);
-    held += size;
-    return at + HEAD;
-}
-
-static uint8_t *head(uint8_t *at)
-{
-    size_t size;
-
-    memcpy(&size, at - HEAD, sizeof size);
-    held -= size;
-    return at - HEAD;
-}
-
-void *__wrap_malloc(size_t size)
-{
-    return sized(__real_malloc(size + HEAD), size);
-}
-
-void *__wrap_realloc(void *at, size_t size)
-{
-    return sized(__real_realloc(at == NULL ? NULL : head(at), size + HEAD), size);
-}
-
-void __wrap_free(void *at)
-{
-    if (at != NULL)
-        __real_free(head(at));
-}
+#include "held.h"
 
 static struct bytes keytab;
 static struct client clients[2];
@@ -62,7 +17,7 @@ static void make(size_t limit, size_t limit_for_client)
     is("service", fevstunik_acceptor_new(&service, keytab.at, keytab.size, WEB, &options).code, FEVSTUNIK_OK);
 }
 
-/* At most 40 bytes for a request of known names, and 224 for the first of a client. */
+/* At most 40 bytes for a request of known names, and 224 for the first of a client among few. (clients.c has many clients.) */
 static void sizes(long requests)
 {
     size_t before;

@@ -9,6 +9,8 @@ from support.c_programs import CACHE, KEYED, KEYTAB, VALGRIND, linked, message, 
 
 # Of a large keytab and a large cache.
 ITEMS = 30_000
+# The program counts the bytes that it holds (held.h).
+COUNTED = [f"-Wl,--wrap={it}" for it in ("malloc", "realloc", "free")]
 
 
 class Programs:
@@ -113,9 +115,15 @@ def test_what_requests_take(archive, tmp_path, checks):
     """One client sends 300,000 requests; and a million are remembered at once, each in at most 40 bytes."""
     other = tmp_path / "carol.ccache"
     other.write_bytes(c_cases.cache_of("carol"))
-    wrapped = [f"-Wl,--wrap={it}" for it in ("malloc", "realloc", "free")]
-    program = linked(archive, tmp_path / "attack", of_tests("attack"), *wrapped)
+    program = linked(archive, tmp_path / "attack", of_tests("attack"), *COUNTED)
     c_programs.counted(checks, run(program, KEYTAB, CACHE, other, 300_000, 1_000_000))
+
+
+def test_what_clients_take(archive, tmp_path, checks):
+    """100,000 clients send a request each, in the order of their names, backwards, and at random: at most 240 bytes
+    for each."""
+    program = linked(archive, tmp_path / "clients", of_tests("clients"), *COUNTED)
+    c_programs.counted(checks, run(program, KEYTAB, CACHE, 100_000))
 
 
 def test_what_large_names_take(archive, tmp_path, checks):

@@ -11,10 +11,12 @@ use Rattle.std.proofs.lemmas.Cmp.{tied_itself}
 use Rattle.std.proofs.lemmas.List.Elements.{All-head, All-tail}
 use Rattle.std.proofs.lemmas.Map.Lookups.{exact_bytes}
 use Rattle.std.proofs.lemmas.Nat.{from_be_bytes-to_be_bytes_8}
-use Rattle.krb_replay.specs.Stamp.{RealmAndName}
+use Rattle.krb_name.specs.Name.{name_hash}
+use Rattle.krb_name.specs.declared.principal.Principal.{Principal}
+use Rattle.krb_replay.specs.Stamp.{RealmAndName, name_of}
 use Rattle.krb_replay.specs.Bytes.{HasLengths, name_bytes, number_bytes, text_bytes}
-use Rattle.krb_replay.specs.Inner.Names.{AreNames, after_text, name_at, number_at, text_at, texts_at}
-use Rattle.krb_replay.specs.Inner.Order.{name_cmp, parts_cmp, parts_total}
+use Rattle.krb_replay.specs.Inner.Names.{AreNames, after_text, hash_of, name_at, number_at, text_at, texts_at}
+use Rattle.krb_replay.specs.Inner.Order.{bytes_cmp, parts_cmp, parts_total}
 use Rattle.krb_replay.proofs.BytesLaws.{grouped, name_back}
 
 number_read : (n : ℕ) (rest : List ℕ) → n < 2 ^ 64 → number_at (number_bytes n ++ rest) ≡ n
@@ -63,7 +65,8 @@ name_read name rest fits =
     ∙ ap (λ (cs : List (List ℕ)). record { realm = name.realm; components = cs }) components))
 
 -- two names, one after the other
-pub names_read : (server client : RealmAndName) → HasLengths server → HasLengths client → AreNames (name_bytes server ++ name_bytes client) (length (name_bytes server))
+pub names_read : (server client : RealmAndName) → HasLengths server → HasLengths client
+    → AreNames (name_bytes server ++ name_bytes client) (length (name_bytes server)) (hash_of client)
 names_read server client fits also =
     let one : name_at (name_bytes server ++ name_bytes client) ≡ server = name_read server (name_bytes client) fits in
     let past : drop (length (name_bytes server)) (name_bytes server ++ name_bytes client) ≡ name_bytes client = drop-append_seam (name_bytes server) (name_bytes client) in
@@ -76,7 +79,13 @@ names_read server client fits also =
       client = subst HasLengths (sym other) also;
       server_is = take-append_seam (name_bytes server) (name_bytes client) ∙ ap name_bytes (sym one);
       client_is = past ∙ ap name_bytes (sym other);
+      hash_is = ap hash_of (sym other);
     }
+
+-- the type doesn't count
+pub hash_same : (name : Principal) → name_hash name ≡ hash_of (name_of name)
+unfolding name_hash
+hash_same name = refl
 
 by_bytes : (bytes rest : Ordering) → (bytes ≡ Equal → rest ≡ Equal) → bytes ≡ ordering_then bytes rest
 by_bytes Less rest tie = refl
@@ -84,7 +93,7 @@ by_bytes Equal rest tie = sym (tie refl)
 by_bytes Greater rest tie = refl
 
 -- names are compared by their bytes
-pub bytes_order : (one other : RealmAndName) → HasLengths one → HasLengths other → slice_cmp nat_cmp (name_bytes one) (name_bytes other) ≡ name_cmp one other
+pub bytes_order : (one other : RealmAndName) → HasLengths one → HasLengths other → slice_cmp nat_cmp (name_bytes one) (name_bytes other) ≡ bytes_cmp one other
 bytes_order one other fits also =
     by_bytes (slice_cmp nat_cmp (name_bytes one) (name_bytes other)) (parts_cmp one other)
     (λ same. let bytes : name_bytes one ++ [] ≡ name_bytes other ++ [] = ap (λ (list : List ℕ). list ++ []) (exact_bytes (name_bytes one) (name_bytes other) same) in
@@ -92,11 +101,12 @@ bytes_order one other fits also =
     ap (λ (name : RealmAndName). parts_cmp name other) names ∙ tied_itself parts_total other)
 
 -- bytes that are two names
-pub names_are : (bytes : List ℕ) (first : ℕ) (server client : RealmAndName) → bytes ≡ name_bytes server ++ name_bytes client
-    → first ≡ length (name_bytes server) → HasLengths server → HasLengths client → AreNames bytes first
-names_are bytes first server client is long fits also =
-    subst (λ (list : List ℕ). AreNames list first) (sym is)
-    (subst (λ (n : ℕ). AreNames (name_bytes server ++ name_bytes client) n) (sym long) (names_read server client fits also))
+pub names_are : (bytes : List ℕ) (first hash : ℕ) (server client : RealmAndName) → bytes ≡ name_bytes server ++ name_bytes client
+    → first ≡ length (name_bytes server) → hash ≡ hash_of client → HasLengths server → HasLengths client → AreNames bytes first hash
+names_are bytes first hash server client is long hashed fits also =
+    subst (λ (list : List ℕ). AreNames list first hash) (sym is)
+    (subst (λ (n : ℕ). AreNames (name_bytes server ++ name_bytes client) n hash) (sym long)
+    (subst (λ (h : ℕ). AreNames (name_bytes server ++ name_bytes client) (length (name_bytes server)) h) (sym hashed) (names_read server client fits also)))
 
 pub names_back : (bytes : List ℕ) (first : ℕ) (server client : RealmAndName) → bytes ≡ name_bytes server ++ name_bytes client
     → first ≡ length (name_bytes server) → HasLengths server → HasLengths client

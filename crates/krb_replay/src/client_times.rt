@@ -72,7 +72,10 @@ impl ClientTimes {
     {
         if self.of(client) > 1 {
             match self.times.get_mut(client) {
-                Some(times) => return times.remove(time),
+                Some(times) => {
+                    let _ = times.remove(time);
+                    return;
+                }
                 None => return,
             }
         }

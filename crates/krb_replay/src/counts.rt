@@ -7,10 +7,10 @@ ghost use Rattle.krb_replay.specs.Inner.Counts.{AddsOne, HasNoZero, SameCounts, 
 use std::alloc::{AllocError, Global};
 use std::collections::BTreeMap;
 
-/// How many tuples each key has, if it has any.
+/// How many tuples each key has, if it has any. A count has 4 bytes.
 #[derive(Debug, Drop)]
 pub(crate) struct Counts<K: Ord> {
-    counts: BTreeMap<K, usize>,
+    counts: BTreeMap<K, u32>,
 }
 
 impl<K: Ord + Drop> Counts<K> {
@@ -29,7 +29,7 @@ impl<K: Ord + Drop> Counts<K> {
     }
 
     /// Returns how many tuples the key has.
-    pub(crate) fn of(&self, key: &K) -> usize
+    pub(crate) fn of(&self, key: &K) -> u32
         ensures { result ≡ count_by K.cmp self.now.counts key.now }
     {
         match self.counts.get(key) {
@@ -48,7 +48,8 @@ impl<K: Ord + Drop> Counts<K> {
         }
     }
 
-    /// Counts one more tuple of the key.
+    /// Counts one more tuple of the key. It fails if there is no memory, or the key has 4,294,967,295
+    /// tuples already.
     pub(crate) fn add(&mut self, key: K) -> Result<(), AllocError>
         ensures ok { OnOk result (AddsOne K.cmp self.old.counts self.new.counts key) }
         ensures err { OnErr result (SameCounts K.cmp self.old.counts self.new.counts) }

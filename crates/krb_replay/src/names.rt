@@ -2,7 +2,8 @@
 
 ghost use Rattle.std.specs.Prelude.{◌≡◌, IfOk};
 ghost use Rattle.krb_replay.specs.Bytes.{HasLengths, name_bytes};
-ghost use Rattle.krb_replay.specs.Inner.Order.{name_cmp};
+ghost use Rattle.krb_replay.specs.Inner.Names.{hash_of};
+ghost use Rattle.krb_replay.specs.Inner.Order.{bytes_cmp, name_cmp};
 ghost use Rattle.krb_replay.specs.Stamp.{name_of};
 
 use crate::stamp_bytes::write_name;
@@ -12,11 +13,13 @@ use std::cmp::Ordering;
 use std::marker::Model;
 
 /// The names of a service and a client, one after the other, as bytes: in the form of
-/// [`Tuple::to_bytes`](crate::Tuple::to_bytes).
+/// [`Tuple::to_bytes`](crate::Tuple::to_bytes). A hash of the client's name stands beside them, so
+/// that clients can be told apart without a look at the bytes.
 #[derive(Debug, Drop)]
 pub(crate) struct Names {
     bytes: Vec<u8>,
     server_len: usize,
+    client_hash: u32,
 }
 
 impl Model for Names {
@@ -28,7 +31,7 @@ impl Model for Names {
 
     ghost view = { λ names. (name_at names.bytes.items, name_at (drop names.server_len names.bytes.items)) };
 
-    ghost invariant = { λ names. AreNames names.bytes.items names.server_len };
+    ghost invariant = { λ names. AreNames names.bytes.items names.server_len names.client_hash };
 }
 
 impl Names {
@@ -40,12 +43,17 @@ impl Names {
     ) -> Result<Names, AllocError>
         ensures { IfOk result (λ names. names ≡ (name_of server.now, name_of client.now)) }
     {
+        let client_hash = client.name_hash();
         let size = size_of(server).saturating_add(size_of(client));
         let mut bytes = Vec::with_capacity(alloc, size)?;
         write_name(&mut bytes, server)?;
         let server_len = bytes.len();
         write_name(&mut bytes, client)?;
-        Ok(Names { bytes, server_len })
+        Ok(Names {
+            bytes,
+            server_len,
+            client_hash,
+        })
     }
 
     /// Returns the bytes of the service's name.
@@ -66,14 +74,30 @@ impl Names {
 
     /// Compares the names of the services.
     pub(crate) fn compare_servers(&self, other: &Names) -> Ordering
-        ensures { result ≡ name_cmp self.now.0 other.now.0 }
+        ensures { result ≡ bytes_cmp self.now.0 other.now.0 }
     {
         self.server().cmp(&other.server())
     }
 
-    /// Compares the names of the clients.
+    /// Compares the names of the clients, by their hashes first. So the order says nothing of how
+    /// the names follow each other, and a tree over it is filled evenly.
     pub(crate) fn compare_clients(&self, other: &Names) -> Ordering
         ensures { result ≡ name_cmp self.now.1 other.now.1 }
+    {
+        match self.hash().cmp(&other.hash()) {
+            Ordering::Equal => self.compare_client_bytes(other),
+            apart => apart,
+        }
+    }
+
+    fn hash(&self) -> u32
+        ensures { result ≡ hash_of self.now.1 }
+    {
+        self.client_hash
+    }
+
+    fn compare_client_bytes(&self, other: &Names) -> Ordering
+        ensures { result ≡ bytes_cmp self.now.1 other.now.1 }
     {
         self.client().cmp(&other.client())
     }

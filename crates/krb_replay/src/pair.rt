@@ -72,8 +72,8 @@ impl Ord for Pair {
     ghost matches_eq = { Prim.search (comparing, rules) };
 
     fn cmp(&self, other: &Pair) -> Ordering {
-        match self.names().compare_servers(other.names()) {
-            Ordering::Equal => self.names().compare_clients(other.names()),
+        match self.names().compare_clients(other.names()) {
+            Ordering::Equal => self.names().compare_servers(other.names()),
             apart => apart,
         }
     }

@@ -1,3 +1,4 @@
 pub mod BucketLaws
 pub mod OrderLaws
+pub mod RemovalLaws
 pub mod TallyLaws

@@ -1,2 +1,3 @@
 pub mod Buckets
 pub mod Kept
+pub mod Removal

@@ -106,5 +106,11 @@ fn counts_the_times_of_one_owner(rt: HostRuntime) -> Result<(), Fail> {
     for n in 0..1500u32 {
         assert_eq!(rt; times.since(i64::from(n)), 1500 - n as usize);
     }
+    for n in 1..1500u32 {
+        assert!(rt; times.remove(i64::from(n)));
+        assert!(rt; !times.remove(i64::from(n)));
+    }
+    assert!(rt; !times.remove(0));
+    assert_eq!(rt; times.len(), 1);
     Ok(())
 }

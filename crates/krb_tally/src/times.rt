@@ -1,8 +1,9 @@
 //! The times of one owner, of whom there may be many.
 
-ghost use Rattle.std.specs.Prelude.{◌≡◌, ◌∷◌, ◌<◌, [], Contains, IfOk, OnErr, OnOk, length};
+ghost use Rattle.std.specs.Prelude.{◌≡◌, ◌↔◌, ◌∷◌, ◌<◌, [], Contains, IfOk, IsTrue, OnErr, OnOk, false, length};
 ghost use Rattle.std.specs.List.Sorted.{IsPermutation};
 ghost use Rattle.krb_tally.specs.Times.{own_time, number_since};
+ghost use Rattle.krb_tally.specs.Inner.Removal.{Removes};
 
 use crate::bucket::Bucket;
 use crate::tally::Tally;
@@ -28,12 +29,14 @@ enum Kept {
 }
 
 impl Model for Times {
-    ghost use Rattle.std.specs.Prelude.{List, ℤ};
+    ghost use Rattle.std.specs.Prelude.{◌<◌, List, ℤ, length};
     ghost use Rattle.krb_tally.specs.Inner.Kept.{times_of};
 
     ghost Value = { List ℤ };
 
     ghost view = { λ times. times_of times.kept };
+
+    ghost invariant = { λ times. 0 < length (times_of times.kept) };
 }
 
 impl Times {
@@ -48,7 +51,8 @@ impl Times {
 
     /// Returns how many times there are.
     pub fn len(&self) -> usize
-        ensures { result ≡ length self.now }
+        ensures len { result ≡ length self.now }
+        ensures some { 0 < result }
     {
         match &self.kept {
             Kept::One(_) => 1,
@@ -94,18 +98,16 @@ impl Times {
         }
     }
 
-    /// Removes a time. There are others.
-    pub fn remove(&mut self, time: i64)
-        requires there { Contains self.old time }
-        requires others { 1 < length self.old }
-        ensures { IsPermutation self.old (time ∷ self.new) }
+    /// Removes a time, if it is there and isn't the only one. Returns whether it did.
+    pub fn remove(&mut self, time: i64) -> bool
+        ensures exactly { IsTrue result ↔ (Contains self.old time × (1 < length self.old)) }
+        ensures removed { IsTrue result → IsPermutation self.old (time ∷ self.new) }
+        ensures kept { result ≡ false → self.new ≡ self.old }
     {
         match &mut self.kept {
-            Kept::One(_) => {}
-            Kept::Few(times) => remove_from(times, time),
-            Kept::Many(times) => {
-                let _ = times.remove(time);
-            }
+            Kept::One(_) => false,
+            Kept::Few(times) => remove_few(times, time),
+            Kept::Many(times) => remove_many(times, time),
         }
     }
 }
@@ -119,13 +121,26 @@ fn one_more(alloc: Global, times: &Bucket<i64>, time: i64) -> Result<Box<Tally<i
     Ok(Box::new(alloc, more)?)
 }
 
-// Removes a time of a bucket. There are others.
-fn remove_from(times: &mut Bucket<i64>, time: i64)
-    requires there { Contains times.old time }
-    requires others { 1 < length times.old }
-    ensures { IsPermutation times.old (time ∷ times.new) }
+// Removes a time of a bucket, if it is there and isn't the only one. Returns whether it did.
+fn remove_few(times: &mut Bucket<i64>, time: i64) -> bool
+    ensures { Removes times.old time result times.new }
 {
-    if let Some(at) = times.find(time) {
-        let _ = times.take(at);
+    if times.len() == 1 {
+        return false;
     }
+    let Some(at) = times.find(time) else {
+        return false;
+    };
+    let _ = times.take(at);
+    true
+}
+
+// Removes a time of a tally, if it is there and isn't the only one. Returns whether it did.
+fn remove_many(times: &mut Tally<i64>, time: i64) -> bool
+    ensures { Removes times.old time result times.new }
+{
+    if times.len() < 2 {
+        return false;
+    }
+    times.remove(time).is_some()
 }

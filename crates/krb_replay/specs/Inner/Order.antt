@@ -8,6 +8,7 @@ use Rattle.std.specs.declared.cmp.Ordering.TheVariants.{Less, Equal, Greater}
 use Rattle.std.specs.Ordering.{int_cmp, is_le, nat_cmp, on, ordering_then, then_cmp}
 use Rattle.krb_replay.specs.Bytes.{name_bytes}
 use Rattle.krb_replay.specs.Stamp.{RealmAndName, Stamp}
+use Rattle.krb_replay.specs.Inner.Names.{hash_of}
 
 -- the components of a name, each compared byte for byte
 abbrev pub components_cmp : List (List ℕ) → List (List ℕ) → Ordering
@@ -18,8 +19,12 @@ parts_cmp = then_cmp (on (λ name. name.realm) (slice_cmp nat_cmp)) (on (λ name
 
 -- Names are compared by their bytes. Those of names whose lengths are numbers of 8 bytes differ if
 -- the names do.
+abbrev pub bytes_cmp : RealmAndName → RealmAndName → Ordering
+bytes_cmp = then_cmp (on name_bytes (slice_cmp nat_cmp)) parts_cmp
+
+-- Those of clients are compared by a hash first.
 abbrev pub name_cmp : RealmAndName → RealmAndName → Ordering
-name_cmp = then_cmp (on name_bytes (slice_cmp nat_cmp)) parts_cmp
+name_cmp = then_cmp (on hash_of nat_cmp) bytes_cmp
 
 -- the names of a service and a client
 abbrev pub TwoNames : Type 0
@@ -29,7 +34,7 @@ abbrev pub names_of : Stamp → TwoNames
 names_of stamp = (stamp.server, stamp.client)
 
 abbrev pub pair_cmp : TwoNames → TwoNames → Ordering
-pair_cmp = then_cmp (on (λ names. names.0) name_cmp) (on (λ names. names.1) name_cmp)
+pair_cmp = then_cmp (on (λ names. names.1) name_cmp) (on (λ names. names.0) bytes_cmp)
 
 -- by the client alone
 abbrev pub client_cmp : TwoNames → TwoNames → Ordering
@@ -43,11 +48,14 @@ parts_total = then_total (on_total (λ name. name.realm) (lists_total nat_cmp_to
     (on_total (λ name. name.components) (lists_total (lists_total nat_cmp_total)))
 
 -- they are total orders
+pub bytes_total : IsTotalOrder bytes_cmp
+bytes_total = then_total (on_total name_bytes (lists_total nat_cmp_total)) parts_total
+
 pub name_total : IsTotalOrder name_cmp
-name_total = then_total (on_total name_bytes (lists_total nat_cmp_total)) parts_total
+name_total = then_total (on_total hash_of nat_cmp_total) bytes_total
 
 pub pair_total : IsTotalOrder pair_cmp
-pair_total = then_total (on_total (λ names. names.0) name_total) (on_total (λ names. names.1) name_total)
+pair_total = then_total (on_total (λ names. names.1) name_total) (on_total (λ names. names.0) bytes_total)
 
 pub client_total : IsTotalOrder client_cmp
 client_total = on_total (λ names. names.1) name_total

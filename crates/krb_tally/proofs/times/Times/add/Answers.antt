@@ -1,10 +1,11 @@
-use Rattle.std.proofs.Common.{◌≡◌, ◌∙◌, ◌∷◌, ℤ, Result, Ok, Err, List, [], OnOk, ap, arith, of_z, refl, subst, sym, to_z}
+use Rattle.std.proofs.Common.{◌≡◌, ◌∙◌, ◌∷◌, ℤ, Result, Ok, Err, List, [], OnOk, ap, arith, length, of_z, refl, subst, sym, to_z}
 use Rattle.std.specs.Int.{w64}
 use Rattle.std.specs.List.Sorted.{IsPermutation}
 use Rattle.std.proofs.lemmas.Int.{ints}
 use Rattle.krb_tally.specs.Inner.Buckets.{AddsIn}
 use Rattle.krb_tally.specs.Inner.Kept.{times_of}
 use Rattle.krb_tally.proofs.BucketLaws.{adds_one}
+use Rattle.krb_tally.proofs.RemovalLaws.{added_some, one_more_some}
 use Rattle.krb_tally.proofs.times.Times.add.Goals as goal
 
 -- one more time, as a call says it
@@ -30,3 +31,12 @@ pub returns-else-is_full-clause-ok : goal.returns-else-is_full-clause-ok
 returns-else-is_full-clause-ok c =
     more_ok c.add-in-Few.result _ c.args.self.now c.deref_mut.result.now c.add-in-Few.new.self _ c.args.time (omega (arith, ints))
     (c.deref_mut.ensures.value ∙ (ap times_of (sym c.in-Few.is) ∙ c.self.view_is)) c.add-in-Few.ensures.ok
+
+pub invariant_of-self-then-is_full : goal.invariant_of-self-then-is_full
+invariant_of-self-then-is_full c = one_more_some _ c.in_ok-one_more-in-Few.field-0.value _ c.in_ok-one_more-in-Few.ensures
+
+pub invariant_of-self-in-Many : goal.invariant_of-self-in-Many
+invariant_of-self-in-Many c =
+    let long = ap (λ (times : List ℤ). length times) (c.deref_mut-in-Many.ensures.value ∙ ap times_of (sym c.in-Many.is)) in
+    let some = c.self.invariant in
+    added_some c.add-in-Many.result c.deref_mut-in-Many.result.now c.add-in-Many.new.self _ (omega arith) c.add-in-Many.ensures.ok c.add-in-Many.ensures.err

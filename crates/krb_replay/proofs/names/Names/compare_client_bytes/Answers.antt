@@ -3,7 +3,7 @@ use Rattle.std.specs.Cmp.Lexicographic.{slice_cmp}
 use Rattle.std.specs.Ordering.{nat_cmp}
 use Rattle.krb_replay.specs.Bytes.{name_bytes}
 use Rattle.krb_replay.proofs.NamesLaws.{bytes_order}
-use Rattle.krb_replay.proofs.names.Names.compare_clients.Goals as goal
+use Rattle.krb_replay.proofs.names.Names.compare_client_bytes.Goals as goal
 
 pub returns : goal.returns
 returns c =
