@@ -1,12 +1,14 @@
 -- What a check leads to.
 use Rattle.std.proofs.Common.{◌≡◌, ℕ, List, Bool, Option, Some, None, Result, Ok, Bor, ap, refl, subst, sym, ◌∙◌}
-use Rattle.std.specs.Prelude.{is_some}
+use Rattle.std.specs.Option.{MatchOption}
+use Rattle.std.specs.Prelude.{IfSome, is_some}
 use Rattle.krb_ap.specs.Answer.{taken_of}
 use Rattle.krb_ap.specs.declared.reply.ReplyOptions.{ReplyOptions}
 use Rattle.krb_context.specs.Context.{State}
 use Rattle.krb_context.specs.declared.agreed.Options.{Options}
 use Rattle.krb_gss.specs.Checksum.{bytes_if}
 use Rattle.krb_gss.specs.declared.mechanism.Mechanism.{Mechanism}
+use Rattle.krb_gss.specs.declared.negotiating.Negotiation.{Negotiation}
 use Rattle.krb_login.specs.declared.decision.Decision.{Decision as LoginDecision}
 use Rattle.krb_login.specs.declared.decision.Decision.TheVariants as decisions
 use Rattle.krb_talk.specs.Beginning.{IsContextFor, IsNoContextFor}
@@ -15,11 +17,13 @@ use Rattle.krb_talk.specs.Inner.{HasNext, LeadsBy, Prepares, PreparesBy, checkin
 use Rattle.krb_talk.specs.ListMic.{HoldsBoth, MarksIn, RepliesIf}
 use Rattle.krb_talk.specs.States.{Listing}
 use Rattle.krb_talk.specs.Talk.{ConcludesBy}
+use Rattle.krb_talk.specs.Turns.{ConcludesAt}
 use Rattle.krb_talk.specs.declared.checking.ListFault.{ListFault}
 use Rattle.krb_talk.specs.declared.checking.ListFault.TheVariants.{Token, OtherKey, Missing, Wrong, OutOfMemory}
 use Rattle.krb_talk.specs.declared.checking.Prepared.{Prepared}
 use Rattle.krb_talk.specs.declared.decision.Decision.{Decision}
 use Rattle.krb_talk.specs.declared.stage.Stage.{Stage}
+use Rattle.krb_talk.specs.declared.stage.Stage.TheVariants.{Listed}
 
 pub is_there : (mic : Option (Bor (List ℕ))) → is_some mic ≡ is_some (bytes_if mic)
 is_there None = refl
@@ -85,3 +89,19 @@ concluded_by listing bytes confounder choice options (decisions.LetIn login) mad
     (checking_of listing.list login.accepted made, prepares, leads)
 concluded_by listing bytes confounder choice options (decisions.GoOn sent) made decision new prepares leads = leads
 concluded_by listing bytes confounder choice options (decisions.Refused refused) made decision new prepares leads = leads
+
+-- and at any stage, if its list was taken off
+pub concluded_at : (listed : Option Listing) (old taken : Stage) (bytes confounder : List ℕ) (choice : ReplyOptions) (options : Options) (after : Negotiation)
+    (decided : LoginDecision) (made : Result Prepared ListFault) (decision : Decision) (new : Stage)
+    → MatchOption listed ((taken ≡ old) × ((listing : Listing) → old ≡ Listed listing → ⊥)) (λ listing. old ≡ Listed listing)
+    → IfSome listed (λ listing. PreparesBy listing bytes confounder choice options decided made)
+    → IfSome listed (λ listing. LeadsBy listing made decided decision new)
+    → (listed ≡ None → ((listing : Listing) → taken ≡ Listed listing → ⊥) → (bytes confounder : List ℕ) (choice : ReplyOptions) (options : Options)
+    → ConcludesAt taken bytes confounder choice options after decided decision new)
+    → ConcludesAt old bytes confounder choice options after decided decision new
+concluded_at None old taken bytes confounder choice options after decided made decision new takes prepares leads other =
+    let none : (listing : Listing) → taken ≡ Listed listing → ⊥ = λ listing is. takes.1 listing (sym takes.0 ∙ is) in
+    subst (λ (stage : Stage). ConcludesAt stage bytes confounder choice options after decided decision new) takes.0 (other refl none bytes confounder choice options)
+concluded_at (Some listing) old taken bytes confounder choice options after decided made decision new takes prepares leads other =
+    subst (λ (stage : Stage). ConcludesAt stage bytes confounder choice options after decided decision new) (sym takes)
+    (concluded_by listing bytes confounder choice options decided made decision new prepares leads)

@@ -1,6 +1,6 @@
 //! A client's login, one message after another.
 
-ghost use Rattle.std.specs.Prelude.{◌≡◌, ℕ, List, Err, Ok, Result};
+ghost use Rattle.std.specs.Prelude.{◌≡◌, ℕ, List, Err, IfSome, None, Ok, Result};
 ghost use Rattle.std.specs.Option.{MatchOption};
 ghost use Rattle.krb_ap.specs.Service.{Stands};
 ghost use Rattle.krb_ap.specs.Setup.{Arrival};
@@ -193,7 +193,7 @@ fn first_turn(alloc: Global, bytes: &[u8]) -> (Turn, Stage)
     }
 }
 
-// (The stage is changed in place, so that no frame has room for a second one.)
+// (The stage is changed in place, so that no frame has room for a second one. What is prepared is made before anything large is moved.)
 #[inline(never)]
 fn conclude_at(
     alloc: Global,
@@ -205,9 +205,47 @@ fn conclude_at(
 ) -> Decision
     ensures { ConcludesAt stage.old bytes.now chosen.entry.confounder.now chosen.entry.choice.now chosen.entry.options after decided result stage.new }
 {
-    match take_list(stage) {
-        Some(listed) => conclude(alloc, stage, listed, bytes, chosen, decided),
-        None => conclude_other(alloc, stage, after, decided),
+    let listed = take_list(stage);
+    let made = prepared_if(alloc, &listed, bytes, chosen, &decided);
+    conclude_by(alloc, stage, listed, after, decided, made)
+}
+
+// Prepares what a client is answered that has sent a list.
+fn prepared_if(
+    alloc: Global,
+    listed: &Option<Listed>,
+    bytes: &[u8],
+    chosen: Chosen<'_>,
+    decided: &LoginDecision,
+) -> Result<Prepared, ListFault>
+    ensures { IfSome listed.now (λ listing. PreparesBy listing bytes.now chosen.entry.confounder.now chosen.entry.choice.now chosen.entry.options decided.now result) }
+{
+    match listed {
+        Some(listed) => prepared(alloc, listed, bytes, chosen, decided),
+        None => Err(ListFault::Missing),
+    }
+}
+
+// Concludes by what was prepared for a client with a list, and without one by its negotiation.
+#[inline(never)]
+fn conclude_by(
+    alloc: Global,
+    stage: &mut Stage,
+    listed: Option<Listed>,
+    after: Negotiation,
+    decided: LoginDecision,
+    made: Result<Prepared, ListFault>,
+) -> Decision
+    ensures listed { IfSome listed (λ listing. LeadsBy listing made decided result stage.new) }
+    ensures other { listed ≡ None → ((listing : Listing) → stage.old ≡ Stage.Listed listing → ⊥) → (bytes confounder : List ℕ) (choice : ReplyOptionsValue) (options : OptionsValue)
+        → ConcludesAt stage.old bytes confounder choice options after decided result stage.new }
+{
+    match listed {
+        Some(listed) => lead(alloc, stage, listed, decided, made),
+        None => {
+            drop(made);
+            conclude_other(alloc, stage, after, decided)
+        }
     }
 }
 
