@@ -117,6 +117,7 @@ impl<M: ReplayMemory> Service<M> {
     /// Call it in place of [`Service::answer`] if the service shares a store with others. Then
     /// [`Asking::settle`](crate::Asking::settle) decides by what the store says. The request is
     /// remembered, whatever that is. `now` is the service's clock.
+    #[inline(never)]
     pub fn ask(
         &mut self,
         alloc: Global,
@@ -464,6 +465,7 @@ fn go_on(alloc: Global, negotiation: &mut Negotiation, first: Mechanism) -> Deci
     }
 }
 
+#[inline(never)]
 fn let_in(
     alloc: Global,
     carrier: Carrier,
