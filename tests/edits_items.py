@@ -29,7 +29,8 @@ INNER = re.compile(r"#!\[[^\[\]]*\]")
 SHOWS = ("Debug", "Display")
 FORMATS = "{}"
 FORMATTING = re.compile(
-    r"\b(?:Debug|Display|fmt|\w+_output|to_string|unwrap(?:_err)?\b|expect(?:_err)?\(\s*\"|(?:format|write|writeln|e?print|e?println|panic|dbg|assert\w*)!)"
+    r"\b(?:Debug|Display|fmt|\w+_output|to_string|unwrap(?:_err)?\b|expect(?:_err)?\(\s*\"|"
+    r"(?:format|write|writeln|e?print|e?println|panic|dbg|assert\w*)!)"
 )
 DERIVES = re.compile(r"#\[derive\(([^()]*)\)\]")
 # After a block with one of these an item goes on: it was a clause's.
@@ -164,12 +165,13 @@ def shown(texts):
 
 
 def split_derived(text):
-    """A type's text without the Debug that it derives, and the names by which a check comes to that, if it derives it."""
+    """A type's text without the Debug that it derives, and the names by which a check comes to that, if there is one."""
     found, named = DERIVES.match(text), NAMED.match(text)
     derived = found[1].replace(" ", "").split(",") if found else []
     if not named or "Debug" not in derived:
         return text, ()
-    return f"#[derive({', '.join(it for it in derived if it != 'Debug')})]{text[found.end() :]}", (frozenset({named[1], FORMATS}),)
+    others = ", ".join(it for it in derived if it != "Debug")
+    return f"#[derive({others})]{text[found.end() :]}", (frozenset({named[1], FORMATS}),)
 
 
 def items_of_source(name, code, imported, traits, is_below):
