@@ -165,7 +165,7 @@ def shown(texts):
 
 
 def split_derived(text):
-    """A type's text without the Debug that it derives, and the names by which a check comes to that, if there is one."""
+    """A type's text without the Debug that it derives, and the names by which a check comes to that, if any."""
     found, named = DERIVES.match(text), NAMED.match(text)
     derived = found[1].replace(" ", "").split(",") if found else []
     if not named or "Debug" not in derived:
