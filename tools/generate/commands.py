@@ -245,7 +245,8 @@ class Table:
         self.about = table["about"]
         self.statuses = table["status"]
         kinds = ("operand", "option", "flag")
-        self.arguments = {key: Argument(key, kind, **it) for kind in kinds for key, it in table[kind].items()}
+        numbered = lambda it: it | {"greatest": table["number"].get(it.get("greatest"), it.get("greatest"))}
+        self.arguments = {key: Argument(key, kind, **numbered(it)) for kind in kinds for key, it in table[kind].items()}
         of = lambda it: {"arguments": [self.arguments[key] for key in it["arguments"]]}
         self.commands = [Command(**it | of(it)) for it in table["command"]]
         self.groups = {name: [it for it in self.commands if it.group == name] for name in GROUPS}
