@@ -1,5 +1,5 @@
 -- If something is agreed, nothing prevented it.
-use Rattle.std.proofs.Common.{◌≡◌, List, ℕ, true, Ok, Err, subst}
+use Rattle.std.proofs.Common.{List, ℕ, true, Ok, Err, subst}
 use Rattle.krb_ccache.specs.Format.{IsCache}
 use Rattle.krb_ccache.specs.Value.{Cache}
 use Rattle.krb_ap.specs.Finish.{Agreement, FinishCause, IsAgreed, agreement_of}

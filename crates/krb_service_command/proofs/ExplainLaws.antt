@@ -1,5 +1,5 @@
 -- What `explain` makes of a text that was read, or why it makes nothing.
-use Rattle.std.proofs.Common.{◌≡◌, ◌≢◌, ◌≤◌, ◌∙◌, ℕ, List, length, Option, Some, Result, Ok, Err, refl, sym, subst, arith}
+use Rattle.std.proofs.Common.{◌≡◌, ◌≢◌, ◌≤◌, ◌∙◌, ℕ, List, length, Option, Some, Result, Ok, Err, ap, refl, sym, subst, arith}
 use Rattle.std.specs.Prelude.{⊤, IfSome}
 use Rattle.krb_name.specs.File.{TakesFile, file_limit}
 use Rattle.krb_name.specs.Flow.{counted}
@@ -10,6 +10,7 @@ use Rattle.krb_explain.specs.declared.input.InputFault.TheVariants.{NoBytes, Sym
 use Rattle.krb_file_commands.specs.Engine.{Makes}
 use Rattle.krb_file_commands.proofs.FaultLaws.{if_some_map, no_ok}
 use Rattle.krb_file_commands.proofs.ReadingLaws.{faulty, lacking}
+use Rattle.krb_service_command.specs.Inner.Message.{IsUnreadMessage, ReadsMessage}
 use Rattle.krb_service_command.specs.Explaining.{IsExplainedText, IsUnexplained, IsUnread, IsWholeText, explain_reads, explain_status}
 use Rattle.krb_service_command.specs.declared.explain_fault.ExplainFault.{ExplainFault}
 use Rattle.krb_service_command.specs.declared.explain_fault.ExplainFault.TheVariants.{Text, TooLong, Read}
@@ -48,11 +49,33 @@ spelled_alone text bytes (Text input) within spelled is = no_ok bytes input (sym
 spelled_alone text bytes TooLong within spelled is = omega (arith, within, is)
 spelled_alone text bytes Read within spelled is = is
 
-none_met : (from : Option (List ℕ)) (text bytes : List ℕ) → IfSome from (λ whole. IsWholeText whole text) → read_of text ≡ Ok bytes
+-- so bytes that it spells are all that is answered
+pub none_met : (from : Option (List ℕ)) (text bytes : List ℕ) → IfSome from (λ whole. IsWholeText whole text) → read_of text ≡ Ok bytes
     → (given : List ℕ) (fault : ExplainFault) → from ≡ Some given → IsUnexplained given fault → ⊥
 none_met from text bytes whole spelled given fault tells is =
     let w : IsWholeText given text = subst (λ (o : Option (List ℕ)). IfSome o (λ it. IsWholeText it text)) tells whole in
     spelled_alone text bytes fault w.1 spelled (subst (λ (t : List ℕ). IsUnexplained t fault) w.0 is)
+
+-- its bytes were read
+pub read_message : (from to : Option (List ℕ)) (before after : ℕ) (text bytes : List ℕ) → IfSome from (λ whole. IsWholeText whole text) → read_of text ≡ Ok bytes
+    → {X : Type 0} (it : X) (items : X → List ℕ) → items it ≡ bytes → after ≡ counted before 0 → TakesFile from to
+    → ReadsMessage from to before after items (Ok it)
+read_message from to before after text bytes whole spelled it items is reads taken = record {
+  made = if_some_map {P = λ whole. IsWholeText whole text} {Q = λ whole. read_of whole ≡ Ok (items it)} from
+      (λ whole w. subst (λ (t : List ℕ). read_of t ≡ Ok (items it)) (sym w.0) (spelled ∙ ap (λ (b : List ℕ). Ok b) (sym is))) whole;
+  fault = tt;
+  faulty = λ given fault tells has. none_met from text bytes whole spelled given fault tells has;
+  allowed = tt;
+  reads = reads;
+  taken = taken;
+}
+
+-- a message that wasn't read has a fault of that exit status
+pub unread_message : (from to : Option (List ℕ)) (before after : ℕ) {X : Type 0} (items : X → List ℕ) (fault : ExplainFault) (status : ℕ) → status ≡ explain_status fault
+    → ReadsMessage from to before after items (Err fault) → IsUnreadMessage from status
+unread_message from to before after items fault status is reads = λ known.
+    if_some_map {P = λ text. IsUnexplained text fault} {Q = λ text. (met : ExplainFault) × (IsUnexplained text met × (status ≡ explain_status met))} from
+    (λ text has. (fault, (has, is))) (reads.fault (λ three. known (is ∙ three)))
 
 -- it is explained
 pub explained : (from to : Option (List ℕ)) (before after : ℕ) (made text bytes : List ℕ) → IfSome from (λ whole. IsWholeText whole text)

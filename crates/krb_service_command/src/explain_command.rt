@@ -1,6 +1,8 @@
 //! `explain`, by the words of the command line.
 
-ghost use Rattle.std.specs.Prelude.{◌≡◌, ◌⊎◌, ◌≤◌, ℤ, IfErr, IfOk, IfSome, OnErr};
+ghost use Rattle.std.specs.Prelude.{◌≡◌, ◌⊎◌, ◌≤◌, ℤ, IfErr, IfOk, IfSome, Ok, OnErr, Some};
+ghost use Rattle.krb_explain.specs.Input.{read_of};
+ghost use Rattle.krb_service_command.specs.Inner.Message.{IsUnreadMessage};
 ghost use Rattle.krb_service_command.specs.Words.{IsSecond};
 
 use crate::explain::Explain;
@@ -133,6 +135,8 @@ fn message_of<R: AllocGlobal + Files + Input + Eprint>(
     rt: &R,
     words: ExplainWords<'_>,
 ) -> Result<Vec<u8>, u8>
+    ensures bytes { IfSome words.entry.message (λ text. IfOk result (λ bytes. read_of text.now ≡ Ok bytes.items)) }
+    ensures fault { IfSome words.entry.message (λ text. IfErr result (IsUnreadMessage (Some text.now))) }
     ensures status { IfErr result (λ status. status ≤ 3) }
 {
     match (words.message, words.file) {
@@ -151,6 +155,8 @@ fn message_from<R: AllocGlobal + Eprint, S: Source + Drop>(
     source: S,
     name: &str,
 ) -> Result<Vec<u8>, u8>
+    ensures bytes { IfOk result (λ bytes. IfSome (S.remaining source) (λ text. read_of text ≡ Ok bytes.items)) }
+    ensures fault { IfErr result (IsUnreadMessage (S.remaining source)) }
     ensures status { IfErr result (λ status. status ≤ 3) }
 {
     let mut source = source;

@@ -1,11 +1,11 @@
 //! The text that is given to `explain`.
 
-ghost use Rattle.std.specs.Prelude.{◌≡◌, [], Ok, IfOk, IfErr, IfSome};
+ghost use Rattle.std.specs.Prelude.{◌≡◌, [], IfOk, IfErr, IfSome};
 ghost use Rattle.krb_name.specs.Flow.{counted};
-ghost use Rattle.krb_explain.specs.Input.{read_of};
 ghost use Rattle.krb_name.specs.File.{TakesFile};
 ghost use Rattle.krb_file_commands.specs.Engine.{failed_by};
 ghost use Rattle.krb_service_command.specs.Explaining.{IsUnread, IsWholeText, explain_reads};
+ghost use Rattle.krb_service_command.specs.Inner.Message.{ReadsMessage};
 
 use crate::explain_fault::ExplainFault;
 use krb_explain::message_bytes;
@@ -20,11 +20,12 @@ pub(crate) fn read_message<S: Source>(
     alloc: Global,
     source: &mut S,
 ) -> Result<Vec<u8>, ExplainFault>
-    ensures bytes { IfOk result (λ bytes. IfSome (S.remaining source.old) (λ text. read_of text ≡ Ok bytes.items)) }
-    ensures taken { TakesFile (S.remaining source.old) (S.remaining source.new) }
+    ensures { ReadsMessage (S.remaining source.old) (S.remaining source.new)
+        (S.failure_count source.old) (S.failure_count source.new) (λ message. message.items) result }
 {
     let text = read_text(alloc, source)?;
-    Ok(message_bytes(alloc, &text)?)
+    let bytes = message_bytes(alloc, &text)?;
+    Ok(bytes)
 }
 
 /// Reads a text from a source, to its end or to one byte past 16,777,216.

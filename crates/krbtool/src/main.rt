@@ -8,6 +8,8 @@
 mod run;
 mod streams;
 
+ghost use Rattle.std.specs.Prelude.{◌≡◌, ◌≤◌, ◌⊎◌};
+
 use crate::run::run;
 use crate::streams::{NOWHERE, hold_streams};
 use clap::error::ErrorKind;
@@ -25,7 +27,9 @@ fn main(rt: HostRuntime) -> ExitCode {
 }
 
 // Does what the words of the command line ask for, and returns the exit status.
-fn answer(rt: &HostRuntime) -> u8 {
+fn answer(rt: &HostRuntime) -> u8
+    ensures { result ≤ 3 }
+{
     let given = match given_words(rt) {
         Ok(given) => given,
         Err(error) => return refuse_words(rt, error.kind()),
@@ -41,7 +45,9 @@ fn answer(rt: &HostRuntime) -> u8 {
 }
 
 // Reports that the arguments can't be read, and returns the exit status for that.
-fn refuse_words(rt: &HostRuntime, kind: io::ErrorKind) -> u8 {
+fn refuse_words(rt: &HostRuntime, kind: io::ErrorKind) -> u8
+    ensures { (result ≡ 2) ⊎ (result ≡ 3) }
+{
     match kind {
         io::ErrorKind::OutOfMemory => refuse_memory(rt, &[]),
         _ => {
@@ -52,7 +58,9 @@ fn refuse_words(rt: &HostRuntime, kind: io::ErrorKind) -> u8 {
 }
 
 // Says that memory ran out while these words were read, and returns the exit status for that.
-fn refuse_memory(rt: &HostRuntime, given: &[String]) -> u8 {
+fn refuse_memory(rt: &HostRuntime, given: &[String]) -> u8
+    ensures { result ≡ 3 }
+{
     let name = match given.get(1) {
         Some(word) if is_command(word) => word,
         _ => "words",
@@ -69,7 +77,9 @@ fn lent_words(alloc: Global, given: &[String]) -> Result<Vec<&str>, AllocError> 
 }
 
 // Prints clap's text: help that was asked for on standard output, a fault on standard error.
-fn show(rt: &HostRuntime, error: &clap::Error) -> u8 {
+fn show(rt: &HostRuntime, error: &clap::Error) -> u8
+    ensures { result ≤ 3 }
+{
     let printed = error.print(rt);
     match error.kind() {
         ErrorKind::DisplayHelp | ErrorKind::DisplayVersion => match printed {

@@ -1,5 +1,7 @@
 //! Running a command: each is in the crate of its kind.
 
+ghost use Rattle.std.specs.Prelude.{◌≤◌};
+
 use krb_client_commands::{run_finish, run_request};
 use krb_command_line::Command;
 use krb_file_commands::{
@@ -12,12 +14,14 @@ use std::random::RandomSource;
 use std::rt::Files;
 use std::time::Clock;
 
-/// Runs a command, and returns the exit status: 0 if all is well, 1 if content is refused, 3
-/// if a file, the output or memory failed.
+/// Runs a command, and returns the exit status: 0 if all is well, 1 if content is refused, 2 if
+/// the words are wrong, 3 if a file, the output or memory failed.
 pub(crate) fn run<R: AllocGlobal + Files + RandomSource + Clock + Input + Print + Eprint>(
     rt: &R,
     command: Command<'_>,
-) -> u8 {
+) -> u8
+    ensures { result ≤ 3 }
+{
     match command {
         Command::ListKeytab { file, readable } => run_list_keytab(rt, file, readable),
         Command::ListCcache { file, form } => run_list_ccache(rt, file, form),
