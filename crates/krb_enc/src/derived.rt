@@ -1,6 +1,6 @@
 //! The keys that are derived from a base key for one key usage (RFC 8009, section 5).
 //!
-//! What derives, prepares or expands keys is never inlined: each step has a stack frame of its own, so
+//! `derived`, `key_bytes` and `schedule` are never inlined: each step has a stack frame of its own, so
 //! that one frame follows another and their sizes don't add up.
 
 ghost use Rattle.std.specs.Prelude.{◌≡◌};

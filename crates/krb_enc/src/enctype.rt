@@ -29,7 +29,7 @@ use std::alloc::{AllocError, Global};
 pub struct Inside;
 
 /// An encryption type of RFC 8009: what differs between the two types, and what is made of it for
-/// both. Its calls take the bytes of a base key, which must be `KEY_LEN` long.
+/// both. Its calls take the bytes of a base key, or Ke, which must be `KEY_LEN` long.
 ///
 /// Other crates can't implement the trait.
 pub trait Enctype {

@@ -14,7 +14,7 @@ use std::marker::Model;
 
 /// The names of a service and a client, one after the other, as bytes: in the form of
 /// [`Tuple::to_bytes`](crate::Tuple::to_bytes). A hash of the client's name stands beside them, so
-/// that clients can be told apart without a look at the bytes.
+/// that the bytes are compared only for clients of one hash.
 #[derive(Debug, Drop)]
 pub(crate) struct Names {
     bytes: Vec<u8>,
@@ -79,8 +79,8 @@ impl Names {
         self.server().cmp(&other.server())
     }
 
-    /// Compares the names of the clients, by their hashes first. So the order says nothing of how
-    /// the names follow each other, and a tree over it is filled evenly.
+    /// Compares the names of the clients, by their hashes first. So a tree over them is filled
+    /// evenly, also if clients come in the order of their names.
     pub(crate) fn compare_clients(&self, other: &Names) -> Ordering
         ensures { result ≡ name_cmp self.now.1 other.now.1 }
     {

@@ -14,8 +14,8 @@ use std::marker::Model;
 /// them as a list, in some order.
 ///
 /// Most owners have one time: it takes 16 bytes, and nothing is allocated for it. Up to 512 times are
-/// in one bucket, and more are in a [`Tally`]; both are allocated. (How long a call takes, and how
-/// much memory, isn't proved.)
+/// in one bucket, and more are in a [`Tally`]; both are allocated. What was allocated stays so if
+/// times are removed. (How long a call takes, and how much memory, isn't proved.)
 #[derive(Debug, Drop)]
 pub struct Times {
     kept: Kept,

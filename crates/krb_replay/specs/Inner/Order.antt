@@ -22,7 +22,7 @@ parts_cmp = then_cmp (on (λ name. name.realm) (slice_cmp nat_cmp)) (on (λ name
 abbrev pub bytes_cmp : RealmAndName → RealmAndName → Ordering
 bytes_cmp = then_cmp (on name_bytes (slice_cmp nat_cmp)) parts_cmp
 
--- Those of clients are compared by a hash first.
+-- The names of clients are compared by a hash first.
 abbrev pub name_cmp : RealmAndName → RealmAndName → Ordering
 name_cmp = then_cmp (on hash_of nat_cmp) bytes_cmp
 
