@@ -76,6 +76,7 @@ fn moment_of(line: &[u8]) -> Option<ToldMoment<'_>>
     Some(ToldMoment { now, rest })
 }
 
+// (The earliest second of a moment is nearer to 0 than the latest.)
 fn seconds_of(text: &[u8]) -> Option<i64>
     ensures found { IfSome result (λ seconds. SpellsSeconds text.now seconds) }
     ensures none { result ≡ None → (seconds : ℤ) → SpellsSeconds text.now seconds → IsSeconds seconds → ⊥ }

@@ -74,7 +74,7 @@ fn wrapping_of(word: Option<&str>) -> Option<Option<Wrapping>>
     }
 }
 
-// The words of the command line were read as numbers in these ranges.
+// (clap has checked the ranges, so there is such a moment.)
 fn moment_of(seconds: &str, micros: &str) -> Option<Moment>
     ensures asked { IfSome result (IsMoment seconds.now micros.now) }
     ensures all { (moment : ℤ) → IsMoment seconds.now micros.now moment → result ≡ Some moment }

@@ -30,7 +30,7 @@ const NO_CONFOUNDER: [u8; 16] = [0; 16];
 pub fn read_reply(alloc: Global, text: &str) -> Result<Option<Vec<u8>>, AllocError>
     ensures found { IfOk result (λ reply. IfSome reply (λ bytes. decode_of text.now ≡ Ok bytes.items)) }
     ensures none { result ≡ Ok None → (bytes : List ℕ) → decode_of text.now ≡ Ok bytes → ⊥ }
-    // Out of memory never takes the place of an odd number of digits.
+    // Out of memory is never reported for a text of odd length.
     ensures odd { length text.now % 2 ≡ 1 → result ≡ Ok None }
 {
     match hex::decode(alloc, text.as_bytes()) {

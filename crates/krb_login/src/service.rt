@@ -465,6 +465,7 @@ fn go_on(alloc: Global, negotiation: &mut Negotiation, first: Mechanism) -> Deci
     }
 }
 
+// (It has a stack frame of its own, so that its size isn't added to its caller's.)
 #[inline(never)]
 fn let_in(
     alloc: Global,

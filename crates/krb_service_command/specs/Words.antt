@@ -31,7 +31,7 @@ pub record IsStart (text : List ℕ) (start : ℤ) : Type 0 where
 abbrev pub IsServiceName : List ℕ → Principal → Type 0
 IsServiceName text name = IsReadAs text (Ok name) × (name.name_type ≡ pos 3)
 
--- this is the exit status if an option is there that isn't such a name
+-- an option is there, and this is the exit status of a fault that it may be read with: memory may run out for each
 abbrev pub IsUnreadName : Option (Bor (List ℕ)) → ℕ → Type 0
 IsUnreadName None status = ⊥
 IsUnreadName (Some text) status = (fault : TextFault) × (IsReadAs text.now (Err fault) × (status ≡ service_status fault))

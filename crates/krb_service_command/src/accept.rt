@@ -282,7 +282,7 @@ pub fn accept_lines<M: ReplayMemory, S: Source, K: Sink>(
     ensures taken { TakesAtMost (S.remaining source.old) (S.remaining source.new) input_limit }
     ensures writes { K.failure_count sink.new ≡ counted (K.failure_count sink.old) (failed_writes result) }
 
-    // Nor is there another exit status, whatever is known of the source.
+    // Nor is there a greater exit status, whatever is known of the source.
     ensures known { IfOk result (λ status. status ≤ 3) }
 {
     let mut piece = vec![in alloc; 0u8; PIECE]?;

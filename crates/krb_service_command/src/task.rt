@@ -36,7 +36,7 @@ pub(crate) struct Times {
     pub(crate) start: Option<Moment>,
 }
 
-/// Reads what `accept` is asked for. If the words ask for nothing, the exit status is the error; a name that isn't one is printed.
+/// Reads what `accept` is asked for. If they can't be read, the exit status is the error; a name that isn't one is printed.
 pub(crate) fn accept_task_of<'a, R: AllocGlobal + Eprint>(
     rt: &R,
     words: AcceptWords<'a>,
@@ -88,7 +88,7 @@ pub(crate) fn name_of<R: AllocGlobal + Eprint>(
     }
 }
 
-/// The second that the word writes. The words of the command line were read as numbers in this range.
+/// The second that the word writes. (clap has checked the range, so there is one.)
 pub(crate) fn second_in(text: &str) -> Option<Seconds>
     ensures asked { IfSome result (IsSecond text.now) }
     ensures all { (second : ℤ) → IsSecond text.now second → result ≡ Some second }
@@ -96,7 +96,7 @@ pub(crate) fn second_in(text: &str) -> Option<Seconds>
     Seconds::new(text.parse::<i64>().ok()?)
 }
 
-/// The span that the word writes. The words of the command line were read as numbers in this range.
+/// The span that the word writes. (clap has checked the range, so there is one.)
 pub(crate) fn skew_of(text: &str) -> Option<Skew>
     ensures asked { IfSome result (IsSkew text.now) }
     ensures all { (skew : ℕ) → IsSkew text.now skew → result ≡ Some skew }
@@ -104,7 +104,7 @@ pub(crate) fn skew_of(text: &str) -> Option<Skew>
     Skew::new(text.parse::<u32>().ok()?)
 }
 
-// The words of the command line were read as numbers in these ranges.
+// (clap has checked the ranges, so there are such times.)
 fn times_of(skew: &str, started: Option<&str>) -> Option<Times>
     ensures skew { IfSome result (λ times. IsSkew skew.now times.skew) }
     ensures start { IfSome result (λ times. Asks IsStart started.entry times.start) }

@@ -210,7 +210,7 @@ fn conclude_at(
     conclude_by(alloc, stage, listed, after, decided, made)
 }
 
-// Prepares what a client is answered that has sent a list.
+// Prepares the answer to a client that has sent a list.
 fn prepared_if(
     alloc: Global,
     listed: &Option<Listed>,
