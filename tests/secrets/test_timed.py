@@ -14,6 +14,9 @@ JUMPS = {
     # whether a key is the one that a handle keeps: two keys if a request is accepted, and one if a request is made; all
     # bytes are compared before the jump
     "krb_enc::usage_key::UsageKey::is_for": 6,
+    # whether the tag of a sealed text is right: all its bytes are compared before the jump
+    "krb_enc::usage_key::UsageKey::open": 16,
+    "proved_open": 2,
     # whether the checksum is the tag
     "proved_checksum_check": 2,
 }

@@ -1,5 +1,5 @@
 /* Makes calls with keys and plain texts that valgrind takes for memory which was never written, so it reports each jump and each address that
- * depends on one (the method known as ctgrind). What a call returns is public then, and so is what the code is meant to decide by: the three
+ * depends on one (the method known as ctgrind). What a call returns is public then, and so is what the code is meant to decide by: the two
  * places below. The argument is the folder of tests/support/key_material.py. A line of output after each step has how many errors valgrind has
  * reported in it. */
 #include <valgrind/memcheck.h>
@@ -52,28 +52,11 @@ static void hide_secrets(void)
  * Each place is the end of a proved function, by its name in the machine code. */
 
 #define PLACE(name) I_WRAP_SONAME_FNNAME_ZZ(NONE, name)
-#define BODY PLACE(krb_encZcZcusage_keyZcZcUsageKeyZcZcbody)
 #define IS_FOR PLACE(krb_encZcZcusage_keyZcZcUsageKeyZcZcis_for)
 #define DECRYPT PLACE(krb_ctsZcZcafter_firstZcZcdecrypt_after_first)
 
-/* How many bytes a place answers: a variant and a slice. */
-#define SLICE_OR_FAULT 24
-
-void BODY(uint8_t *result, const void *keys, const uint8_t *text, size_t size);
 uint64_t IS_FOR(const void *keys, int type, const uint8_t *key, size_t size, uint32_t usage);
 void DECRYPT(const void *schedule, const uint8_t *text, size_t size, uint8_t *plain, size_t plain_size);
-
-/* Whether the tag of a sealed text is right. */
-void BODY(uint8_t *result, const void *keys, const uint8_t *text, size_t size)
-{
-    uint64_t unused;
-    OrigFn body;
-
-    VALGRIND_GET_ORIG_FN(body);
-    CALL_FN_W_WWWW(unused, body, result, keys, text, size);
-    (void)unused;
-    (void)VALGRIND_MAKE_MEM_DEFINED(result, SLICE_OR_FAULT);
-}
 
 /* Whether a key is the one that the handle keeps. */
 uint64_t IS_FOR(const void *keys, int type, const uint8_t *key, size_t size, uint32_t usage)
