@@ -1,5 +1,5 @@
 -- A built request is accepted, or why it is refused.
-use Rattle.std.proofs.Common.{◌≡◌, ◌<◌, lit<, ℕ, ℤ, List, Bool, true, false, refl, sym, ap, subst, inl, inr, arith}
+use Rattle.std.proofs.Common.{◌≡◌, ◌<◌, lit<, ℕ, ℤ, List, Bool, true, false, refl, sym, ap, subst, inl, inr}
 use Rattle.std.specs.Prelude.{◌↔◌, IsTrue}
 use Rattle.krb_name.specs.declared.principal.Principal.{Principal}
 use Rattle.krb_der.specs.Kind.{ValueOf}

@@ -9,12 +9,10 @@ ghost use Rattle.krb_ap.specs.Opened.{authenticator_usage};
 ghost use Rattle.krb_ap.specs.declared.refusal.Refusal.TheVariants.{AuthenticatorIntegrity, OutOfMemory};
 
 use crate::keys::usable_key;
-use crate::opening::open_under;
 use crate::refusal::Refusal;
 use krb_ccache::Credential;
 use krb_enc::{Key, UsageKey};
-use krb_msg::{KeyRef, usage};
-use std::alloc::Global;
+use krb_msg::usage;
 use std::marker::Model;
 
 /// A session key, and the keys that seal and open authenticators under it.

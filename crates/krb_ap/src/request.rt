@@ -13,7 +13,7 @@ use crate::keys::{encrypted, raw_key, seal};
 use crate::pending::Pending;
 use crate::ready_key::{ReadyCredential, ReadyKey};
 use crate::request_fault::RequestFault;
-use krb_ccache::{CCache, Credential};
+use krb_ccache::CCache;
 use krb_enc::Key;
 use krb_gss::{CHECKSUM_TYPE, Checksum, ChecksumWriteFault, ContextFlags};
 use krb_msg::{

@@ -4,12 +4,12 @@
 //! read where the program runs. `None` if a call couldn't be made, or its answer not be printed.
 
 use crate::given::{CONFOUNDER, cache, keytab, keytab_file, moment, other_entry, request};
-use krb_ap::{Acceptor, Agreed, Call, FinishFault, Outcome, Pending, Refusal, ReplyOptions};
+use krb_ap::{Acceptor, Agreed, Call, FinishFault, Outcome, Pending, ReplyOptions};
 use krb_enc::{Key, OpenFault};
 use krb_keytab::{Keytab, KeytabFault};
 use krb_msg::Moment;
 use krb_replay::{ListMemory, ReplayMemory, Skew, TimedMemory};
-use std::alloc::{AllocError, Global};
+use std::alloc::AllocError;
 
 const PLAIN: [u8; 60] = [0x33; 60];
 

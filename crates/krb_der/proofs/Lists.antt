@@ -1,7 +1,6 @@
 -- One element after another: reading the first and then the others, as a whole, and one by one.
-use Rattle.std.proofs.Common.{◌≡◌, ◌≢◌, ◌⊎◌, inl, inr, ℕ, zero, suc, ◌<◌, ◌≤◌, List, [], ◌∷◌, length, Result, Ok, Err, refl, sym, ap, ◌∙◌, arith, length-append}
+use Rattle.std.proofs.Common.{◌≡◌, ◌≢◌, ◌⊎◌, inl, inr, ℕ, ◌<◌, List, [], ◌∷◌, length, Result, Ok, Err, refl, sym, ap, ◌∙◌, arith, length-append}
 use Rattle.std.specs.Prelude.{IsOk, is_ok}
-use Rattle.std.proofs.Math.Nat.{le_refl}
 use Rattle.krb_der.specs.declared.fault.Fault.{Fault}
 use Rattle.krb_der.specs.Kind.{Kind, sequence, each, tag_of, ValueOf}
 use Rattle.krb_der.specs.Content.{Elementary}
@@ -10,7 +9,7 @@ use Rattle.krb_der.specs.Spells.{SpellsContent}
 use Rattle.krb_der.specs.Computed.Steps.{◌>>=◌}
 use Rattle.krb_der.specs.Computed.Gives.{checked}
 use Rattle.krb_der.specs.Computed.Listed.{AreListed, values_of, listed}
-use Rattle.krb_der.specs.Computed.Read.{each_from, enter_at, element_at, fields_at}
+use Rattle.krb_der.specs.Computed.Read.{enter_at, element_at, fields_at}
 use Rattle.krb_der.proofs.LengthLaws.{no_value}
 use Rattle.krb_der.proofs.ElementSteps.{answer, bind_ok, bind_at, same_ok, element_some}
 use Rattle.krb_der.proofs.Reading.{element_at_found}

@@ -1,6 +1,6 @@
 -- Finding parts in place gives exactly what the relations say.
-use Rattle.std.proofs.Common.{◌≡◌, ◌≢◌, true, false, eqb, ℕ, zero, suc, ◌<◌, ◌≤◌, ◌%◌, List, [], ◌∷◌, length, Option, Some, None, Result, Ok, Err, inl, inr, refl, sym, ap, subst, ◌∙◌, arith}
-use Rattle.std.specs.Prelude.{◌⊎◌, ◌↔◌, IfOk, IfErr, IsOkAnd}
+use Rattle.std.proofs.Common.{◌≡◌, ◌≢◌, true, false, ℕ, zero, suc, ◌<◌, ◌≤◌, List, [], ◌∷◌, length, Option, Some, None, Result, Ok, Err, refl, sym, ap, subst, ◌∙◌, arith}
+use Rattle.std.specs.Prelude.{◌↔◌, IfOk, IfErr}
 use Rattle.std.proofs.Math.Nat.{le_refl}
 use Rattle.std.proofs.lemmas.Bool.{cond_both, eq-eqb, eqb-true, false≢true, true≢false}
 use Rattle.std.proofs.lemmas.Bool.Decides.{nat_tests}
@@ -11,11 +11,11 @@ use Rattle.krb_der.specs.Content.{Elementary}
 use Rattle.krb_der.specs.Place.{Place, begins}
 use Rattle.krb_der.specs.Fault.{HasHead, IsHeadFault}
 use Rattle.krb_der.specs.Parts.{Parts, ended, anything, each_of, unknown, last, must, may, PlacesOf, AreAll, no_more, one_more, IsUnknown, HasUnknown, HasElement, MayHaveElement, Stand}
-use Rattle.krb_der.specs.PartsFault.{IsLeft, AreAllFault, of_one, of_later, IsUnknownFault, is_known, of_unknown, IsLastFault, last_head, not_last, in_last, IsMustFault, must_head, in_must, after_must, there, absent, PartsFault, Finds}
+use Rattle.krb_der.specs.PartsFault.{IsLeft, AreAllFault, of_one, of_later, IsUnknownFault, is_known, of_unknown, last_head, not_last, in_last, IsMustFault, must_head, in_must, after_must, there, absent, PartsFault, Finds}
 use Rattle.krb_der.specs.Computed.Steps.{◌>>=◌}
 use Rattle.krb_der.specs.Computed.Gives.{Fills, checked}
 use Rattle.krb_der.specs.Computed.Read.{enter_at, finish_at, finish_from, each_from}
-use Rattle.krb_der.specs.Computed.Parts.{is_unknown, unknown_from, unknown_at, first_at, parts_at}
+use Rattle.krb_der.specs.Computed.Parts.{is_unknown, unknown_from, unknown_at, parts_at}
 use Rattle.krb_der.proofs.LengthLaws.{no_value}
 use Rattle.krb_der.proofs.ElementSteps.{same_ok, cons_nil, HeadOut, head_out, enter_at-head}
 use Rattle.krb_der.proofs.Steps.{Reads, reads-as, reads-made, reads-then, reads-both}

@@ -5,7 +5,7 @@ use Rattle.krb_der.specs.declared.fault.FaultKind.TheVariants.{Trailing}
 use Rattle.krb_der.specs.Content.{Elementary}
 use Rattle.krb_der.specs.Place.{Place, begins}
 use Rattle.krb_der.specs.Fault.{HasHead, IsHeadFault}
-use Rattle.krb_der.specs.Parts.{Parts, ended, anything, each_of, unknown, last, must, may, PlacesOf, AreAll, IsUnknown, HasUnknown, Stand}
+use Rattle.krb_der.specs.Parts.{Parts, ended, anything, each_of, unknown, last, must, may, PlacesOf, IsUnknown, HasUnknown, Stand}
 
 -- something is left
 pub record IsLeft (here : Place) (fault : Fault) : Type 0 where

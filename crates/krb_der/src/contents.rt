@@ -3,9 +3,7 @@
 ghost use Rattle.krb_der.specs.Kind.{leaf, int32, uint32, seq_number, microseconds, constant, octets, string, flags, time};
 ghost use Rattle.krb_der.specs.Reading.{Reads};
 
-use crate::{
-    Constant, Cursor, Element, Fault, Flags, Microseconds, Octets, Seconds, SeqNumber, Text,
-};
+use crate::{Constant, Cursor, Fault, Flags, Microseconds, Octets, Seconds, SeqNumber, Text};
 
 impl<'a> Cursor<'a> {
     /// Reads a whole number from -2,147,483,648 to 2,147,483,647 (RFC 4120, section 5.2.4).

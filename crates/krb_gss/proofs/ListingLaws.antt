@@ -12,7 +12,7 @@ use Rattle.krb_der.specs.Spells.{limit}
 use Rattle.krb_der.specs.Computed.Steps.{◌>>?◌}
 use Rattle.krb_der.specs.Computed.Parts.{parts_at}
 use Rattle.krb_der.specs.Parts.{Stand}
-use Rattle.krb_der.proofs.Steps.{Reads, reads-as}
+use Rattle.krb_der.proofs.Steps.{Reads}
 use Rattle.krb_der.proofs.PartsLaws.{reads-enter, reads-parts}
 use Rattle.krb_gss.specs.declared.fault.TokenFault.{TokenFault}
 use Rattle.krb_gss.specs.declared.mechanism.Mechanism.{Mechanism}
@@ -20,10 +20,10 @@ use Rattle.krb_gss.specs.declared.mechanism.Foreign.{Foreign}
 use Rattle.krb_gss.specs.declared.mechanism.Foreign.TheVariants.{Negotiation}
 use Rattle.krb_gss.specs.Mechanism.{named_of}
 use Rattle.krb_gss.specs.Module.{initial_context_token, neg_token_init, later_response}
-use Rattle.krb_gss.specs.Token.{IsFramed, HoldsFields, of_init, IsInit}
+use Rattle.krb_gss.specs.Token.{IsFramed, HoldsFields, of_init}
 use Rattle.krb_gss.specs.Listing.{Names, named_here, named_later, IsListed, IsListing, mech_types, of_types, mech_type_names}
 use Rattle.krb_gss.specs.ListMic.{of_mic, rest_if, HoldsMic, IsMicFault}
-use Rattle.krb_gss.specs.Inner.Reading.{begun, ok_of, init_at, types_at, spnego_from, other_of, negotiation_from, listing_at, mic_at, mic_whole}
+use Rattle.krb_gss.specs.Inner.Reading.{begun, ok_of, init_at, types_at, other_of, negotiation_from, listing_at, mic_at, mic_whole}
 use Rattle.krb_gss.proofs.ReadLaws.{either, of-token, reads-begun, reads-fields}
 use Rattle.krb_gss.proofs.NegotiationLaws.{Gets, gets, gets-then, gets-spnego, some_none}
 

@@ -4,7 +4,6 @@ use Rattle.std.specs.Prelude.{IfOk, IfErr, IsErrAnd, ◌⊎◌}
 use Rattle.std.proofs.lemmas.Result.{err_from_is_err_and}
 use Rattle.krb_der.specs.Place.{Place, begin_at}
 use Rattle.krb_der.specs.Spells.{limit}
-use Rattle.krb_der.specs.Computed.Steps.{◌>>=◌}
 use Rattle.krb_der.proofs.LengthLaws.{no_value}
 use Rattle.krb_der.proofs.ElementSteps.{same_ok}
 use Rattle.krb_der.proofs.Steps.{Reads, reads-then}

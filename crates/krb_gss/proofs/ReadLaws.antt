@@ -1,20 +1,18 @@
 -- Reading tokens gives exactly what the relations say, else a fault by the rules.
-use Rattle.std.proofs.Common.{◌≡◌, ℕ, ◌<◌, ◌≤◌, ltb, true, false, List, [], ◌∷◌, length, Option, Some, None, Result, Ok, Err, refl, sym, ap, subst, ◌∙◌, arith}
-use Rattle.std.specs.Prelude.{IfOk, IfErr, IfSome}
-use Rattle.std.specs.Option.{MatchOption}
+use Rattle.std.proofs.Common.{◌≡◌, ℕ, ◌≤◌, ltb, true, false, List, [], ◌∷◌, length, Option, Some, None, Result, Ok, Err, refl, sym, ap, ◌∙◌, arith}
 use Rattle.std.proofs.lemmas.Bool.{cond_both, ltb-true, ltb-false, le-ltb, eq-eqb, eqb-true, false≢true, true≢false}
 use Rattle.krb_der.specs.declared.fault.Fault.{Fault}
 use Rattle.krb_der.specs.Place.{Place, begin_at, begins}
 use Rattle.krb_der.specs.Spells.{limit}
 use Rattle.krb_der.specs.Fault.{HasHead}
-use Rattle.krb_der.specs.Parts.{Parts, PlacesOf, Stand}
-use Rattle.krb_der.specs.Computed.Steps.{◌>>=◌, ◌>>?◌}
+use Rattle.krb_der.specs.Parts.{Parts, PlacesOf}
+use Rattle.krb_der.specs.Computed.Steps.{◌>>=◌}
 use Rattle.krb_der.specs.Computed.Parts.{parts_at}
 use Rattle.krb_der.proofs.LengthLaws.{no_value}
 use Rattle.krb_der.proofs.Steps.{Reads, reads-as, reads-made, reads-then, reads-both}
 use Rattle.krb_der.proofs.PartsLaws.{reads-parts}
 use Rattle.krb_gss.specs.declared.fault.TokenFault.{TokenFault}
-use Rattle.krb_gss.specs.declared.fault.TokenFault.TheVariants.{Malformed, NotToken, OtherMechanism, Response, Unframed}
+use Rattle.krb_gss.specs.declared.fault.TokenFault.TheVariants.{OtherMechanism}
 use Rattle.krb_gss.specs.declared.mechanism.Mechanism.{Mechanism}
 use Rattle.krb_gss.specs.declared.mechanism.Foreign.{Foreign}
 use Rattle.krb_gss.specs.declared.mechanism.Foreign.TheVariants.{Negotiation, Ntlm, IaKerb, Unknown}
@@ -22,10 +20,10 @@ use Rattle.krb_gss.specs.declared.opening.Wrapping.{Wrapping}
 use Rattle.krb_gss.specs.declared.opening.Wrapping.TheVariants.{Bare, Negotiated}
 use Rattle.krb_gss.specs.Mechanism.{named_of}
 use Rattle.krb_gss.specs.Module.{initial_context_token, negotiation_token, later_response}
-use Rattle.krb_gss.specs.Token.{IsFramed, IsKerberos, HoldsFields, IsInit, HoldsKerberos, AreKerberos, IsNegotiated, IsWithin, IsWrapped}
-use Rattle.krb_gss.specs.Fault.{IsEither, of_first, of_next, IsMalformed, IsOther, IsKerberosFault, HoldsFieldsFault, IsHeldFault, unframed, of_kerberos, HoldsKerberosFault, AreKerberosFault, IsNegotiatedFault, IsInitFault, IsWithinFault, within_mechanism, within_negotiation, IsBeginFault, response, request, not_token, IsFramedFault, IsWrappedFault, IsTooLong}
+use Rattle.krb_gss.specs.Token.{IsKerberos, HoldsFields, IsInit, HoldsKerberos, AreKerberos, IsNegotiated, IsWithin, IsWrapped}
+use Rattle.krb_gss.specs.Fault.{IsEither, of_first, of_next, IsMalformed, IsOther, IsKerberosFault, HoldsFieldsFault, IsHeldFault, unframed, of_kerberos, HoldsKerberosFault, AreKerberosFault, IsNegotiatedFault, IsWithinFault, within_mechanism, within_negotiation, IsBeginFault, response, request, not_token, IsWrappedFault, IsTooLong}
 use Rattle.krb_gss.specs.Answer.{IsResponse, IsWrappedAnswer}
-use Rattle.krb_gss.specs.Answered.{IsResponseFault, IsWrappedAnswerFault, not_answer, answer_plain, answer_negotiated}
+use Rattle.krb_gss.specs.Answered.{IsWrappedAnswerFault, not_answer, answer_plain, answer_negotiated}
 use Rattle.krb_gss.specs.Later.{of_later, IsGoingOn, IsGoingOnFault}
 use Rattle.krb_gss.specs.Inner.Reading.{as_token, begun, name_from, name_at, kerberos_at, fields_at, init_at, response_at, later_at, held_at, held_from, named_at, negotiated_by, going_on_at, as_negotiated, as_bare, within_from, begin_from, framed_at, wrapped_at, answer_at}
 

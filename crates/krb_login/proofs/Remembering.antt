@@ -1,5 +1,5 @@
 -- A service that starts with its store accepts nothing of the time before.
-use Rattle.std.proofs.Common.{◌≡◌, ℕ, ℤ, pos, ◌+ℤ◌, ◌≤◌, sym, ap, subst, arith, Option, Some}
+use Rattle.std.proofs.Common.{ℕ, ℤ, pos, ◌+ℤ◌, ◌≤◌, sym, ap, subst, arith, Option}
 use Rattle.std.specs.Prelude.{◌≢◌, ◌≤ℤ◌, ◌<ℤ◌, IfSome, List}
 use Rattle.std.proofs.lemmas.Int.{ints}
 use Rattle.krb_replay.specs.Stamp.{Stamp}

@@ -1,5 +1,5 @@
 -- A login with a store of stamps that several services share: what a service asks, and what it decides by what the store says.
-use Rattle.std.specs.Prelude.{◌≡◌, ◌≢◌, ◌⊎◌, ◌≤ℤ◌, ◌+ℤ◌, ℕ, ℤ, pos, List, ◌∷◌}
+use Rattle.std.specs.Prelude.{◌≡◌, ◌⊎◌, ◌≤ℤ◌, ◌+ℤ◌, ℕ, ℤ, pos, List, ◌∷◌}
 use Rattle.std.specs.Option.{MatchOption}
 use Rattle.krb_ap.specs.Answer.{taken_of}
 use Rattle.krb_ap.specs.Opened.{IsOrdinary}

@@ -1,7 +1,6 @@
 -- A value that stands for what was read, and bytes that are written as they are.
-use Rattle.std.proofs.Common.{◌≡◌, ℕ, ◌+◌, ◌≤◌, ◌<◌, List, ◌++◌, length, Result, Ok, Err, refl, ap, ◌∙◌, arith, length-append}
+use Rattle.std.proofs.Common.{◌≡◌, ℕ, ◌+◌, ◌≤◌, ◌<◌, List, ◌++◌, length, Ok, Err, refl, ap, arith, length-append}
 use Rattle.krb_der.specs.declared.fault.Fault.{Fault}
-use Rattle.krb_der.specs.declared.fault.EncodeFault.{EncodeFault}
 use Rattle.krb_der.specs.declared.fault.EncodeFault.TheVariants.{TooLong}
 use Rattle.krb_der.specs.Kind.{Kind, ValueOf}
 use Rattle.krb_der.specs.Reading.{Parses}

@@ -1,5 +1,5 @@
 -- A login takes three messages at most.
-use Rattle.std.proofs.Common.{◌≡◌, ◌<◌, ◌∙◌, ℕ, List, Result, Ok, Err, Vec, sym, ap, subst, refl, arith}
+use Rattle.std.proofs.Common.{◌≡◌, ◌<◌, ◌∙◌, ℕ, Result, Ok, Err, Vec, sym, ap, subst, arith}
 use Rattle.std.specs.declared.alloc.Global.{Global}
 use Rattle.krb_context.specs.declared.agreed.Options.{Options}
 use Rattle.krb_gss.specs.declared.negotiating.Negotiation.{Negotiation}

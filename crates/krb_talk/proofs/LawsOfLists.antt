@@ -1,5 +1,5 @@
 -- Who is let in over which list.
-use Rattle.std.proofs.Common.{◌≡◌, ◌∙◌, ℕ, List, Option, Result, Ok, Err, Vec, sym, ap, subst, refl}
+use Rattle.std.proofs.Common.{◌≡◌, ◌∙◌, ℕ, List, Result, Ok, Err, Vec, sym, ap, subst, refl}
 use Rattle.std.specs.declared.alloc.Global.{Global}
 use Rattle.krb_ap.specs.declared.accepted.Accepted.{Accepted}
 use Rattle.krb_ap.specs.declared.reply.ReplyOptions.{ReplyOptions}
@@ -19,7 +19,7 @@ use Rattle.krb_talk.specs.Checking.{Check, Checks, IsAwaited, IsShown}
 use Rattle.krb_talk.specs.Laws.{IsClientsMic, IsLetInOver}
 use Rattle.krb_talk.specs.Pending.{Finishes}
 use Rattle.krb_talk.specs.States.{Listing, Pending}
-use Rattle.krb_talk.specs.Talk.{Concludes, Ends, IsListed, Leads, Talks, as_decided, lists, fails, passes, checks, finishes}
+use Rattle.krb_talk.specs.Talk.{Concludes, Ends, IsListed, Leads, Talks, lists, fails, passes, checks, finishes}
 use Rattle.krb_talk.specs.declared.checking.Admitted.{Admitted}
 use Rattle.krb_talk.specs.declared.checking.Checking.{Checking}
 use Rattle.krb_talk.specs.declared.checking.Checking.TheVariants as checked

@@ -1,8 +1,7 @@
 -- The service's own MIC of a list fits 40 bytes.
-use Rattle.std.proofs.Common.{◌≡◌, ◌≤◌, ◌<◌, ◌+◌, ◌∙◌, ℕ, ℤ, pos, negsuc, List, ◌++◌, Bool, true, nat_eq, false, Result, Ok, Err, length, take, drop, sym, ap, refl, arith, if◌then◌else◌, rules}
-use Rattle.std.proofs.lemmas.List.{take-append-le}
-use Rattle.krb_enc.specs.Key.{KeyValue, numbered, profile_of}
-use Rattle.krb_enc.specs.Sealed.{Profile, aes128_sha256, aes256_sha384}
+use Rattle.std.proofs.Common.{◌≡◌, ◌≤◌, ℕ, ℤ, pos, negsuc, List, Bool, true, nat_eq, false, Result, Ok, Err, length, arith, if◌then◌else◌}
+use Rattle.krb_enc.specs.Key.{numbered}
+use Rattle.krb_enc.specs.Sealed.{aes128_sha256, aes256_sha384}
 use Rattle.krb_enc.specs.Written.{IsWritten}
 
 tag_if : (b : Bool) → (if b then aes256_sha384 else aes128_sha256).tag_len ≤ 24

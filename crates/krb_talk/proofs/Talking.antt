@@ -1,5 +1,5 @@
 -- What one message of a login leads to.
-use Rattle.std.proofs.Common.{◌≡◌, ℕ, List, refl, sym, subst}
+use Rattle.std.proofs.Common.{◌≡◌, refl, sym, subst}
 use Rattle.krb_ap.specs.declared.reply.ReplyOptions.{ReplyOptions}
 use Rattle.krb_context.specs.declared.agreed.Options.{Options}
 use Rattle.krb_gss.specs.declared.negotiating.Negotiation.{Negotiation}

@@ -17,7 +17,7 @@ use Rattle.krb_talk.specs.declared.checking.ListFault.TheVariants.{OutOfMemory}
 use Rattle.krb_talk.specs.declared.decision.Decision.{Decision}
 use Rattle.krb_talk.specs.declared.decision.Decision.TheVariants.{LetIn, Shown, GoOn, Refused, Unshown}
 use Rattle.krb_talk.specs.declared.stage.Stage.{Stage}
-use Rattle.krb_talk.specs.declared.stage.Stage.TheVariants.{Login, Listed}
+use Rattle.krb_talk.specs.declared.stage.Stage.TheVariants.{Login}
 use Rattle.krb_talk.specs.declared.talk.Turn.{Turn}
 use Rattle.krb_talk.specs.declared.talk.Turn.TheVariants.{Decided, Serve}
 

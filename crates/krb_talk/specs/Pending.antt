@@ -11,7 +11,7 @@ use Rattle.krb_talk.specs.ListMic.{MarksIn, RepliesIf, Shows}
 use Rattle.krb_talk.specs.States.{Pending}
 use Rattle.krb_talk.specs.declared.checking.Admitted.{Admitted}
 use Rattle.krb_talk.specs.declared.checking.ListFault.{ListFault}
-use Rattle.krb_talk.specs.declared.checking.ListFault.TheVariants.{Token, Missing, Wrong, OutOfMemory}
+use Rattle.krb_talk.specs.declared.checking.ListFault.TheVariants.{Token, Missing, Wrong}
 
 abbrev pub RepliesTo : Pending → Mechanism → List ℕ → ReplyOptions → Option Reply → Type 0
 RepliesTo pending mechanism confounder choice = RepliesIf pending.accepted.mutual (taken_of pending.accepted) mechanism confounder choice

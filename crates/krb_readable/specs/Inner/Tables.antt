@@ -1,5 +1,5 @@
 -- A table of the code as a list.
-use Rattle.std.specs.Prelude.{ℕ, ℤ, List}
+use Rattle.std.specs.Prelude.{ℕ, List}
 use Rattle.krb_readable.specs.declared.flags.Flag.{Flag}
 
 -- a bit and its letter

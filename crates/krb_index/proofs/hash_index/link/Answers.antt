@@ -1,4 +1,4 @@
-use Rattle.std.proofs.Common.{◌≡◌, ◌+◌, ◌-◌, ◌<◌, ◌%◌, length, sym, arith, subst}
+use Rattle.std.proofs.Common.{◌≡◌, ◌+◌, ◌-◌, ◌<◌, length, sym, arith, subst}
 use Rattle.krb_index.specs.Inner.Buckets.{IsLinkedFrom}
 use Rattle.krb_index.proofs.IndexLaws.{one_linked}
 use Rattle.krb_index.proofs.hash_index.link.Goals as goal

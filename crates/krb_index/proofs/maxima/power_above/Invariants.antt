@@ -1,4 +1,4 @@
-use Rattle.std.proofs.Common.{max, ◌+◌, ◌-◌, ◌*◌, ◌<◌, ◌≤◌}
+use Rattle.std.proofs.Common.{max, ◌-◌, ◌*◌, ◌<◌}
 use Rattle.krb_index.specs.Inner.Maxima.{IsPowerOfTwo}
 use Rattle.krb_index.proofs.maxima.power_above.Given as goal
 

@@ -1,4 +1,4 @@
-use Rattle.std.proofs.Common.{◌≡◌, ◌∙◌, sym, ap}
+use Rattle.std.proofs.Common.{◌∙◌, sym, ap}
 use Rattle.krb_msg.specs.Borrowed.{ap_req_of}
 use Rattle.krb_ap.specs.Opened.{service_of}
 use Rattle.krb_login.proofs.asked.asked_of.Goals as goal

@@ -1,4 +1,4 @@
-use Rattle.std.proofs.Common.{◌≡◌, Bool, inr, sym, subst}
+use Rattle.std.proofs.Common.{Bool, inr, subst}
 use Rattle.krb_login.specs.Inner.{Awaits}
 use Rattle.krb_login.proofs.LoginLaws.{due_if_awaited, none_due, not_rejected, is_rejected}
 use Rattle.krb_login.proofs.response.is_due.Goals as goal

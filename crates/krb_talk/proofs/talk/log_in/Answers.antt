@@ -1,6 +1,5 @@
 use Rattle.std.proofs.Common.{ap}
 use Rattle.krb_gss.specs.declared.negotiating.Negotiation.{Negotiation}
-use Rattle.krb_talk.specs.declared.stage.Stage.{Stage}
 use Rattle.krb_talk.specs.declared.stage.Stage.TheVariants.{Login}
 use Rattle.krb_talk.proofs.Talking.{passed, at_stage}
 use Rattle.krb_talk.proofs.talk.log_in.Goals as goal

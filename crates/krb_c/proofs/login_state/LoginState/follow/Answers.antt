@@ -1,4 +1,4 @@
-use Rattle.std.proofs.Common.{◌≡◌, List, ℕ, subst}
+use Rattle.std.proofs.Common.{List, ℕ, subst}
 use Rattle.krb_c.specs.Login.{IsConcluded}
 use Rattle.krb_c.proofs.Logins.{to_asked, to_decided}
 use Rattle.krb_c.proofs.login_state.LoginState.follow.Goals as goal

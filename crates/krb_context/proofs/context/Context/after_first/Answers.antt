@@ -1,4 +1,4 @@
-use Rattle.std.proofs.Common.{◌≡◌, ◌∙◌, ◌<◌, ◌^◌, ℕ, [], ◌∷◌, ap, arith, subst, sym}
+use Rattle.std.proofs.Common.{◌≡◌, ◌∙◌, ℕ, [], ◌∷◌, ap, arith, subst, sym}
 use Rattle.krb_context.specs.Context.{State, first_of, number_after}
 use Rattle.krb_context.specs.Sequence.{Known, Stands}
 use Rattle.krb_context.specs.Side.{peer_of}

@@ -1,4 +1,4 @@
-use Rattle.std.proofs.Common.{◌≡◌, ◌∙◌, ℕ, List, take, drop, ap, subst}
+use Rattle.std.proofs.Common.{◌≡◌, ℕ, List, take, drop, ap, subst}
 use Rattle.std.proofs.lemmas.Result.{err_from_is_err_and}
 use Rattle.krb_context.specs.Side.{Sender, peer_sender}
 use Rattle.krb_context.specs.Faults.{IsWrapFault}

@@ -1,4 +1,4 @@
-use Rattle.std.proofs.Common.{◌≡◌, ◌∙◌, subst}
+use Rattle.std.proofs.Common.{◌∙◌, subst}
 use Rattle.krb_enc.specs.Written.{IsWritten}
 use Rattle.krb_enc.specs.declared.fault.ShortSlice.{ShortSlice}
 use Rattle.krb_context.specs.Side.{Sender}

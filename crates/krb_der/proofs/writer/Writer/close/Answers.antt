@@ -1,4 +1,4 @@
-use Rattle.std.proofs.Common.{◌≡◌, ◌+◌, ◌-◌, ◌<◌, [], ◌∷◌, length, drop, sym, ap, subst, ◌∙◌, arith, length-drop}
+use Rattle.std.proofs.Common.{◌≡◌, ◌+◌, ◌-◌, ◌<◌, [], ◌∷◌, length, drop, ap, subst, ◌∙◌, arith, length-drop}
 use Rattle.krb_der.specs.Inner.HeadView.{IsHeadOf, filled_at}
 use Rattle.krb_der.proofs.HeadLaws.{short-head, filled-wraps, filled_at-whole, written_back}
 use Rattle.krb_der.proofs.writer.Writer.close.Goals as goal

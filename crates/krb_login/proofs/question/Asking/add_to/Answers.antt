@@ -1,4 +1,4 @@
-use Rattle.std.proofs.Common.{◌≡◌, ℕ, ℤ, List, sym, subst}
+use Rattle.std.proofs.Common.{ℕ, ℤ, List, sym, subst}
 use Rattle.krb_replay.specs.Bytes.{IsBytesOf}
 use Rattle.krb_login.specs.Store.{added}
 use Rattle.krb_login.proofs.question.Asking.add_to.Goals as goal

@@ -1,5 +1,5 @@
-use Rattle.std.proofs.Common.{◌≡◌, ◌∷◌, List, Err, ap, refl, sym, subst}
-use Rattle.krb_ap.specs.Answer.{after_refusal, taken_of}
+use Rattle.std.proofs.Common.{◌∷◌, List, Err, ap, refl, sym, subst}
+use Rattle.krb_ap.specs.Answer.{taken_of}
 use Rattle.krb_ap.specs.History.{IsShownLately}
 use Rattle.krb_ap.specs.Service.{Stands}
 use Rattle.krb_replay.specs.Memory.{SameStamps}

@@ -1,4 +1,4 @@
-use Rattle.std.proofs.Common.{◌≡◌, ◌<◌, ◌∙◌, ℤ, Option, Some, None, List, [], ◌∷◌, Contains, IsSome, ap, length, arith, of_z, refl, subst, sym, to_z}
+use Rattle.std.proofs.Common.{◌≡◌, ◌<◌, ℤ, Option, Some, None, List, [], ◌∷◌, Contains, IsSome, ap, length, arith, of_z, refl, subst, sym, to_z}
 use Rattle.std.specs.Int.{w64}
 use Rattle.std.specs.Option.{unwrap_or}
 use Rattle.std.specs.List.Sorted.{IsPermutation}
