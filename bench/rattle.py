@@ -170,25 +170,21 @@ def remembered() -> Iterator[Row]:
                   "1,000 remembered", messages("requests", 19, 0, clients, each, count), count, counted)
 
 
-def greatest(folder, program, held=10_000_000, lines=2_000):
-    """What a call takes more at most, of 20,000 calls on a memory that has as many tuples as its limits allow.
+def greatest(folder, program, held=10_000_000, lines=100_000):
+    """What a call takes more at most, of a million calls on a memory that has as many tuples as its limits allow.
 
-    valgrind counts the instructions of ten calls at a time, so one call can't take more than what the greatest count is
+    QEMU counts the instructions of ten calls at a time, so one call can't take more than what the greatest count is
     above the least.
     """
-    out = folder / "counted"
-    said("valgrind", "-q", "--tool=callgrind", f"--callgrind-out-file={out}", "--dump-before=write", program, "calls",
-         "limited", held, lines)
+    plugin = folder / "between_writes.so"
+    said("cc", "-shared", "-fPIC", "-O2", "-o", plugin, HERE / "between_writes.c")
     # before the first line the memory is filled
-    counts = [instructions(folder / f"counted.{it}") for it in range(2, lines + 2)]
-    least, most = min(counts), max(counts)
+    words = ["qemu-x86_64", "-cpu", "max", "-plugin", f"file={plugin}", program, "calls", "limited", str(held), str(lines)]
+    ran = subprocess.run(words, stdout=subprocess.DEVNULL, stderr=subprocess.PIPE, text=True, check=True)
+    writes, least, most = (int(it) for it in ran.stderr.split()[-3:])
+    assert writes == lines, f"{writes} times ten calls, not {lines}"
     print(f"\n{held:,} tuples held, {10 * lines:,} calls: ten calls take {least:,} instructions at least and "
           f"{most:,} at most, so a call takes at most {most - least:,} more than another.")
-
-
-def instructions(path):
-    """The count of a file of callgrind."""
-    return next(int(line.split()[1]) for line in path.read_text().splitlines() if line.startswith("totals:"))
 
 
 def found(folder, bench, groups, has_times):
