@@ -104,7 +104,7 @@ def authenticator(now, client=CLIENT, key=SESSION[19]):
 
 
 def refused(now):
-    """Requests that a service refuses, one for each stage, each with what it is."""
+    """Requests that a service refuses, each with what it is: one for each stage but the last, which knows a repeat."""
     good = ticket(19, now, 0)
     other = authenticator(now)
     yield "not a request", b"hello"
@@ -116,6 +116,8 @@ def refused(now):
     yield "an authenticator that isn't sealed with the session key", der.request(0, good, der.encrypted(19, b"\x5a" * 100))
     yield "another client's name", der.request(0, good, authenticator(now, b"mallory"))
     yield "a clock that is an hour off", der.request(0, good, authenticator(now - 3600))
+    yield "a ticket that isn't valid yet", der.request(0, ticket(19, now + 3600, 0), other)
+    yield "a ticket that has expired", der.request(0, ticket(19, now - HOURS_10 - 3600, 0), other)
     yield "1 MiB: a service of 523,000 empty components", der.request(0, ticket_for([b""] * ((FILLED - 1_500) // 2)), other)
     yield "1 MiB: a service of one long component", der.request(0, ticket_for([b"host", b"a" * (FILLED - 500)]), other)
     yield "1 MiB: a ticket that isn't sealed with the key", der.request(0, ticket_for(SERVICE, 1, b"\x5a" * (FILLED - 500)), other)

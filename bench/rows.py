@@ -154,10 +154,10 @@ def clients() -> Iterator[Row]:
                       (COUNTED, 2 * COUNTED))
 
 
-def lines(count: int):
+def lines(count: int, clients: int = 1):
     """Lays out requests in lines, as krbtool reads them."""
     def lay_out(at: Path, run, counts: bool) -> None:
-        messages("requests", 19, 0, 1, 1, count)(at, run, counts)
+        messages("requests", 19, 0, clients, 1, count)(at, run, False)
         data, place, now = (at / "messages").read_bytes(), 0, calendar.timegm(time.gmtime())
         with (at / "lines").open("w") as out:
             while place < len(data):
@@ -187,8 +187,9 @@ def processes() -> Iterator[Row]:
                   f"krb5_rd_req{said}", lines(1))
     yield row("a new process for each request: krbtool request", Side(f"{ask} --confounder {confounder}"),
               Side(f"{{mit_process}} request FILE:{{at}}/caches/0 {name}"), "krb5_mk_req_extended", lines(1))
-    yield row("1,000 requests in one process: krbtool accept", Side(accept, "lines"), Side(theirs, "lines"),
-              "krb5_rd_req", lines(1_000))
+    for clients, said in ((1, "one client"), (CLIENTS, "1,000 clients")):
+        yield row(f"1,000 requests of {said} in one process: krbtool accept", Side(accept, "lines"),
+                  Side(theirs, "lines"), "krb5_rd_req", lines(1_000, clients))
     yield row("10,000 entries: krbtool list-keytab", Side("{krbtool} list-keytab {at}/keytab"),
               Side("klist -kte {at}/keytab"), "klist -kte", of_files)
     yield row("10,000 credentials: krbtool list-ccache", Side("{krbtool} list-ccache {at}/cache"),
