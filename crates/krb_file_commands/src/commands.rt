@@ -1,7 +1,11 @@
 //! The commands on files, by the words of the command line.
 
-ghost use Rattle.std.specs.Prelude.{◌≡◌, ◌≢◌, ◌≤◌, IfErr};
+ghost use Rattle.std.specs.Prelude.{◌≡◌, ◌≢◌, ◌<◌, ◌≤◌, ◌^◌, ℕ, IfErr};
 ghost use Rattle.krb_file_commands.specs.OfType.{IsUsableType};
+ghost use Rattle.krb_file_commands.specs.Tasks.{IsUnreadPick};
+ghost use Rattle.krb_file_commands.specs.Words.{AsksListing, FitsListing, IsNumber};
+ghost use Rattle.krb_file_commands.specs.declared.listing.CacheListing.{CacheListing};
+ghost use Rattle.krb_file_commands.specs.declared.task.UnreadPick.{UnreadPick};
 
 use crate::add::add_keys;
 use crate::checking::{CheckCcache, CheckKeytab};
@@ -27,7 +31,8 @@ pub fn run_list_keytab<R: AllocGlobal + Files + Print + Eprint>(
     file: &str,
     readable: bool,
 ) -> u8
-    ensures { result ≤ 3 }
+    ensures known { result ≤ 3 }
+    ensures ran { result ≢ 2 }
 {
     print_task(rt, "list-keytab", &keytab_listing_of(file, readable))
 }
@@ -38,7 +43,8 @@ pub fn run_list_ccache<R: AllocGlobal + Files + Print + Eprint>(
     file: &str,
     form: CacheForm<'_>,
 ) -> u8
-    ensures { result ≤ 3 }
+    ensures known { result ≤ 3 }
+    ensures words { result ≡ 2 → (listing : CacheListing) → FitsListing listing → ¬ AsksListing form.entry listing }
 {
     match ccache_listing_of(file, form) {
         Some(task) => print_task(rt, "list-ccache", &task),
@@ -48,14 +54,16 @@ pub fn run_list_ccache<R: AllocGlobal + Files + Print + Eprint>(
 
 /// Checks a keytab, and returns the exit status.
 pub fn run_check_keytab<R: AllocGlobal + Files + Print + Eprint>(rt: &R, file: &str) -> u8
-    ensures { result ≤ 3 }
+    ensures known { result ≤ 3 }
+    ensures ran { result ≢ 2 }
 {
     run_product(rt, &CheckKeytab, "check-keytab", file, None)
 }
 
 /// Checks a credential cache, and returns the exit status.
 pub fn run_check_ccache<R: AllocGlobal + Files + Print + Eprint>(rt: &R, file: &str) -> u8
-    ensures { result ≤ 3 }
+    ensures known { result ≤ 3 }
+    ensures ran { result ≢ 2 }
 {
     run_product(rt, &CheckCcache, "check-ccache", file, None)
 }
@@ -67,7 +75,8 @@ pub fn run_convert_keytab<R: AllocGlobal + Files + RandomSource + Print + Eprint
     out: &str,
     replace: bool,
 ) -> u8
-    ensures { result ≤ 3 }
+    ensures known { result ≤ 3 }
+    ensures ran { result ≢ 2 }
 {
     let (task, to) = copy_of(ConvertKeytab, file, out, replace);
     write_task(rt, "convert-keytab", &task, to)
@@ -80,7 +89,8 @@ pub fn run_convert_ccache<R: AllocGlobal + Files + RandomSource + Print + Eprint
     out: &str,
     replace: bool,
 ) -> u8
-    ensures { result ≤ 3 }
+    ensures known { result ≤ 3 }
+    ensures ran { result ≢ 2 }
 {
     let (task, to) = copy_of(ConvertCcache, file, out, replace);
     write_task(rt, "convert-ccache", &task, to)
@@ -92,7 +102,8 @@ fn print_task<R: AllocGlobal + Files + Print + Eprint, P: Product>(
     command: &str,
     task: &Task<'_, P>,
 ) -> u8
-    ensures { result ≤ 3 }
+    ensures known { result ≤ 3 }
+    ensures ran { result ≢ 2 }
 {
     run_product(rt, &task.product, command, task.file, None)
 }
@@ -104,7 +115,8 @@ fn write_task<R: AllocGlobal + Files + RandomSource + Print + Eprint, P: Product
     task: &Task<'_, P>,
     to: To<'_>,
 ) -> u8
-    ensures { result ≤ 3 }
+    ensures known { result ≤ 3 }
+    ensures ran { result ≢ 2 }
 {
     match to {
         To::Emptied(out) => run_product(rt, &task.product, command, task.file, Some(out)),
@@ -115,7 +127,8 @@ fn write_task<R: AllocGlobal + Files + RandomSource + Print + Eprint, P: Product
 /// Prints the entry of the keytab that is picked, and returns the exit status. If the encryption type isn't usable, that is printed after
 /// the entry, and the status is 1.
 pub fn run_pick<R: AllocGlobal + Files + Print + Eprint>(rt: &R, words: PickWords<'_>) -> u8
-    ensures { result ≤ 3 }
+    ensures known { result ≤ 3 }
+    ensures words { result ≡ 2 → (why : UnreadPick) × IsUnreadPick words.entry why }
 {
     match pick_of_words(rt.alloc(), words) {
         Ok(task) => {
@@ -148,7 +161,8 @@ pub fn run_remove<R: AllocGlobal + Files + RandomSource + Print + Eprint>(
     rt: &R,
     words: RemoveWords<'_>,
 ) -> u8
-    ensures { result ≤ 3 }
+    ensures known { result ≤ 3 }
+    ensures words { result ≡ 2 → (index : ℕ) → index < 2 ^ 64 → ¬ IsNumber words.entry.index.now index }
 {
     match removal_of(words) {
         Some((task, out)) => run_storing(rt, &task.product, "remove-key", task.file, out),
@@ -161,7 +175,8 @@ pub fn run_add<R: AllocGlobal + Files + RandomSource + Print + Eprint>(
     rt: &R,
     words: AddWords<'_>,
 ) -> u8
-    ensures { result ≤ 3 }
+    ensures known { result ≤ 3 }
+    ensures ran { result ≢ 2 }
 {
     let files = addition_of(words);
     match extended(rt, files) {

@@ -1,6 +1,6 @@
 //! What the program says of a command that failed, and its exit status.
 
-ghost use Rattle.std.specs.Prelude.{◌≡◌, ◌≤◌, ℕ, List};
+ghost use Rattle.std.specs.Prelude.{◌≡◌, ◌≢◌, ◌≤◌, ℕ, List};
 ghost use Rattle.krb_file_commands.specs.FaultText.{FaultText};
 
 /// What is printed of a fault: its name, and its offset in bytes if it has one.
@@ -26,7 +26,8 @@ pub trait Failure: Copy {
     fn status(&self) -> u8
         ensures status { result ≡ exit_status self.now }
         ensures failed { 1 ≤ result }
-        ensures known { result ≤ 3 };
+        ensures known { result ≤ 3 }
+        ensures ran { result ≢ 2 };
 
     /// Returns what the fault is of: the file, the command, or a stream.
     fn named<'a>(&self, file: &'a str, command: &'a str) -> &'a str

@@ -1,6 +1,6 @@
 //! Running a command over files: the files are opened, the engine runs, a fault is printed, and the status is returned.
 
-ghost use Rattle.std.specs.Prelude.{◌≡◌, ◌≤◌, ◌⊎◌, None, IfErr, IfOk, OnOk};
+ghost use Rattle.std.specs.Prelude.{◌≡◌, ◌≢◌, ◌≤◌, ◌⊎◌, None, IfErr, IfOk, OnOk};
 ghost use Rattle.krb_file_commands.specs.Status as status;
 ghost use Rattle.krb_name.specs.Flow.{source_failures};
 
@@ -28,7 +28,8 @@ pub fn run_product<R: AllocGlobal + Files + Print + Eprint, P: Product>(
     file: &str,
     out: Option<&str>,
 ) -> u8
-    ensures { result ≤ 3 }
+    ensures known { result ≤ 3 }
+    ensures ran { result ≢ 2 }
 {
     let opened = match open_file(rt, file) {
         Ok(opened) => opened,
@@ -122,6 +123,7 @@ fn conclude<R: Print + Eprint, E: Failure>(
     ensures told { OnOk ended ((result ≡ 0) ⊎ (result ≡ 3)) }
     ensures fault { IfErr ended (λ e. result ≡ status.of_ended E.exit_status e) }
     ensures known { result ≤ 3 }
+    ensures ran { result ≢ 2 }
 {
     match ended {
         Ok(count) => match out {
@@ -150,6 +152,7 @@ pub fn complain_of<R: Eprint, F: Failure>(rt: &R, fault: &F, file: &str, command
     ensures status { result ≡ F.exit_status fault.now }
     ensures failed { 1 ≤ result }
     ensures known { result ≤ 3 }
+    ensures ran { result ≢ 2 }
 {
     let name = fault.named(file, command);
     complain(rt, fault_line(name, fault), fault.status())

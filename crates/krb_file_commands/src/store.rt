@@ -1,6 +1,6 @@
 //! Writing what a command made into a file that it may have read.
 
-ghost use Rattle.std.specs.Prelude.{◌≡◌, ◌≤◌, ◌⊎◌, IfErr};
+ghost use Rattle.std.specs.Prelude.{◌≡◌, ◌≢◌, ◌≤◌, ◌⊎◌, IfErr};
 ghost use Rattle.krb_file_commands.specs.Tasks.{name_of, out_of};
 
 use crate::engine::Product;
@@ -66,7 +66,8 @@ pub(crate) fn run_storing<R: AllocGlobal + Files + RandomSource + Print + Eprint
     file: &str,
     out: Out<'_>,
 ) -> u8
-    ensures { result ≤ 3 }
+    ensures known { result ≤ 3 }
+    ensures ran { result ≢ 2 }
 {
     match make(rt, product, command, file) {
         Ok(Ok(bytes)) => store(rt, &bytes, command, out),
