@@ -1,7 +1,7 @@
 /* Times calls of the library for C, for bench/wiping.py.
  *
- *   wiping FOLDER TYPE COUNT      prints five numbers: nanoseconds of processor time for each request that is made, for each that is accepted
- *                                 (with fevstunik_accepted_known), and for each fevstunik_seal, _open and _checksum of 100 bytes
+ *   wiping FOLDER TYPE COUNT      prints six numbers: nanoseconds of processor time for each request that is made, for each that is accepted,
+ *                                 for that with fevstunik_accepted_known, and for each fevstunik_seal, _open and _checksum of 100 bytes
  *
  * FOLDER has the files of tests/support/key_material.py. COUNT is at most 1,000. Each number is the least of twenty runs.
  */
@@ -9,7 +9,7 @@
 
 #include "flow.h"
 
-enum { MOST = 1000, RUNS = 20, CALLS = 5 };
+enum { MOST = 1000, RUNS = 20, CALLS = 6 };
 
 static uint8_t made[MOST][1024];
 static size_t sizes[MOST];
@@ -40,6 +40,11 @@ static void requests(void)
 
 static void accepts(void)
 {
+    for (long i = 0; i < count; i++) size_of(fevstunik_acceptor_accept(&service, &accepted, made[i], sizes[i], &now));
+}
+
+static void known_accepts(void)
+{
     for (long i = 0; i < count; i++) {
         size_of(fevstunik_acceptor_accept(&service, &accepted, made[i], sizes[i], &now));
         size_of(fevstunik_accepted_known(&accepted, &known, buffer, sizeof buffer));
@@ -63,7 +68,7 @@ static void checksums(void)
 
 int main(int argc, char **argv)
 {
-    static void (*const calls[CALLS])(void) = {requests, accepts, seals, opens, checksums};
+    static void (*const calls[CALLS])(void) = {requests, accepts, known_accepts, seals, opens, checksums};
     double least[CALLS] = {0};
     if (argc != 4) return 2;
     of = atoi(argv[2]) == 20;
@@ -75,6 +80,7 @@ int main(int argc, char **argv)
         size_of(making_service());
         size_of(getting_ready());
         for (int call = 0; call < CALLS; call++) {
+            if (calls[call] == known_accepts) size_of(making_service()); /* one that has seen none of the requests */
             double start = processor_time();
             calls[call]();
             double took = (processor_time() - start) / count;

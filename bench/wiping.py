@@ -20,7 +20,7 @@ from support.c_programs import toolchain  # noqa: E402
 
 # The pace of a machine changes from second to second. So both are run many times in turn, briefly, and the shortest run of each counts.
 COUNT, RUNS = 300, 70
-CALLS = ("fevstunik_request", "fevstunik_acceptor_accept and _accepted_known", "fevstunik_seal, 100 bytes", "fevstunik_open, 100 bytes",
+CALLS = ("fevstunik_request", "fevstunik_acceptor_accept", "the same and _accepted_known", "fevstunik_seal, 100 bytes", "fevstunik_open, 100 bytes",
          "fevstunik_checksum, 100 bytes")
 
 
