@@ -31,7 +31,8 @@ pub struct RequestOptions {
     pub subkey: Option<Key>,
     /// The client's first sequence number.
     pub seq: Option<u32>,
-    /// What a client of GSS-API asks for; it needs `seq`, too. Other clients leave this out.
+    /// What a client of GSS-API asks for. Such a client sends `seq`, too, which isn't checked. Other
+    /// clients leave this out.
     pub context: Option<ContextRequest>,
 }
 

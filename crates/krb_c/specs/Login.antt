@@ -8,6 +8,7 @@ use Rattle.krb_gss.specs.declared.negotiating.Negotiation.{Negotiation}
 use Rattle.krb_gss.specs.declared.negotiating.Negotiation.TheVariants.{Begun, Ended}
 use Rattle.krb_replay.specs.Limit.{limits_of}
 use Rattle.krb_replay.specs.Memory.{SameStamps, later_of}
+use Rattle.krb_ap.specs.ErrorCodes.{krb_err_generic}
 use Rattle.krb_ap.specs.History.{IsShownLately}
 use Rattle.krb_ap.specs.Setup.{Arrival}
 use Rattle.krb_ap.specs.declared.reply.ReplyOptions.{ReplyOptions}
@@ -66,7 +67,7 @@ cause_answer is_full (Token fault) = token_answer fault
 cause_answer is_full (Request refusal) = refused refusal
 cause_answer is_full (Breached breach) = breach_answer breach
 cause_answer is_full OutOfMemory = if is_full then plain full else plain out_of_memory
-cause_answer is_full StoreFailed = record { code = store_failed; kerberos = pos 60; at = 0; size = 0 }
+cause_answer is_full StoreFailed = record { code = store_failed; kerberos = krb_err_generic; at = 0; size = 0 }
 
 -- Why the client hasn't shown that it sent its list of mechanisms.
 abbrev pub list_answer : ListFault → Answer

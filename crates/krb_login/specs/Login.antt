@@ -1,5 +1,5 @@
 -- What a service decides on the bytes of a client, and what it sends back.
-use Rattle.std.specs.Prelude.{◌≡◌, ◌≢◌, ◌⊎◌, ℕ, ℤ, pos, List, ◌∷◌, length, Vec, Option, Some, None, IfSome, IsSomeAnd, true, false, Err}
+use Rattle.std.specs.Prelude.{◌≡◌, ◌≢◌, ◌⊎◌, ℕ, ℤ, List, ◌∷◌, length, Vec, Option, Some, None, IfSome, IsSomeAnd, true, false, Err}
 use Rattle.std.specs.declared.alloc.Global.{Global}
 use Rattle.krb_gss.specs.declared.mechanism.Mechanism.{Mechanism}
 use Rattle.krb_gss.specs.declared.fault.TokenFault.{TokenFault}
@@ -12,6 +12,7 @@ use Rattle.krb_ap.specs.Setup.{Setup, Arrival, arrival}
 use Rattle.krb_ap.specs.Taken.{Taken, Accept}
 use Rattle.krb_ap.specs.Answer.{taken_of}
 use Rattle.krb_ap.specs.Causes.{Cause as IsCause, TellsPlaceWithin, code_of as refusal_code}
+use Rattle.krb_ap.specs.ErrorCodes.{krb_err_generic}
 use Rattle.krb_ap.specs.Opened.{IsOrdinary}
 use Rattle.krb_ap.specs.Reply.{IsReply}
 use Rattle.krb_ap.specs.ErrorReply.{IsErrorReply, IsErrorTooLong}
@@ -194,7 +195,7 @@ code_of (Token fault) = None
 code_of (Request refusal) = refusal_code refusal
 code_of (Breached breach) = Some (breach_code breach)
 code_of OutOfMemory = None
-code_of StoreFailed = Some (pos 60)
+code_of StoreFailed = Some krb_err_generic
 
 -- ---- the decision
 abbrev pub Decides : Call → Decision → Type 0

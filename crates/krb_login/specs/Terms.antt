@@ -1,10 +1,11 @@
 -- What a service asks of a client beyond what makes its request acceptable.
-use Rattle.std.specs.Prelude.{◌≡◌, ◌⊎◌, ◌<◌, ℕ, ℤ, pos, false, List, [], ◌∷◌, Contains, codes, IsSomeAnd}
+use Rattle.std.specs.Prelude.{◌≡◌, ◌⊎◌, ◌<◌, ℕ, ℤ, false, List, [], ◌∷◌, Contains, codes, IsSomeAnd}
 use Rattle.krb_der.specs.Flags.{HasBit}
 use Rattle.krb_der.specs.Kind.{ValueOf, octets, leaf}
 use Rattle.krb_msg.specs.Module.{typed}
 use Rattle.krb_msg.specs.Fields.{type_of, bytes_of}
 use Rattle.krb_gss.specs.Checksum.{Content, IsChecksum, checksum_type}
+use Rattle.krb_ap.specs.ErrorCodes.{krb_err_generic}
 use Rattle.krb_ap.specs.Taken.{Taken}
 use Rattle.krb_login.specs.NoBindings.{none_sent}
 use Rattle.krb_login.specs.declared.terms.Bindings.{Bindings}
@@ -75,7 +76,7 @@ name_of ChannelBindings = codes "ChannelBindings"
 
 -- RFC 4120 has no code for them: KRB_ERR_GENERIC
 abbrev pub code_of : Breach → ℤ
-code_of breach = pos 60
+code_of breach = krb_err_generic
 
 abbrev pub Meets : Terms → Taken → Type 0
 Meets terms taken = (breach : Breach) → Breaks terms taken breach → ⊥
