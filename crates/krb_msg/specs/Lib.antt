@@ -8,3 +8,4 @@ pub mod Numbers
 pub mod Borrowed
 pub mod Owned
 pub mod Spelled
+pub mod Shown

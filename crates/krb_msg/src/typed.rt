@@ -10,17 +10,31 @@ ghost use Rattle.krb_msg.specs.Owned.{owned_list_of, owned_typed_of};
 
 use krb_der::{Cursor, Element, Encode, EncodeFault, Fault, Field, Octets, Writer, write_sequence};
 use std::alloc::{AllocError, Global};
+use std::fmt;
 use std::marker::Model;
 
 /// Bytes, and the number of their type: a checksum, an address, an element of authorization data,
 /// or a transited encoding (RFC 4120, sections 5.2.9, 5.2.5, 5.2.6 and 5.3). The bytes are a slice
 /// of the input.
-#[derive(Clone, Copy, Debug, PartialEq, Eq)]
+#[derive(Clone, Copy, PartialEq, Eq)]
 pub struct TypedRef<'a> {
     /// The type: `cksumtype`, `addr-type`, `ad-type` or `tr-type`.
     pub kind: i32,
     /// The bytes: `checksum`, `address`, `ad-data` or `contents`.
     pub bytes: &'a [u8],
+}
+
+// A checksum may hold delegated credentials, so no byte is shown, here and below.
+impl fmt::Debug for TypedRef<'_> {
+    ghost use Rattle.std.specs.Prelude.{Some};
+    ghost use Rattle.krb_msg.specs.Shown.{shown_typed_ref};
+
+    ghost debug_output = { λ typed. Some (shown_typed_ref typed.kind typed.bytes.now) };
+
+    fn fmt<W: fmt::Write>(&self, f: &mut fmt::Formatter<W>) -> fmt::Result {
+        let kind = self.kind;
+        write!(f, "TypedRef(type {kind}, {} bytes)", self.bytes.len())
+    }
 }
 
 impl<'a> Element<'a> for TypedRef<'a> {
@@ -71,12 +85,24 @@ pub(crate) fn owned_typed(
 
 /// Bytes, and the number of their type: a checksum, an address, an element of authorization data,
 /// or a transited encoding (RFC 4120, sections 5.2.9, 5.2.5, 5.2.6 and 5.3).
-#[derive(Debug, Drop)]
+#[derive(Drop)]
 pub struct Typed {
     /// The type: `cksumtype`, `addr-type`, `ad-type` or `tr-type`.
     pub kind: i32,
     /// The bytes: `checksum`, `address`, `ad-data` or `contents`.
     pub bytes: Vec<u8>,
+}
+
+impl fmt::Debug for Typed {
+    ghost use Rattle.std.specs.Prelude.{Some};
+    ghost use Rattle.krb_msg.specs.Shown.{shown_typed};
+
+    ghost debug_output = { λ typed. Some (shown_typed typed.kind typed.bytes.items) };
+
+    fn fmt<W: fmt::Write>(&self, f: &mut fmt::Formatter<W>) -> fmt::Result {
+        let kind = self.kind;
+        write!(f, "Typed(type {kind}, {} bytes)", self.bytes.len())
+    }
 }
 
 impl Encode for Typed {

@@ -93,12 +93,19 @@ by_bytes Equal rest tie = sym (tie refl)
 by_bytes Greater rest tie = refl
 
 -- names are compared by their bytes
-pub bytes_order : (one other : RealmAndName) → HasLengths one → HasLengths other → slice_cmp nat_cmp (name_bytes one) (name_bytes other) ≡ bytes_cmp one other
+bytes_order : (one other : RealmAndName) → HasLengths one → HasLengths other → slice_cmp nat_cmp (name_bytes one) (name_bytes other) ≡ bytes_cmp one other
 bytes_order one other fits also =
     by_bytes (slice_cmp nat_cmp (name_bytes one) (name_bytes other)) (parts_cmp one other)
     (λ same. let bytes : name_bytes one ++ [] ≡ name_bytes other ++ [] = ap (λ (list : List ℕ). list ++ []) (exact_bytes (name_bytes one) (name_bytes other) same) in
     let names : one ≡ other = (name_back one other [] [] fits also bytes).0 in
     ap (λ (name : RealmAndName). parts_cmp name other) names ∙ tied_itself parts_total other)
+
+-- the same of two strings of bytes that are names
+pub compared : {answer : Ordering} {first second : List ℕ} (one other : RealmAndName) → answer ≡ slice_cmp nat_cmp first second
+    → first ≡ name_bytes one → second ≡ name_bytes other → HasLengths one → HasLengths other → answer ≡ bytes_cmp one other
+compared {first = first} {second = second} one other is name also fits both =
+    is ∙ (ap (λ (bytes : List ℕ). slice_cmp nat_cmp bytes second) name ∙ (ap (λ (bytes : List ℕ). slice_cmp nat_cmp (name_bytes one) bytes) also
+    ∙ bytes_order one other fits both))
 
 -- bytes that are two names
 pub names_are : (bytes : List ℕ) (first hash : ℕ) (server client : RealmAndName) → bytes ≡ name_bytes server ++ name_bytes client

@@ -12,7 +12,7 @@ use Rattle.std.specs.Map.{lookup}
 use Rattle.std.specs.BTreeMap.{BTreeMap, Updates, get, is_at}
 use Rattle.std.proofs.lemmas.Cmp.{tied_itself}
 use Rattle.std.proofs.lemmas.Int.{ints}
-use Rattle.std.proofs.lemmas.List.Sorted.{Contains-permutation, IsPermutation-refl, IsPermutation-sym, length_permutation, sum_by-IsPermutation}
+use Rattle.std.proofs.lemmas.List.Sorted.{Contains-permutation, IsPermutation-sym, length_permutation, sum_by-IsPermutation}
 use Rattle.std.proofs.lemmas.List.Elements.{All-contains}
 use Rattle.std.proofs.lemmas.Map.Views.{tells_apart}
 use Rattle.std.proofs.lemmas.List.Sums.{length-filter}
@@ -82,6 +82,9 @@ module _ {K : Type 0} (cmp : K → K → Ordering) (total : IsTotalOrder cmp) wh
   no_empty_after : (old new : BTreeMap K (List ℤ)) (key : K) (value : Option (List ℤ)) → Updates cmp old new key value → value ≢ Some [] → HasNoEmpty cmp old → HasNoEmpty cmp new
   no_empty_after old new key value updates apart none other =
       at_value (is_at (cmp key) other) (get cmp new other) (get cmp old other) value (updates.0 other) apart (none other)
+
+  pub own_times : (old new : BTreeMap K (List ℤ)) (key : K) (now : List ℤ) → Updates cmp old new key (Some now) → times_by cmp new key ≡ now
+  own_times old new key now updates = hit old new key key (Some now) updates (ap is_eq (tied_itself total key))
 
   more_at : (at : Bool) (old new : BTreeMap K (List ℤ)) (key other : K) (now : List ℤ) (time : ℤ) (passes : ℤ → Bool) → Updates cmp old new key (Some now)
       → IsPermutation (time ∷ times_by cmp old key) now → is_at (cmp key) other ≡ at
@@ -153,6 +156,14 @@ less_then_same cmp old mid new key time less same = record {
   no_empty = λ none. same.no_empty (less.no_empty none);
 }
 
+-- the same, and then one less
+pub same_then_less : {K : Type 0} (cmp : K → K → Ordering) (old mid new : BTreeMap K (List ℤ)) (key : K) (time : ℤ) → SameTimes cmp old mid → TakesTime cmp mid new key time
+    → TakesTime cmp old new key time
+same_then_less cmp old mid new key time same less = record {
+  times = λ other passes. less.times other passes ∙ same.times other passes;
+  no_empty = λ none. less.no_empty (same.no_empty none);
+}
+
 -- one more, and one less
 pub more_then_less : {K : Type 0} (cmp : K → K → Ordering) (old mid new : BTreeMap K (List ℤ)) (key : K) (time : ℤ) → AddsTime cmp old mid key time → TakesTime cmp mid new key time
     → SameTimes cmp old new
@@ -195,14 +206,20 @@ none_there [] none = refl
 none_there (x ∷ times) none = absurd (omega arith)
 
 -- one that is there alone
-pub alone : (times : List ℤ) (time : ℤ) → length times ≤ 1 → Contains times time → times ≡ time ∷ []
+alone : (times : List ℤ) (time : ℤ) → length times ≤ 1 → Contains times time → times ≡ time ∷ []
 alone [] time few there = let within = there.1 in absurd (omega arith)
 alone (x ∷ y ∷ times) time few there = absurd (omega arith)
 alone (x ∷ []) time few (zero, within, is) = ap (λ (it : ℤ). it ∷ []) is
 alone (x ∷ []) time few (suc k, within, is) = absurd (omega arith)
 
-pub alone_moves : (times : List ℤ) (time : ℤ) → length times ≤ 1 → Contains times time → IsPermutation times (time ∷ [])
-alone_moves times time few there = subst (λ (all : List ℤ). IsPermutation all (time ∷ [])) (sym (alone times time few there)) (IsPermutation-refl (time ∷ []))
+few_left : (n : ℕ) (answer : Bool) → answer ≡ false → (1 < n → answer ≡ true) → n ≤ 1
+few_left zero answer kept more = omega arith
+few_left (suc zero) answer kept more = omega arith
+few_left (suc (suc n)) answer kept more = let yes = more (omega arith) in absurd (cc)
+
+-- one that is there and isn't taken, since it has no others
+pub only_one : (answer : Bool) (times : List ℤ) (time : ℤ) → answer ≡ false → Contains times time → (1 < length times → answer ≡ true) → times ≡ time ∷ []
+only_one answer times time kept there more = alone times time (few_left (length times) answer kept more) there
 
 pub from_ok : {A E : Type 0} {P Q : Type 0} (answer : Result A E) → (P → Q) → OnOk answer P → OnOk answer Q
 from_ok (Ok x) give h = give h

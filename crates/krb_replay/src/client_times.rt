@@ -1,6 +1,6 @@
 //! The times of each client's tuples.
 
-ghost use Rattle.std.specs.Prelude.{◌≡◌, [], Contains, OnErr, OnOk, length};
+ghost use Rattle.std.specs.Prelude.{◌≡◌, ◌∷◌, [], Contains, IsTrue, OnErr, OnOk, false, length};
 ghost use Rattle.krb_replay.specs.Inner.Held.{is_recent};
 ghost use Rattle.krb_replay.specs.Inner.Order.{TwoNames, client_cmp};
 ghost use Rattle.krb_replay.specs.Inner.Times.{AddsTime, HasNoEmpty, SameTimes, TakesTime, number_by, times_by};
@@ -70,17 +70,24 @@ impl ClientTimes {
         requires { Contains (times_by client_cmp self.old.times client.now) time }
         ensures { TakesTime client_cmp self.old.times self.new.times client.now time }
     {
-        if self.of(client) > 1 {
-            match self.times.get_mut(client) {
-                Some(times) => {
-                    let _ = times.remove(time);
-                    return;
-                }
-                None => return,
-            }
+        if self.remove_from_several(client, time) {
+            return;
         }
         let _ = self.times.remove_entry(client);
         self.free_if_empty();
+    }
+
+    // Removes the time, if the client has others. Returns whether it did.
+    fn remove_from_several(&mut self, client: &ByClient, time: i64) -> bool
+        requires { Contains (times_by client_cmp self.old.times client.now) time }
+        ensures removed { IsTrue result → TakesTime client_cmp self.old.times self.new.times client.now time }
+        ensures kept { result ≡ false → SameTimes client_cmp self.old.times self.new.times }
+        ensures only { result ≡ false → times_by client_cmp self.new.times client.now ≡ time ∷ [] }
+    {
+        match self.times.get_mut(client) {
+            Some(times) => times.remove(time),
+            None => false,
+        }
     }
 
     // An emptied tree keeps a block.

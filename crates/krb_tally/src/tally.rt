@@ -13,13 +13,13 @@ use std::marker::Model;
 
 /// Items, each as often as it was added. A contract sees them as a list, in order.
 ///
-/// The items are in buckets of at most 512. A call finds its bucket by binary search, and its place
-/// in the bucket, too. `since` then adds up the lengths of the later buckets. Ten million items are
-/// in about 20,000 buckets if each was later than the one before, and in at most about 60,000
-/// otherwise, if none is removed from the middle.
+/// The items are in buckets. A call finds its bucket by binary search, and its place in the bucket,
+/// too. `since` then adds up the lengths of the later buckets. Ten million items are in about 20,000
+/// buckets if each was later than the one before, and in at most about 60,000 otherwise, if none is
+/// removed from the middle.
 ///
-/// Each of many items takes its size and at most an eighth more. A bucket's memory is freed with its
-/// last item. (How long a call takes, and how much memory, isn't proved.)
+/// Each of many items takes its size and at most an eighth more. Memory is freed with the bucket that
+/// it was for. (How items are kept, how long a call takes and how much memory, no contract says.)
 #[derive(Debug, Drop)]
 pub struct Tally<T: Timed> {
     // They follow each other in order.
@@ -282,7 +282,7 @@ fn place_of_first<T: Timed + Drop>(buckets: &[Bucket<T>]) -> Option<Place>
     Some(Place { bucket: 0, at: 0 })
 }
 
-// Removes the item at a place, and a bucket with its last item.
+// Removes the item at a place. A bucket has always an item, so one of a single item goes as well.
 fn remove_at<T: Timed + Drop>(buckets: &mut Vec<Bucket<T>>, place: Place) -> T
     requires there { IsPlace buckets.old.items place.bucket place.at }
     requires rising { IsRising T.timestamp (all_of buckets.old.items) }

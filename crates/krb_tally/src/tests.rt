@@ -91,7 +91,7 @@ fn takes_the_first(rt: HostRuntime) -> Result<(), Fail> {
     Ok(())
 }
 
-// The times of one owner: one, a few, and more than a bucket takes.
+// The times of one owner: one, a few, more than a bucket takes, one, and a few again.
 #[test]
 fn counts_the_times_of_one_owner(rt: HostRuntime) -> Result<(), Fail> {
     let mut times = Times::new(0);
@@ -112,5 +112,7 @@ fn counts_the_times_of_one_owner(rt: HostRuntime) -> Result<(), Fail> {
     }
     assert!(rt; !times.remove(0));
     assert_eq!(rt; times.len(), 1);
+    times.add(rt.alloc(), 7)?;
+    assert_eq!(rt; times.since(7), 1);
     Ok(())
 }

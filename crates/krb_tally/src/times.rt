@@ -1,8 +1,9 @@
 //! The times of one owner, of whom there may be many.
 
-ghost use Rattle.std.specs.Prelude.{◌≡◌, ◌↔◌, ◌∷◌, ◌<◌, [], Contains, IfOk, IsTrue, OnErr, OnOk, false, length};
+ghost use Rattle.std.specs.Prelude.{◌≡◌, ◌≢◌, ◌↔◌, ◌∷◌, ◌<◌, [], Contains, IfOk, IsTrue, MatchOption, OnErr, OnOk, false, length};
 ghost use Rattle.std.specs.List.Sorted.{IsPermutation};
 ghost use Rattle.krb_tally.specs.Times.{own_time, number_since};
+ghost use Rattle.krb_tally.specs.Inner.Kept.{times_of};
 ghost use Rattle.krb_tally.specs.Inner.Removal.{Removes};
 
 use crate::bucket::Bucket;
@@ -13,9 +14,10 @@ use std::marker::Model;
 /// The times of one owner, each as often as it was added. There is at least one. A contract sees
 /// them as a list, in some order.
 ///
-/// Most owners have one time: it takes 16 bytes, and nothing is allocated for it. Up to 512 times are
-/// in one bucket, and more are in a [`Tally`]; both are allocated. What was allocated stays so if
-/// times are removed. (How long a call takes, and how much memory, isn't proved.)
+/// Most owners have one time: it takes 16 bytes, and nothing is allocated for it. A few are in one
+/// bucket, and many in a [`Tally`]; both are allocated. A tally is freed once one time is left. A
+/// bucket stays: an owner that has now one time and now two would otherwise allocate at each change.
+/// (How times are kept, how long a call takes and how much memory, no contract says.)
 #[derive(Debug, Drop)]
 pub struct Times {
     kept: Kept,
@@ -104,11 +106,13 @@ impl Times {
         ensures removed { IsTrue result → IsPermutation self.old (time ∷ self.new) }
         ensures kept { result ≡ false → self.new ≡ self.old }
     {
-        match &mut self.kept {
+        let removed = match &mut self.kept {
             Kept::One(_) => false,
             Kept::Few(times) => remove_few(times, time),
             Kept::Many(times) => remove_many(times, time),
-        }
+        };
+        free_if_one(&mut self.kept);
+        removed
     }
 }
 
@@ -143,4 +147,26 @@ fn remove_many(times: &mut Tally<i64>, time: i64) -> bool
         return false;
     }
     times.remove(time).is_some()
+}
+
+// Frees a tally in which one time is left.
+fn free_if_one(kept: &mut Kept)
+    ensures { times_of kept.new ≡ times_of kept.old }
+{
+    let Kept::Many(times) = kept else {
+        return;
+    };
+    if let Some(only) = only_of(times) {
+        *kept = Kept::One(only);
+    }
+}
+
+// The time of a tally that has no others.
+fn only_of(times: &Tally<i64>) -> Option<i64>
+    ensures { MatchOption result (length times.now ≢ 1) (λ only. times.now ≡ only ∷ []) }
+{
+    if times.len() != 1 {
+        return None;
+    }
+    times.first().copied()
 }

@@ -3,4 +3,4 @@ use Rattle.krb_replay.proofs.KeepingLaws.{is_moment}
 use Rattle.krb_replay.proofs.tuple.moment_of.Goals as goal
 
 pub returns : goal.returns
-returns c = is_moment _ _ _ _ c.new.result (search rules) (search rules) c.new.ensures (λ s. (s.low, s.high)) (λ low high. record { low = low; high = high })
+returns c = is_moment _ _ _ c.new.result (search rules) (search rules) c.new.ensures
