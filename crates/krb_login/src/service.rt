@@ -63,6 +63,7 @@ impl<M: ReplayMemory> Service<M> {
     /// Opens what a client sent, decides, and makes what goes back to it.
     ///
     /// `negotiation` is new for each client (`Begun`), and goes on with its next token.
+    #[inline(never)]
     pub fn answer(
         &mut self,
         alloc: Global,
@@ -106,7 +107,7 @@ impl<M: ReplayMemory> Service<M> {
     {
         let stage = *negotiation;
         match open(negotiation, given.bytes) {
-            Err(fault) => Decision::Refused(not_opened(alloc, stage, given.bytes, fault)),
+            Err(fault) => refused_decision(not_opened(alloc, stage, given.bytes, fault)),
             Ok(Held::Nothing(first)) => go_on(alloc, negotiation, first),
             Ok(Held::Request(carrier, request)) => self.decide(alloc, carrier, request, given),
         }
@@ -163,8 +164,8 @@ impl<M: ReplayMemory> Service<M> {
     {
         let stage = *negotiation;
         match open(negotiation, bytes) {
-            Err(fault) => Step::Decided(Decision::Refused(not_opened(alloc, stage, bytes, fault))),
-            Ok(Held::Nothing(first)) => Step::Decided(go_on(alloc, negotiation, first)),
+            Err(fault) => refused_step(not_opened(alloc, stage, bytes, fault)),
+            Ok(Held::Nothing(first)) => decided_step(go_on(alloc, negotiation, first)),
             Ok(Held::Request(carrier, request)) => self.question(alloc, carrier, request, now),
         }
     }
@@ -268,7 +269,7 @@ impl<M: ReplayMemory> Service<M> {
         } = given;
         match self.judge(alloc, carrier, request, now) {
             Ok(accepted) => let_in(alloc, carrier, accepted, confounder, choice),
-            Err(refused) => Decision::Refused(refused),
+            Err(refused) => refused_decision(refused),
         }
     }
 
@@ -312,7 +313,7 @@ impl<M: ReplayMemory> Service<M> {
         let skew = self.acceptor.skew();
         match self.judge(alloc, carrier, request, now) {
             Ok(accepted) => held(alloc, carrier, request, accepted, skew),
-            Err(refused) => Step::Decided(Decision::Refused(refused)),
+            Err(refused) => refused_step(refused),
         }
     }
 
@@ -449,7 +450,7 @@ fn not_opened(alloc: Global, negotiation: Negotiation, bytes: &[u8], fault: Toke
 }
 
 // Asks a client for its token.
-#[inline(always)]
+#[inline(never)]
 fn go_on(alloc: Global, negotiation: &mut Negotiation, first: Mechanism) -> Decision
     ensures leaves { IsUndecided result }
     ensures negotiation { negotiation.old ≡ Negotiation.Asked first
@@ -463,6 +464,28 @@ fn go_on(alloc: Global, negotiation: &mut Negotiation, first: Mechanism) -> Deci
             Decision::Refused(out_of_memory())
         }
     }
+}
+
+// (Each of these three has a stack frame of its own, so that the frame in which a request is decided has no room for what they make.)
+#[inline(never)]
+fn refused_decision(refused: Refused) -> Decision
+    ensures { result ≡ Decision.Refused refused }
+{
+    Decision::Refused(refused)
+}
+
+#[inline(never)]
+fn refused_step(refused: Refused) -> Step
+    ensures { result ≡ Step.Decided (Decision.Refused refused) }
+{
+    Step::Decided(Decision::Refused(refused))
+}
+
+#[inline(never)]
+fn decided_step(decided: Decision) -> Step
+    ensures { result ≡ Step.Decided decided }
+{
+    Step::Decided(decided)
 }
 
 // (It has a stack frame of its own, so that its size isn't added to its caller's.)

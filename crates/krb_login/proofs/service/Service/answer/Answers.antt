@@ -16,11 +16,11 @@ returns-in-Ok-Nothing-clause-decided g c history stands =
     (subst (λ (first : Mechanism). IsAsking first c.args.given.bytes.now) (sym c.in-Ok-Nothing.first-is) held.1)
 
 pub returns-in-Err-clause-unchanged : goal.returns-in-Err-clause-unchanged
-returns-in-Err-clause-unchanged g c history stands = record {
+returns-in-Err-clause-unchanged g c = rw c.refused_decision.ensures (λ history stands. record {
   after = history;
   is_after = left (subst (λ (cause : Cause). IsOfNone cause) (sym c.not_opened.ensures.cause) tt) refl;
   stands = λ same. (λ stamp. (λ has. has, λ has. has), refl);
-}
+})
 
 pub returns-in-Ok-Nothing-clause-unchanged : goal.returns-in-Ok-Nothing-clause-unchanged
 returns-in-Ok-Nothing-clause-unchanged g c history stands = record {

@@ -10,12 +10,11 @@ use Rattle.krb_login.proofs.Stepping.{carried, nobody_yet}
 use Rattle.krb_login.proofs.service.Service.ask.Goals as goal
 
 pub returns-in-Ok-Nothing-clause-steps : goal.returns-in-Ok-Nothing-clause-steps
-returns-in-Ok-Nothing-clause-steps g c history stands confounder choice =
-    let held = subst (λ (it : Held). Holds c.args.negotiation.now c.args.bytes.now it) c.in-Ok-Nothing.field-0-is c.in-Ok-Nothing.ensures.held in (
-      c.go_on.ensures.decided (call_for c.args.self.now.terms c.args.self.now.acceptor.setup history c.args.negotiation.now c.args.bytes.now c.args.now confounder choice) held.0
-          (subst (λ (first : Mechanism). IsAsking first c.args.bytes.now) (sym c.in-Ok-Nothing.first-is) held.1),
-      nobody_yet c.go_on.result c.go_on.ensures.leaves,
-    )
+returns-in-Ok-Nothing-clause-steps g c = rw c.decided_step.ensures (λ history stands confounder choice. let held = subst (λ (it : Held). Holds c.args.negotiation.now c.args.bytes.now it) c.in-Ok-Nothing.field-0-is c.in-Ok-Nothing.ensures.held in (
+  c.go_on.ensures.decided (call_for c.args.self.now.terms c.args.self.now.acceptor.setup history c.args.negotiation.now c.args.bytes.now c.args.now confounder choice) held.0
+      (subst (λ (first : Mechanism). IsAsking first c.args.bytes.now) (sym c.in-Ok-Nothing.first-is) held.1),
+  nobody_yet c.go_on.result c.go_on.ensures.leaves,
+))
 
 pub returns-in-Ok-Request-clause-steps : goal.returns-in-Ok-Request-clause-steps
 returns-in-Ok-Request-clause-steps g c history stands confounder choice =
@@ -30,18 +29,18 @@ returns-in-Ok-Request-clause-forgets g c forgets history stands confounder choic
     (carried _ c.args.bytes.now _ _ _ _ c.in-Ok-Request.carrier-is (ap (λ r. r.now) c.in-Ok-Request.request-is) held)
 
 pub returns-in-Err-clause-unchanged : goal.returns-in-Err-clause-unchanged
-returns-in-Err-clause-unchanged g c history stands confounder choice = record {
+returns-in-Err-clause-unchanged g c = rw c.refused_step.ensures (λ history stands confounder choice. record {
   after = history;
   is_after = inl (left (subst (λ (cause : Cause). IsOfNone cause) (sym c.not_opened.ensures.cause) tt) refl);
   stands = λ same. (λ stamp. (λ has. has, λ has. has), refl);
-}
+})
 
 pub returns-in-Ok-Nothing-clause-unchanged : goal.returns-in-Ok-Nothing-clause-unchanged
-returns-in-Ok-Nothing-clause-unchanged g c history stands confounder choice = record {
+returns-in-Ok-Nothing-clause-unchanged g c = rw c.decided_step.ensures (λ history stands confounder choice. record {
   after = history;
   is_after = inl (left c.go_on.ensures.leaves refl);
   stands = λ same. (λ stamp. (λ has. has, λ has. has), refl);
-}
+})
 
 pub returns-in-Ok-Request-clause-unchanged : goal.returns-in-Ok-Request-clause-unchanged
 returns-in-Ok-Request-clause-unchanged g c history stands confounder choice =
