@@ -13,7 +13,7 @@ use Rattle.krb_login.specs.declared.decision.Decision.{Decision as LoginDecision
 use Rattle.krb_login.specs.declared.decision.Decision.TheVariants as decisions
 use Rattle.krb_talk.specs.Beginning.{IsContextFor, IsNoContextFor}
 use Rattle.krb_talk.specs.Checking.{Check, Checks, IsCheckFault, MayRunOut, may_ask, may_show}
-use Rattle.krb_talk.specs.Inner.{HasNext, LeadsBy, Prepares, PreparesBy, checking_by, checking_of}
+use Rattle.krb_talk.specs.Inner.{ConcludesUnlisted, HasNext, LeadsBy, Prepares, PreparesBy, checking_by, checking_of}
 use Rattle.krb_talk.specs.ListMic.{HoldsBoth, MarksIn, RepliesIf}
 use Rattle.krb_talk.specs.States.{Listing}
 use Rattle.krb_talk.specs.Talk.{ConcludesBy}
@@ -96,8 +96,7 @@ pub concluded_at : (listed : Option Listing) (old taken : Stage) (bytes confound
     → MatchOption listed ((taken ≡ old) × ((listing : Listing) → old ≡ Listed listing → ⊥)) (λ listing. old ≡ Listed listing)
     → IfSome listed (λ listing. PreparesBy listing bytes confounder choice options decided made)
     → IfSome listed (λ listing. LeadsBy listing made decided decision new)
-    → (listed ≡ None → ((listing : Listing) → taken ≡ Listed listing → ⊥) → (bytes confounder : List ℕ) (choice : ReplyOptions) (options : Options)
-    → ConcludesAt taken bytes confounder choice options after decided decision new)
+    → (listed ≡ None → ConcludesUnlisted taken after decided decision new)
     → ConcludesAt old bytes confounder choice options after decided decision new
 concluded_at None old taken bytes confounder choice options after decided made decision new takes prepares leads other =
     let none : (listing : Listing) → taken ≡ Listed listing → ⊥ = λ listing is. takes.1 listing (sym takes.0 ∙ is) in

@@ -16,6 +16,7 @@ use Rattle.krb_talk.specs.declared.checking.Checking.{Checking}
 use Rattle.krb_talk.specs.declared.checking.Checking.TheVariants.{Shown, Waits}
 use Rattle.krb_talk.specs.declared.checking.ListFault.{ListFault}
 use Rattle.krb_talk.specs.declared.checking.ListFault.TheVariants.{Token, OtherKey, Missing, Wrong, OutOfMemory}
+use Rattle.krb_talk.specs.declared.listed.Chosen.{Chosen}
 
 -- The list that the client sent, its next message, what is known of its request in that message, what the service chose for a reply, and
 -- how its context takes tokens.
@@ -26,6 +27,17 @@ pub record Check : Type 0 where
   pub confounder : List ℕ
   pub choice : ReplyOptions
   pub options : Options
+
+-- of a list, a message and a request, by what the service chose
+abbrev pub check_of : List ℕ → List ℕ → Accepted → Chosen → Check
+check_of list bytes accepted chosen = record {
+  list = list;
+  bytes = bytes;
+  accepted = accepted;
+  confounder = chosen.confounder.now;
+  choice = chosen.choice.now;
+  options = chosen.options;
+}
 
 -- the service's side of the context, which has sent and taken nothing
 abbrev pub IsBegunFor : Check → State → Type 0

@@ -16,6 +16,7 @@ use Rattle.krb_login.specs.declared.decision.Decision.TheVariants as decisions
 use Rattle.krb_talk.specs.Checking.{Check, Checks}
 use Rattle.krb_talk.specs.States.{Listing}
 use Rattle.krb_talk.specs.Talk.{IsUnshown, Leads, as_decided}
+use Rattle.krb_talk.specs.Turns.{ConcludesAt}
 use Rattle.krb_talk.specs.declared.checking.Checking.{Checking}
 use Rattle.krb_talk.specs.declared.checking.Checking.TheVariants.{Shown, Waits}
 use Rattle.krb_talk.specs.declared.checking.ListFault.{ListFault}
@@ -77,3 +78,9 @@ PreparesBy listing bytes confounder choice options decided made = Unit {0}
 abbrev pub LeadsBy : Listing → Result Prepared ListFault → LoginDecision → Decision → Stage → Type 0
 LeadsBy listing made (decisions.LetIn login) decision new = Leads (checking_of listing.list login.accepted made) decision new
 LeadsBy listing made decided decision new = (decision ≡ as_decided decided) × (new ≡ Login Ended)
+
+-- what follows of a service's decision at a stage without a list, whatever the message is
+abbrev pub ConcludesUnlisted : Stage → Negotiation → LoginDecision → Decision → Stage → Type 0
+ConcludesUnlisted old after decided decision new =
+    ((listing : Listing) → old ≡ Listed listing → ⊥) → (bytes confounder : List ℕ) (choice : ReplyOptions) (options : Options)
+    → ConcludesAt old bytes confounder choice options after decided decision new

@@ -6,7 +6,7 @@ ghost use Rattle.krb_gss.specs.Listing.{IsListing};
 ghost use Rattle.krb_gss.specs.Later.{IsLaterFault};
 ghost use Rattle.krb_gss.specs.ListMic.{IsMicFault, WritesRequestMic};
 ghost use Rattle.krb_gss.specs.Checksum.{bytes_if};
-ghost use Rattle.krb_talk.specs.Checking.{Checks};
+ghost use Rattle.krb_talk.specs.Checking.{Checks, check_of};
 ghost use Rattle.krb_talk.specs.Inner.{Prepares, checking_of};
 ghost use Rattle.krb_talk.specs.ListMic.{HoldsBoth};
 
@@ -111,14 +111,7 @@ impl Listed {
         login: LetIn,
         chosen: Chosen<'_>,
     ) -> Result<Checking, ListFault>
-        ensures { Checks (record {
-          list = self.list;
-          bytes = bytes.now;
-          accepted = login.accepted;
-          confounder = chosen.entry.confounder.now;
-          choice = chosen.entry.choice.now;
-          options = chosen.entry.options;
-        }) result }
+        ensures { Checks (check_of self.list bytes.now login.accepted chosen.entry) result }
     {
         let made = self.mark(alloc, bytes, &login.accepted, chosen);
         self.checking(login.accepted, made)
@@ -134,14 +127,7 @@ impl Listed {
         accepted: &Accepted,
         chosen: Chosen<'_>,
     ) -> Result<Prepared, ListFault>
-        ensures { Prepares (record {
-          list = self.now.list;
-          bytes = bytes.now;
-          accepted = accepted.now;
-          confounder = chosen.entry.confounder.now;
-          choice = chosen.entry.choice.now;
-          options = chosen.entry.options;
-        }) result }
+        ensures { Prepares (check_of self.now.list bytes.now accepted.now chosen.entry) result }
     {
         let Chosen {
             confounder,

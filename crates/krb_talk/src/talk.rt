@@ -1,13 +1,11 @@
 //! A client's login, one message after another.
 
-ghost use Rattle.std.specs.Prelude.{◌≡◌, ℕ, List, Err, IfSome, None, Ok, Result};
+ghost use Rattle.std.specs.Prelude.{◌≡◌, List, Err, IfSome, None, Ok, Result};
 ghost use Rattle.std.specs.Option.{MatchOption};
 ghost use Rattle.krb_ap.specs.Service.{Stands};
 ghost use Rattle.krb_ap.specs.Setup.{Arrival};
-ghost use Rattle.krb_ap.specs.declared.reply.ReplyOptions.{ReplyOptions as ReplyOptionsValue};
-ghost use Rattle.krb_context.specs.declared.agreed.Options.{Options as OptionsValue};
 ghost use Rattle.krb_login.specs.declared.decision.Decision.{Decision as LoginDecisionValue};
-ghost use Rattle.krb_talk.specs.Inner.{AsksFor, LeadsBy, Passes, PreparesBy};
+ghost use Rattle.krb_talk.specs.Inner.{AsksFor, ConcludesUnlisted, LeadsBy, Passes, PreparesBy};
 ghost use Rattle.krb_talk.specs.Pending.{Finishes};
 ghost use Rattle.krb_talk.specs.Serving.{Serves};
 ghost use Rattle.krb_talk.specs.States.{Listing, Pending as PendingValue};
@@ -237,8 +235,7 @@ fn conclude_by(
     made: Result<Prepared, ListFault>,
 ) -> Decision
     ensures listed { IfSome listed (λ listing. LeadsBy listing made decided result stage.new) }
-    ensures other { listed ≡ None → ((listing : Listing) → stage.old ≡ Stage.Listed listing → ⊥) → (bytes confounder : List ℕ) (choice : ReplyOptionsValue) (options : OptionsValue)
-        → ConcludesAt stage.old bytes confounder choice options after decided result stage.new }
+    ensures other { listed ≡ None → ConcludesUnlisted stage.old after decided result stage.new }
 {
     match listed {
         Some(listed) => lead(alloc, stage, listed, decided, made),
@@ -272,8 +269,7 @@ fn conclude_other(
     after: Negotiation,
     decided: LoginDecision,
 ) -> Decision
-    ensures { ((listing : Listing) → stage.old ≡ Stage.Listed listing → ⊥) → (bytes confounder : List ℕ) (choice : ReplyOptionsValue) (options : OptionsValue)
-        → ConcludesAt stage.old bytes confounder choice options after decided result stage.new }
+    ensures { ConcludesUnlisted stage.old after decided result stage.new }
 {
     match mem::replace(stage, Stage::Login(Negotiation::Ended)) {
         Stage::Login(negotiation) => conclude_login(alloc, stage, negotiation, after, decided),

@@ -5,7 +5,7 @@ use Rattle.krb_context.specs.Context.{State}
 use Rattle.krb_gss.specs.Checksum.{bytes_if}
 use Rattle.krb_talk.specs.Beginning.{IsContextFor, IsNoContextFor}
 use Rattle.std.specs.Prelude.{is_some}
-use Rattle.krb_talk.specs.Checking.{Check, IsCheckFault}
+use Rattle.krb_talk.specs.Checking.{Check, IsCheckFault, check_of}
 use Rattle.krb_talk.specs.Inner.{HasNext}
 use Rattle.krb_talk.specs.ListMic.{MarksIn, RepliesIf}
 use Rattle.krb_talk.specs.States.{Listing}
@@ -15,14 +15,7 @@ use Rattle.krb_talk.proofs.listed.Listed.mark.Goals as goal
 
 pub returns-in-Err-context_for : goal.returns-in-Err-context_for
 returns-in-Err-context_for c =
-    let check : Check = record {
-      list = c.args.self.now.list;
-      bytes = c.args.bytes.now;
-      accepted = c.args.accepted.now;
-      confounder = c.args.chosen.confounder.now;
-      choice = c.args.chosen.choice.now;
-      options = c.args.chosen.options;
-    } in
+    let check : Check = check_of c.args.self.now.list c.args.bytes.now c.args.accepted.now c.args.chosen in
     let list = c.as_slice-list.ensures.value ∙ ap (λ (l : Listing). l.list) c.self.view_is in
     checks.not_begun check c.in-Ok.held.0 (bytes_if c.in-Ok.held.1) c.in-Ok.ensures.found c.in-Err-context_for.fault
     (subst (λ (l : List ℕ). IsNoContextFor check.accepted check.choice check.options l (bytes_if c.in-Ok.held.1) c.in-Err-context_for.fault)
@@ -30,27 +23,13 @@ returns-in-Err-context_for c =
 
 pub marked-requires : goal.marked-requires
 marked-requires c =
-    let check : Check = record {
-      list = c.as_slice-list.result.now;
-      bytes = c.args.bytes.now;
-      accepted = c.args.accepted.now;
-      confounder = c.args.chosen.confounder.now;
-      choice = c.args.chosen.choice.now;
-      options = c.args.chosen.options;
-    } in
+    let check : Check = check_of c.as_slice-list.result.now c.args.bytes.now c.args.accepted.now c.args.chosen in
     subst (λ (s : State). HasNext s) (sym c.deref_mut.ensures.value)
     (checks.next_of check c.in-Ok.held.0 (bytes_if c.in-Ok.held.1) c.in-Ok-context_for.context.value c.in-Ok-context_for.ensures.begun)
 
 pub returns-in-Ok-marked : goal.returns-in-Ok-marked
 returns-in-Ok-marked c =
-    let check : Check = record {
-      list = c.args.self.now.list;
-      bytes = c.args.bytes.now;
-      accepted = c.args.accepted.now;
-      confounder = c.args.chosen.confounder.now;
-      choice = c.args.chosen.choice.now;
-      options = c.args.chosen.options;
-    } in
+    let check : Check = check_of c.args.self.now.list c.args.bytes.now c.args.accepted.now c.args.chosen in
     let list = c.as_slice-list.ensures.value ∙ ap (λ (l : Listing). l.list) c.self.view_is in
     let mic = bytes_if c.in-Ok.held.1 in
     let is_shown = c.is_some-is_shown.ensures ∙ checks.is_there c.in-Ok.held.1 in
@@ -65,14 +44,7 @@ returns-in-Ok-marked c =
 
 pub returns-in-Err-marked : goal.returns-in-Err-marked
 returns-in-Err-marked c =
-    let check : Check = record {
-      list = c.args.self.now.list;
-      bytes = c.args.bytes.now;
-      accepted = c.args.accepted.now;
-      confounder = c.args.chosen.confounder.now;
-      choice = c.args.chosen.choice.now;
-      options = c.args.chosen.options;
-    } in
+    let check : Check = check_of c.args.self.now.list c.args.bytes.now c.args.accepted.now c.args.chosen in
     let list = c.as_slice-list.ensures.value ∙ ap (λ (l : Listing). l.list) c.self.view_is in
     let mic = bytes_if c.in-Ok.held.1 in
     subst (λ (fault : ListFault). IsCheckFault check fault) (sym c.in-Err-marked.ensures.memory)
