@@ -5,6 +5,7 @@ use Rattle.std.specs.Prelude.{◌≢◌, All}
 use Rattle.std.proofs.lemmas.List.{length-append}
 use Rattle.std.proofs.lemmas.List.Elements.{All-push}
 use Rattle.krb_name.specs.Window.{AtHand}
+use Rattle.krb_file.specs.Hand.{slice_hand}
 use Rattle.krb_keytab.specs.Entry.{KeytabEntry}
 use Rattle.krb_name.specs.File.{file_limit}
 use Rattle.krb_keytab.specs.Format.{version, KeytabRecord, hole, entry, record_bytes, FitsRecord, entries_of, IsReached, IsFaultOf}
@@ -34,10 +35,10 @@ pub record Passes (bytes : List ℕ) (place : AtHand (List ℕ)) (records : List
   pub limit : after.given ≤ file_limit
 
 abbrev Reads : AtHand (List ℕ) → AtHand (List ℕ) → Result (Found (Unit {0})) KeytabFault → Type 0
-Reads place after answer = MeetsOne nothing_of (Some place.source) (Some after.source) place after answer
+Reads place after answer = MeetsOne nothing_of (Some place.source) (Some after.source) (slice_hand place) (slice_hand after) answer
 
 module _ {bytes : List ℕ} {place : AtHand (List ℕ)} {records : List KeytabRecord} (after : AtHand (List ℕ)) (s : Spans bytes place records) where
-  pass : (one : KeytabRecord) (piece : List ℕ) → FitsRecord one → piece ≡ record_bytes one → Moves (Some place.source) (Some after.source) place after piece → place.given + length piece ≤ file_limit → Passes bytes place records one after
+  pass : (one : KeytabRecord) (piece : List ℕ) → FitsRecord one → piece ≡ record_bytes one → Moves (Some place.source) (Some after.source) (slice_hand place) (slice_hand after) piece → place.given + length piece ≤ file_limit → Passes bytes place records one after
   pass one piece fits is m limit =
       let flat = flat_push record_bytes records one in
       let before : List ℕ = flat_map record_bytes records in

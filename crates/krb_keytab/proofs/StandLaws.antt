@@ -9,6 +9,7 @@ use Rattle.std.proofs.lemmas.List.{length-append, take_at}
 use Rattle.std.proofs.lemmas.List.Elements.{All-push}
 use Rattle.krb_name.specs.Cursor.{signed_bytes}
 use Rattle.krb_name.specs.Window.{AtHand}
+use Rattle.krb_file.specs.Hand.{window_hand}
 use Rattle.krb_keytab.specs.Entry.{KeytabEntry}
 use Rattle.krb_name.specs.File.{file_limit}
 use Rattle.krb_keytab.specs.Format.{version, KeytabRecord, hole, entry, entry_bytes, record_bytes, FitsRecord, entries_of, IsReached}
@@ -288,9 +289,9 @@ abbrev HasReadOn : {S : Type 0} → Option (List ℕ) → Option (List ℕ) → 
 HasReadOn from to new answer bytes entries =
     (piece : List ℕ) × Consumes from to piece × HasRead to (record { source = new.source; held = new.peak; given = new.given; stage = stage_after answer }) (bytes ++ piece) (entries_after entries answer)
 
-read_behind : {S : Type 0} (CameBefore : List ℕ → List KeytabEntry → Type 0) (from to : Option (List ℕ)) (reader : EntriesRead S) (old new : AtHand S) (answer : Result (Option KeytabEntry) KeytabFault) → reader.held ≡ old.peak → MeetsBehind CameBefore from to old new answer
+read_behind : {S : Type 0} (left : S → Option (List ℕ)) (CameBefore : List ℕ → List KeytabEntry → Type 0) (from to : Option (List ℕ)) (reader : EntriesRead S) (old new : AtHand S) (answer : Result (Option KeytabEntry) KeytabFault) → reader.held ≡ old.peak → MeetsBehind CameBefore from to (window_hand left old) (window_hand left new) answer
     → (bytes : List ℕ) (entries : List KeytabEntry) → CameBefore bytes entries → old.given ≡ length bytes → HasRead from reader bytes entries → HasReadOn from to new answer bytes entries
-read_behind CameBefore from to reader old new answer held m bytes entries before here r = (
+read_behind left CameBefore from to reader old new answer held m bytes entries before here r = (
   m.goes.piece,
   m.goes.moves.consumed,
   record {
@@ -300,18 +301,18 @@ read_behind CameBefore from to reader old new answer held m bytes entries before
   },
 )
 
-pub read_first : {S : Type 0} (from to : Option (List ℕ)) (reader : EntriesRead S) (old new : AtHand S) (answer : Result (Option KeytabEntry) KeytabFault) → reader.stage ≡ Start → reader.held ≡ old.peak → MeetsFirst from to old new answer → old.given ≡ 0
+pub read_first : {S : Type 0} (left : S → Option (List ℕ)) (from to : Option (List ℕ)) (reader : EntriesRead S) (old new : AtHand S) (answer : Result (Option KeytabEntry) KeytabFault) → reader.stage ≡ Start → reader.held ≡ old.peak → MeetsFirst from to (window_hand left old) (window_hand left new) answer → old.given ≡ 0
     → (bytes : List ℕ) (entries : List KeytabEntry) → HasRead from reader bytes entries → HasReadOn from to new answer bytes entries
-read_first from to reader old new answer stage held m start bytes entries r =
+read_first left from to reader old new answer stage held m start bytes entries r =
     let none = subst (λ (s : Stage). StandsTo from reader.held s bytes entries) stage r.stands in
-    read_behind IsFirst from to reader old new answer held m bytes entries none (omega (arith, start, ap length none.0)) r
+    read_behind left IsFirst from to reader old new answer held m bytes entries none (omega (arith, start, ap length none.0)) r
 
-pub read_next : {S : Type 0} (from to : Option (List ℕ)) (reader : EntriesRead S) (old new : AtHand S) (answer : Result (Option KeytabEntry) KeytabFault) → reader.stage ≡ Records → reader.held ≡ old.peak → reader.given ≡ old.given → MeetsNext from to old new answer
+pub read_next : {S : Type 0} (left : S → Option (List ℕ)) (from to : Option (List ℕ)) (reader : EntriesRead S) (old new : AtHand S) (answer : Result (Option KeytabEntry) KeytabFault) → reader.stage ≡ Records → reader.held ≡ old.peak → reader.given ≡ old.given → MeetsNext from to (window_hand left old) (window_hand left new) answer
     → (bytes : List ℕ) (entries : List KeytabEntry) → HasRead from reader bytes entries → HasReadOn from to new answer bytes entries
-read_next from to reader old new answer stage held given m bytes entries r =
+read_next left from to reader old new answer stage held given m bytes entries r =
     let stands = subst (λ (s : Stage). StandsTo from reader.held s bytes entries) stage r.stands in
     let here : old.given ≡ length bytes = sym given ∙ r.given in
-    read_behind (HasReached old.given) from to reader old new answer held m bytes entries (ends_reached from reader.held old.given bytes entries here stands) here r
+    read_behind left (HasReached old.given) from to reader old new answer held m bytes entries (ends_reached from reader.held old.given bytes entries here stands) here r
 
 -- the same answer, and no byte more
 pub read_again : {S : Type 0} (left : Option (List ℕ)) (reader : EntriesRead S) (bytes : List ℕ) (entries : List KeytabEntry) → HasRead left reader bytes entries → (piece : List ℕ) × Consumes left left piece × HasRead left reader (bytes ++ piece) entries

@@ -2,15 +2,16 @@
 
 ghost use Rattle.std.specs.Prelude.{◌≡◌, ◌≢◌, ◌⊎◌, ◌≤◌, ◌∷◌, ◌++◌, [], ℕ, List, IfOk, IfErr, OnOk, OnErr, MatchResult, Some};
 ghost use Rattle.krb_name.specs.File.{file_limit};
+ghost use Rattle.krb_file.specs.Hand.{slice_hand};
 ghost use Rattle.krb_keytab.specs.Entry.{KeytabEntry};
 ghost use Rattle.krb_keytab.specs.Format.{version, KeytabRecord, hole, entry, IsFaultOf};
 ghost use Rattle.krb_keytab.specs.Inner.Finding.{LiesAt, HasGathered, KeepsEntry, KeepsHole, IsFoundEntry, IsFoundRoom};
 ghost use Rattle.krb_keytab.specs.Inner.Meeting.{MeetsOne, nothing_of};
 
 use crate::fault::KeytabFault;
-use crate::feed::{Feed, Slice};
 use crate::found::{Found, Nothing};
 use crate::step::{read_record, read_version};
+use krb_file::{Feed, Slice};
 use krb_name::FILE_LIMIT;
 use std::alloc::AllocError;
 
@@ -98,7 +99,7 @@ fn open<'a>(bytes: &'a [u8]) -> Result<Slice<'a>, KeytabFault>
 fn next_record(slice: &mut Slice) -> Result<Found<()>, KeytabFault>
     requires { slice.old.given ≤ file_limit }
     ensures meets { MeetsOne nothing_of (Some slice.old.source) (Some slice.new.source)
-        slice.old slice.new result }
+        (slice_hand slice.old) (slice_hand slice.new) result }
     ensures content { IfErr result (λ fault.
         (fault ≢ KeytabFault.OutOfMemory) × (fault ≢ KeytabFault.Read)) }
 {

@@ -15,11 +15,11 @@ ghost use Rattle.krb_keytab.specs.Written.{written};
 
 use crate::entry::Entry;
 use crate::fault::KeytabFault;
-use crate::feed::{Feed, Slice};
 use crate::finding::find_entry;
 use crate::pick::{Picked, pick_entry};
 use crate::step::{VERSION, read_entries};
 use crate::writing::put_record;
+use krb_file::{Feed, Slice};
 use krb_name::{FILE_LIMIT, NamedList, NamedListBuilder, Principal, Source, Window};
 use std::alloc::{AllocError, Global};
 use std::fmt;
@@ -114,9 +114,9 @@ impl Keytab {
 
     // Reads a keytab to its end.
     fn read_from<F: Feed>(alloc: Global, feed: &mut F) -> Result<Keytab, KeytabFault>
-        requires start { (F.at_hand feed.old).given ≡ 0 }
+        requires start { (F.hand feed.old).given ≡ 0 }
         ensures reads { ReadsFile IsAnswerOf KeytabFault.OutOfMemory KeytabFault.Read
-            (F.remaining feed.old) (F.remaining feed.new) result }
+            (F.hand feed.old).source (F.hand feed.new).source result }
         ensures failed { F.failure_count feed.new ≡ counted (F.failure_count feed.old) (failed_reads result) }
         ensures lent { F.lender feed.new ≡ F.lender feed.old }
     {

@@ -6,6 +6,7 @@ ghost use Rattle.krb_name.specs.Flow.{counted};
 ghost use Rattle.krb_keytab.specs.Entry.{KeytabEntry};
 ghost use Rattle.krb_keytab.specs.Fault.{failed_reads};
 ghost use Rattle.krb_name.specs.File.{file_limit};
+ghost use Rattle.krb_file.specs.Hand.{window_hand};
 ghost use Rattle.krb_keytab.specs.Items.{HasRead, passed, stage_after, stage_passed, entries_after, last_answer, GivesMore};
 ghost use Rattle.krb_keytab.specs.Inner.Meeting.{MeetsFirst};
 
@@ -194,7 +195,7 @@ fn read_first<S: Source>(
 ) -> Result<Option<Entry>, KeytabFault>
     requires start { window.old.given ≡ 0 }
     ensures meets { MeetsFirst (S.remaining window.old.source) (S.remaining window.new.source)
-        window.old window.new result }
+        (window_hand S.remaining window.old) (window_hand S.remaining window.new) result }
     ensures failed { S.failure_count window.new.source
         ≡ counted (S.failure_count window.old.source) (failed_reads result) }
     ensures lent { S.lender window.new.source ≡ S.lender window.old.source }
@@ -208,7 +209,7 @@ fn pass_first<S: Source>(window: &mut Window<S>) -> Result<bool, KeytabFault>
     requires start { window.old.given ≡ 0 }
     ensures meets { (answer : Result (Option KeytabEntry) KeytabFault) × (result ≡ passed answer)
         × MeetsFirst (S.remaining window.old.source) (S.remaining window.new.source)
-        window.old window.new answer }
+        (window_hand S.remaining window.old) (window_hand S.remaining window.new) answer }
     ensures failed { S.failure_count window.new.source
         ≡ counted (S.failure_count window.old.source) (failed_reads result) }
     ensures lent { S.lender window.new.source ≡ S.lender window.old.source }

@@ -45,7 +45,6 @@ RanOut last answer left given = ((answer ≡ last) × (given ≤ file_limit) × 
 pub record RunsOutTo {S T : Type 0} (from to : Option (List ℕ)) (old new : AtHand S) (last answer : Result T KeytabFault) : Type 0 where
   pub piece : List ℕ
   pub moves : Moves from to old new piece
-  pub bytes : new.bytes ≡ old.bytes
   pub peak : new.peak ≡ old.peak
   pub ran : RanOut last answer to new.given
 

@@ -4,7 +4,7 @@ use Rattle.krb_keytab.proofs.StandLaws.{passes_none, passes_hole, next_end, next
 use Rattle.krb_keytab.proofs.step.next_entry.Goals as goal
 
 pub loop-kept-init : goal.loop-kept-init
-loop-kept-init g c = record { passes = passes_none _ (g.F.Feed.at_hand c.args.feed.now); limit = c.requires.limit; failures = refl; lent = refl }
+loop-kept-init g c = record { passes = passes_none _ (g.F.Feed.hand c.args.feed.now); limit = c.requires.limit; failures = refl; lent = refl }
 
 pub returns-in_err-read_record-clause-meets : goal.returns-in_err-read_record-clause-meets
 returns-in_err-read_record-clause-meets g c =

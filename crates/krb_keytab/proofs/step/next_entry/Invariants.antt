@@ -5,11 +5,11 @@ use Rattle.krb_keytab.proofs.step.next_entry.Given as goal
 
 abbrev pub invariant-loop-kept : goal.invariant-loop-kept
 invariant-loop-kept g l = record {
-  passes : PassesHoles (g.F.Feed.remaining l.fn.feed) (g.F.Feed.remaining l.feed) (g.F.Feed.at_hand l.fn.feed) (g.F.Feed.at_hand l.feed);
-  limit : (g.F.Feed.at_hand l.feed).given ≤ file_limit;
+  passes : PassesHoles (g.F.Feed.hand l.fn.feed).source (g.F.Feed.hand l.feed).source (g.F.Feed.hand l.fn.feed) (g.F.Feed.hand l.feed);
+  limit : (g.F.Feed.hand l.feed).given ≤ file_limit;
   failures : g.F.Feed.failure_count l.feed ≡ g.F.Feed.failure_count l.fn.feed;
   lent : g.F.Feed.lender l.feed ≡ g.F.Feed.lender l.fn.feed;
 }
 
 abbrev pub decreases-loop-kept : goal.decreases-loop-kept
-decreases-loop-kept g l = file_limit - (g.F.Feed.at_hand l.feed).given
+decreases-loop-kept g l = file_limit - (g.F.Feed.hand l.feed).given

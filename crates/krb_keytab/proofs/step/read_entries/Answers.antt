@@ -11,12 +11,12 @@ returns-in_err-entry-clause-fault g c =
 
 pub loop-entries-preserved : goal.loop-entries-preserved
 loop-entries-preserved g c =
-    let from = g.F.Feed.remaining c.args.feed.now in
-    let mid = g.F.Feed.remaining c.loop-entries.feed in
-    let to = g.F.Feed.remaining c.read_entry.new.feed in
-    let meets = subst (λ (next : Option KeytabEntry). MeetsNext mid to (g.F.Feed.at_hand c.loop-entries.feed) (g.F.Feed.at_hand c.read_entry.new.feed) (Ok next)) c.in-Some.is c.in_ok-entry.ensures.meets in
+    let from = (g.F.Feed.hand c.args.feed.now).source in
+    let mid = (g.F.Feed.hand c.loop-entries.feed).source in
+    let to = (g.F.Feed.hand c.read_entry.new.feed).source in
+    let meets = subst (λ (next : Option KeytabEntry). MeetsNext mid to (g.F.Feed.hand c.loop-entries.feed) (g.F.Feed.hand c.read_entry.new.feed) (Ok next)) c.in-Some.is c.in_ok-entry.ensures.meets in
     record {
-      taken = entry_taken from mid to (g.F.Feed.at_hand c.loop-entries.feed) (g.F.Feed.at_hand c.read_entry.new.feed) c.loop-entries.entries c.push.new.self c.in-Some.entry c.loop-entries.invariant.taken meets c.in-Ok.ensures.ok;
+      taken = entry_taken from mid to (g.F.Feed.hand c.loop-entries.feed) (g.F.Feed.hand c.read_entry.new.feed) c.loop-entries.entries c.push.new.self c.in-Some.entry c.loop-entries.invariant.taken meets c.in-Ok.ensures.ok;
       limit = meets.within;
       failures = omega (arith, c.in_ok-entry.ensures.failed, c.loop-entries.invariant.failures);
       lent = c.in_ok-entry.ensures.lent ∙ c.loop-entries.invariant.lent;
@@ -24,11 +24,11 @@ loop-entries-preserved g c =
 
 pub returns-clause-found : goal.returns-clause-found
 returns-clause-found g c =
-    let from = g.F.Feed.remaining c.args.feed.now in
-    let mid = g.F.Feed.remaining c.loop-entries.feed in
-    let to = g.F.Feed.remaining c.read_entry.new.feed in
-    let meets = subst (λ (next : Option KeytabEntry). MeetsNext mid to (g.F.Feed.at_hand c.loop-entries.feed) (g.F.Feed.at_hand c.read_entry.new.feed) (Ok next)) c.in_default.is c.in_ok-entry.ensures.meets in
-    end_taken from mid to (g.F.Feed.at_hand c.loop-entries.feed) (g.F.Feed.at_hand c.read_entry.new.feed) c.loop-entries.entries c.loop-entries.invariant.taken meets
+    let from = (g.F.Feed.hand c.args.feed.now).source in
+    let mid = (g.F.Feed.hand c.loop-entries.feed).source in
+    let to = (g.F.Feed.hand c.read_entry.new.feed).source in
+    let meets = subst (λ (next : Option KeytabEntry). MeetsNext mid to (g.F.Feed.hand c.loop-entries.feed) (g.F.Feed.hand c.read_entry.new.feed) (Ok next)) c.in_default.is c.in_ok-entry.ensures.meets in
+    end_taken from mid to (g.F.Feed.hand c.loop-entries.feed) (g.F.Feed.hand c.read_entry.new.feed) c.loop-entries.entries c.loop-entries.invariant.taken meets
 
 pub returns-clause-taken : goal.returns-clause-taken
 returns-clause-taken g c = next_takes _ _ _ _ _ c.loop-entries.entries _ c.loop-entries.invariant.taken c.in_ok-entry.ensures.meets
