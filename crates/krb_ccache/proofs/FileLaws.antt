@@ -12,10 +12,9 @@ use Rattle.krb_ccache.specs.Fault.{offset_of}
 use Rattle.krb_name.specs.File.{file_limit}
 use Rattle.krb_ccache.specs.Format.{version_of, head_bytes, FitsHead, start_bytes, Spelled, Spells, IsReached, IsCache, IsFaultOf}
 use Rattle.krb_ccache.specs.Inner.Reading.{name_at}
-use Rattle.krb_ccache.specs.Inner.Standing.{Opened, bytes_of, Lies, Reaches, IsMissing, StopsBy}
+use Rattle.krb_ccache.specs.Inner.Standing.{Opened, bytes_of, Lies, Reaches, IsMissing}
 use Rattle.krb_ccache.proofs.PartLaws.{IsField-name}
-use Rattle.krb_ccache.proofs.CredentialLaws.{spelled_at, IsField-spelled}
-use Rattle.krb_ccache.proofs.Repeats.{lies_where, missing_where, reach_none, Goes, goes}
+use Rattle.krb_ccache.proofs.Repeats.{lies_where, missing_where}
 use Rattle.krb_ccache.proofs.LayoutLaws.{version_length, grouped, credential_some, read_cache, is_reached, reached_within}
 
 -- ---- the default principal
@@ -26,21 +25,10 @@ name_lies place name behind fits e = lies_where name_at name_bytes FitsName IsFi
 pub name_missing : (place : Place) → name_at place ≡ None → IsMissing name_bytes FitsName place.rest
 name_missing place none = missing_where name_at name_bytes FitsName IsField-name place none
 
--- ---- a loop over the credentials
+-- ---- a credential
 
 pub spelled_bytes_some : (layout : Layout) (one : Spelled) → Spells layout one → 0 < length one.bytes
 spelled_bytes_some layout one h = omega (arith, credential_some one.credential h.second, ap length h.bytes_are)
-
-pub none_reached : (layout : Layout) (start place : Place) → IsBytes start.rest → place ≡ start → Reaches bytes_of (Spells layout) start [] place
-none_reached layout start place fits e = rw e (reach_none (spelled_at layout) bytes_of (Spells layout) (IsField-spelled layout) start fits)
-
-pub credential_goes : (layout : Layout) (start place : Place) (spelled : List Spelled) (one : Spelled) (behind : Place) → Reaches bytes_of (Spells layout) start spelled place → Lies bytes_of (Spells layout) place one behind
-    → Goes (spelled_at layout) bytes_of (Spells layout) (IsField-spelled layout) (spelled_bytes_some layout) start place spelled one behind
-credential_goes layout start place spelled one behind reaches lies = goes _ _ _ (IsField-spelled layout) (spelled_bytes_some layout) start place spelled one behind reaches lies
-
-pub stops : (layout : Layout) (start place : Place) (spelled : List Spelled) (fault : CacheFault) → Reaches bytes_of (Spells layout) start spelled place → (place.rest ≡ [] → ⊥)
-    → (fault ≡ BadItem place.at) × IsMissing bytes_of (Spells layout) place.rest → StopsBy layout start fault
-stops layout start place spelled fault reaches more h = record { credentials = spelled; behind = place; reaches = reaches; fault_is = h.0; more = more; missing = h.1 }
 
 -- ---- the file so far
 
@@ -78,19 +66,6 @@ module _ (layout : Layout) where
   pub default_fault : (bytes : List ℕ) (header : List HeaderField) (place : Place) (fault : CacheFault) → HasStart layout bytes header place → (fault ≡ BadItem place.at) × IsMissing name_bytes FitsName place.rest → IsFaultOf bytes fault
   default_fault bytes header place fault start h =
       subst (IsFaultOf bytes) (sym h.0) (inl (record { limit = start.limit; layout = layout; header = header; behind = place.rest; header_fits = start.fits; bytes_are = start.bytes_are; at_is = start.at; missing = h.1 }))
-
-  pub credential_fault : (bytes : List ℕ) (header : List HeaderField) (place : Place) (name : Principal) (middle : Place) (fault : CacheFault) → HasStart layout bytes header place → Lies name_bytes FitsName place name middle → StopsBy layout middle fault
-      → IsFaultOf bytes fault
-  credential_fault bytes header place name middle fault start lies s =
-      subst (IsFaultOf bytes) (sym s.fault_is) (inr (record {
-        limit = start.limit;
-        layout = layout;
-        cache = read_cache header name s.credentials;
-        behind = s.behind.rest;
-        reached = cache_read bytes header place name middle s.credentials s.behind start lies s.reaches;
-        more = s.more;
-        missing = s.missing;
-      }))
 
 -- ---- an offset lies within the file
 

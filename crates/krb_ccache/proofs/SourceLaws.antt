@@ -1,14 +1,17 @@
 -- The answer for what a source gave is the answer for all the bytes that were to come of it.
-use Rattle.std.proofs.Common.{◌≡◌, ◌⊎◌, ℕ, ◌<◌, List, ◌++◌, length, Option, Some, None, Result, Ok, Err, refl, sym, ap, subst, ◌∙◌, append-nil, arith, inl, inr}
-use Rattle.std.specs.Prelude.{◌↔◌, IfSome, IfOk, IfErr}
+use Rattle.std.proofs.Common.{◌≡◌, ◌⊎◌, ℕ, ◌<◌, ◌≤◌, List, ◌++◌, length, Option, Some, None, Result, Ok, Err, refl, sym, ap, subst, ◌∙◌, append-nil, arith, inl, inr}
+use Rattle.std.specs.Prelude.{◌↔◌, ◌≢◌, IfSome, IfOk, IfErr}
 use Rattle.std.proofs.lemmas.Bool.{cases_lt}
 use Rattle.std.proofs.lemmas.List.{length-append}
 use Rattle.krb_ccache.specs.Value.{Cache}
 use Rattle.krb_name.specs.File.{file_limit, IsGiven, TakesFile, ReadsFile}
-use Rattle.krb_ccache.specs.Format.{IsAnswerOf}
-use Rattle.krb_ccache.specs.Reader.{GaveCache, GaveFault}
+use Rattle.krb_name.specs.Flow.{counted}
+use Rattle.krb_ccache.specs.Fault.{failed_reads}
+use Rattle.krb_ccache.specs.Format.{IsFaultOf, IsAnswerOf}
+use Rattle.krb_ccache.specs.Reader.{HasTaken, GaveCache, GaveFault}
+use Rattle.krb_ccache.proofs.LayoutLaws.{reached_end}
 use Rattle.krb_ccache.proofs.AnswerLaws.{one_answer}
-use Rattle.krb_ccache.specs.Types.{CacheFault, Version, Header, BadItem, TooLong, Read, OutOfMemory}
+use Rattle.krb_ccache.specs.Types.{Layout, CacheFault, Version, Header, BadItem, TooLong, Read, OutOfMemory}
 
 -- an answer for too many bytes
 long_answer : (bytes more : List ℕ) (answer : Result Cache CacheFault) → file_limit < length bytes → file_limit < length more → IsAnswerOf bytes answer → IsAnswerOf more answer
@@ -62,3 +65,14 @@ err_of fault = Err fault
 pub reads_whole : (from to : Option (List ℕ)) (result : Result Cache CacheFault) → IfOk result (GaveCache from to) → IfErr result (GaveFault from to) → TakesFile from to → ReadsFile IsAnswerOf OutOfMemory Read from to result
 reads_whole from to (Ok cache) f e taken = record { found = answer_known from to f.0 (Ok cache) f.1 f.2; end = f.1.end f.2.limit; fault = tt; only = only_whole from to (Ok cache) f e; given = λ memory read. f; taken = taken }
 reads_whole from to (Err fault) f e taken = record { found = tt; end = tt; fault = λ memory read. let g = e memory read in answer_known from to g.0 (Err fault) g.1 g.2; only = only_whole from to (Err fault) f e; given = λ memory read. e (λ is. memory (ap (λ (x : CacheFault). err_of x) is)) (λ is. read (ap (λ (x : CacheFault). err_of x) is)); taken = taken }
+
+-- ---- bytes in memory, of which no read fails
+
+pub fault_of_slice : {T : Type 0} (whole : List ℕ) (to : Option (List ℕ)) (fault : CacheFault) → GaveFault (Some whole) to fault → fault ≢ OutOfMemory → 0 ≡ counted 0 (failed_reads {T = T} (Err fault)) → IsFaultOf whole fault
+fault_of_slice {T} whole to fault gave memory unfailed =
+    let given = gave memory (λ is. let one : 0 ≡ counted 0 1 = unfailed ∙ ap (λ (f : CacheFault). counted 0 (failed_reads {T = T} (Err f))) is in omega (arith, one)) in
+    answer_of_whole whole given.0 to (Err fault) given.1 given.2
+
+pub taken_length : (layout : Layout) (whole : List ℕ) (to : Option (List ℕ)) (at : ℕ) (cache : Cache) → HasTaken layout (Some whole) to at cache → at ≤ length whole
+taken_length layout whole None at cache h = absurd h.taken
+taken_length layout whole (Some rest) at cache h = omega (arith, reached_end layout h.bytes at cache h.reached, ap length h.taken, length-append h.bytes rest)

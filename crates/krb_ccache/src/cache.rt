@@ -20,7 +20,8 @@ use crate::layout::VERSION_4;
 use crate::part::{Part, behind_each, fits_each, write_each};
 use crate::stepping::{Start, begin, steps};
 use crate::writing::{behind_header, header_fits, write_header, write_u16};
-use krb_name::{FILE_LIMIT, NamedList, Principal, SliceSource, SoughtName, Source, Window};
+use krb_file::{Feed, Slice};
+use krb_name::{FILE_LIMIT, NamedList, Principal, SoughtName, Source, Window};
 use std::alloc::{AllocError, Global};
 use std::marker::Model;
 
@@ -115,7 +116,7 @@ impl CCache {
             IfSome (offset_of fault) (λ at. at ≤ length bytes.now)) }
     {
         let count = check(bytes)?;
-        match CCache::read_from(alloc, &mut SliceSource::new(bytes), count) {
+        match CCache::read_from(alloc, &mut Slice::new(bytes), count) {
             Ok(cache) => Ok(cache),
             Err(_) => Err(CacheFault::OutOfMemory),
         }
@@ -139,44 +140,30 @@ impl CCache {
         ensures failed { S.failure_count source.new
             ≡ counted (S.failure_count source.old) (failed_reads result) }
     {
-        CCache::read_from(alloc, source, 0)
-    }
-
-    // Reads a source, and allocates memory for so many credentials at once.
-    fn read_from<S: Source>(
-        alloc: Global,
-        source: &mut S,
-        expected: usize,
-    ) -> Result<CCache, CacheFault>
-        ensures reads { ReadsFile IsAnswerOf CacheFault.OutOfMemory CacheFault.Read
-            (S.remaining source.old) (S.remaining source.new) result }
-        ensures failed { S.failure_count source.new
-            ≡ counted (S.failure_count source.old) (failed_reads result) }
-    {
         let mut window = Window::new(alloc, source);
-        let answer = CCache::read_window(alloc, &mut window, expected);
+        let answer = CCache::read_from(alloc, &mut window, 0);
         let _source = window.into_source();
         answer
     }
 
-    fn read_window<S: Source>(
+    // Reads a cache to its end, and allocates memory for so many credentials at once.
+    fn read_from<F: Feed>(
         alloc: Global,
-        window: &mut Window<S>,
+        feed: &mut F,
         expected: usize,
     ) -> Result<CCache, CacheFault>
-        requires start { window.old.given ≡ 0 }
+        requires start { (F.hand feed.old).given ≡ 0 }
         ensures reads { ReadsFile IsAnswerOf CacheFault.OutOfMemory CacheFault.Read
-            (S.remaining window.old.source) (S.remaining window.new.source) result }
-        ensures failed { S.failure_count window.new.source
-            ≡ counted (S.failure_count window.old.source) (failed_reads result) }
-        ensures lent { S.lender window.new.source ≡ S.lender window.old.source }
+            (F.hand feed.old).source (F.hand feed.new).source result }
+        ensures failed { F.failure_count feed.new ≡ counted (F.failure_count feed.old) (failed_reads result) }
+        ensures lent { F.lender feed.new ≡ F.lender feed.old }
     {
         let Start {
             layout,
             header,
             default_principal,
-        } = begin(alloc, window)?;
-        let credentials = steps(alloc, layout, window, expected)?;
+        } = begin(alloc, feed)?;
+        let credentials = steps(alloc, layout, feed, expected)?;
         Ok(CCache {
             header,
             default_principal,

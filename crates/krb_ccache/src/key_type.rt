@@ -9,9 +9,9 @@ use crate::field::Field;
 use crate::item_fault::ItemFault;
 use crate::layout::Layout;
 use crate::part::Part;
-use crate::taker::Taker;
 use crate::walking::{Left, TakeFault, leave};
 use crate::writing::write_i16;
+use krb_file::Feed;
 use krb_name::FileCursor;
 use std::alloc::{AllocError, Global};
 
@@ -36,8 +36,8 @@ impl Field for KeyType {
     }
 
     #[tactic(auto, using(crate::proofs::WalkParts::key_type_passed))]
-    fn take<T: Taker>(layout: Layout, taker: &mut T, left: Left) -> Result<Left, TakeFault> {
-        Ok(leave(taker, left, SIZE + layout.second_size()))
+    fn take<T: Feed>(layout: Layout, feed: &mut T, left: Left) -> Result<Left, TakeFault> {
+        Ok(leave(feed, left, SIZE + layout.second_size()))
     }
 }
 

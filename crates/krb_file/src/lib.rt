@@ -1,4 +1,4 @@
-//! What the readers of keytabs share, and other readers of files can use.
+//! What the readers of keytabs and credential caches share.
 //!
 //! A [`Feed`] is what they take the bytes of a file from, piece by piece: the window of a source, or a
 //! [`Slice`] of bytes in memory, which copies nothing. A feed counts the bytes that it has given, and

@@ -1,10 +1,10 @@
 -- What it means that parts of a cache stand at a place, or don't.
-use Rattle.std.specs.Prelude.{◌≡◌, ◌≢◌, ℕ, ◌<◌, ◌≤◌, ◌^◌, true, List, [], ◌++◌, length, All, ◌-◌, Option, SomeIff}
+use Rattle.std.specs.Prelude.{◌≡◌, ◌≢◌, ℕ, ◌<◌, ◌≤◌, ◌^◌, true, List, ◌++◌, length, All, ◌-◌, Option, SomeIff}
 use Rattle.std.specs.List.{flat_map}
 use Rattle.krb_name.specs.Cursor.{Place}
 use Rattle.krb_name.specs.Field.{IsBytes, Takes}
 use Rattle.krb_name.specs.File.{file_limit}
-use Rattle.krb_ccache.specs.Types.{HeaderField, Credential, Layout, CacheFault, BadItem}
+use Rattle.krb_ccache.specs.Types.{HeaderField, Credential, Layout}
 use Rattle.krb_ccache.specs.Spelling.{fields_bytes}
 use Rattle.krb_ccache.specs.Value.{FitsHeader}
 use Rattle.krb_ccache.specs.Inner.Reading.{is_field}
@@ -50,15 +50,6 @@ spelled_as bytes credential = record { bytes = bytes; credential = credential }
 -- a credential lies between two places
 abbrev pub LiesOne : Layout → Place → Credential → Place → Type 0
 LiesOne layout place credential behind = (bytes : List ℕ) × Lies bytes_of (Spells layout) place (spelled_as bytes credential) behind
-
--- after whole credentials there are bytes, and no credential at their front
-pub record StopsBy (layout : Layout) (place : Place) (fault : CacheFault) : Type 0 where
-  pub credentials : List Spelled
-  pub behind : Place
-  pub reaches : Reaches bytes_of (Spells layout) place credentials behind
-  pub fault_is : fault ≡ BadItem behind.at
-  pub more : behind.rest ≢ []
-  pub missing : IsMissing bytes_of (Spells layout) behind.rest
 
 -- the room that so many bytes leave, if there are as many
 abbrev pub Leaves : ℕ → ℕ → Option ℕ → Type 0
