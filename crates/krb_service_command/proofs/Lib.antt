@@ -2,4 +2,5 @@ pub mod FaultLaws
 pub mod GoingLaws
 pub mod EndLaws
 pub mod ExplainLaws
+pub mod StatusLaws
 pub mod TaskLaws

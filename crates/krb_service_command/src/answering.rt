@@ -1,11 +1,11 @@
 //! What `accept` prints for a line.
 
-ghost use Rattle.std.specs.Prelude.{◌≡◌, ◌≤◌, ◌⊎◌, ◌++◌, ◌∷◌, IfOk, IfErr, OnOk, OnErr, codes, string_bytes};
+ghost use Rattle.std.specs.Prelude.{◌≡◌, ◌⊎◌, ◌++◌, ◌∷◌, IfOk, IfErr, OnOk, OnErr, codes, string_bytes};
 ghost use Rattle.std.specs.Fmt.{decimal, signed_decimal};
 ghost use Rattle.std.specs.Io.KnownBytes.{Appends};
 ghost use Rattle.krb_name.specs.Flow.{counted, AppendsBeginning};
 ghost use Rattle.krb_service_command.specs.Answering.{accepted_line, answer_line, call_status, call_text, mutual_text, outcome_status, refused_line};
-ghost use Rattle.krb_service_command.specs.Status.{failed_writes};
+ghost use Rattle.krb_service_command.specs.Status.{IsRunStatus, failed_writes};
 
 use crate::answer_end::{AnswerEnd, LineAnswer, status_of_end, write_end};
 use crate::fault::ServiceFault;
@@ -117,7 +117,7 @@ fn refused_text(alloc: Global, refusal: &Refusal, end: &AnswerEnd) -> Result<Str
 /// request was refused, 3 if memory ran out, for a call or for what follows its answer.
 pub(crate) fn status_of_outcome(outcome: &LineOutcome) -> u8
     ensures status { result ≡ outcome_status outcome.now }
-    ensures known { result ≤ 3 }
+    ensures known { IsRunStatus result }
 {
     match outcome {
         LineOutcome::BadLine | LineOutcome::BadToken(_) => REFUSED,
@@ -129,7 +129,7 @@ pub(crate) fn status_of_outcome(outcome: &LineOutcome) -> u8
 
 fn status_of_call(outcome: &Outcome) -> u8
     ensures status { result ≡ call_status outcome.now }
-    ensures known { result ≤ 3 }
+    ensures known { IsRunStatus result }
 {
     match outcome {
         Ok(_) => 0,

@@ -1,22 +1,21 @@
 //! `explain`, by the words of the command line.
 
-ghost use Rattle.std.specs.Prelude.{◌≡◌, ◌⊎◌, ◌≤◌, ℤ, IfErr, IfOk, IfSome, Ok, OnErr, Some};
+ghost use Rattle.std.specs.Prelude.{◌≡◌, ◌⊎◌, ◌≤◌, IfErr, IfOk, IfSome, IsSome, Ok, Err, Some};
 ghost use Rattle.krb_explain.specs.Input.{read_of};
 ghost use Rattle.krb_service_command.specs.Inner.Message.{IsUnreadMessage};
-ghost use Rattle.krb_service_command.specs.Words.{IsSecond};
+ghost use Rattle.krb_service_command.specs.Inner.Task.{AsksExplain};
+ghost use Rattle.krb_service_command.specs.Status.{IsFailure, IsRunStatus};
+ghost use Rattle.krb_service_command.specs.Words.{IsSecond, IsUnreadExplain, IsUnreadSecond, LacksName, LacksSkew};
 
 use crate::explain::Explain;
 use crate::explain_keys::ExplainWithKeys;
+use crate::making::{opened_source, print_made, print_of_file};
 use crate::task::{name_of, second_in, skew_of};
 use crate::text::read_message;
 use krb_command_line::ExplainWords;
-use krb_file_commands::{
-    FAILED, WRONG_WORDS, complain, complain_of, file_line, open_file, produce, run_product,
-    source_of,
-};
+use krb_file_commands::{FAILED, WRONG_WORDS, complain, complain_of, file_line};
 use krb_msg::Seconds;
-use krb_name::{ReadSource, SliceSource, Source, WriteSink};
-use std::io;
+use krb_name::{ReadSource, SliceSource, Source};
 use std::io::Input;
 use std::rt::Files;
 use std::time::{Clock, SystemTime, UNIX_EPOCH};
@@ -30,11 +29,21 @@ const MESSAGE: &str = "message";
 const CLOCK: &str = "clock";
 
 /// Explains the message of the command line, of a file or of standard input, and returns the exit status.
+///
+/// - 0: the explanation was printed;
+/// - 1: the text doesn't spell bytes or is too long, or the keytab's content is refused;
+/// - 2: a keytab is named, and the skew or the second isn't one, or the name isn't a name. This comes before a file is opened;
+/// - 3: a file, standard input, the output or the clock failed, or memory ran out.
+///
+/// Except for 0, and for a wrong skew or second, what is wrong is printed on standard error.
 pub fn run_explain<R: AllocGlobal + Files + Clock + Input + Print + Eprint>(
     rt: &R,
     words: ExplainWords<'_>,
 ) -> u8
-    ensures { result ≤ 3 }
+    ensures known { result ≤ 3 }
+    ensures words { result ≡ 2 → IsSome words.entry.keytab × IsUnreadExplain words.entry 2 }
+    ensures skew { IsSome words.entry.keytab → LacksSkew words.entry.skew.now → result ≡ 2 }
+    ensures others { IsSome words.entry.keytab → IsUnreadSecond words.entry.at 2 ⊎ LacksName words.entry.only → (result ≡ 2) ⊎ (result ≡ 3) }
 {
     match words.keytab {
         Some(path) => explain_by(rt, words, path),
@@ -47,28 +56,12 @@ fn explain_alone<R: AllocGlobal + Files + Input + Print + Eprint>(
     rt: &R,
     words: ExplainWords<'_>,
 ) -> u8
-    ensures { result ≤ 3 }
+    ensures { IsRunStatus result }
 {
     match (words.message, words.file) {
-        (Some(text), _) => explain_source(rt, SliceSource::new(text.as_bytes()), MESSAGE),
-        (None, Some(path)) => run_product(rt, &Explain, "explain", path, None),
-        (None, None) => explain_source(rt, ReadSource::new(rt.reader()), INPUT),
-    }
-}
-
-// Explains what the source gives, which has this name.
-fn explain_source<R: AllocGlobal + Print + Eprint, S: Source + Drop>(
-    rt: &R,
-    source: S,
-    name: &str,
-) -> u8
-    ensures { result ≤ 3 }
-{
-    let mut source = source;
-    let mut sink = WriteSink::new(io::writer(rt));
-    match produce(rt.alloc(), &mut source, &mut sink, &Explain) {
-        Ok(_) => 0,
-        Err(fault) => complain_of(rt, &fault, name, "explain"),
+        (Some(text), _) => print_made(rt, &Explain, SliceSource::new(text.as_bytes()), MESSAGE),
+        (None, Some(path)) => print_of_file(rt, &Explain, path),
+        (None, None) => print_made(rt, &Explain, ReadSource::new(rt.reader()), INPUT),
     }
 }
 
@@ -78,38 +71,47 @@ fn explain_by<R: AllocGlobal + Files + Clock + Input + Print + Eprint>(
     words: ExplainWords<'_>,
     keytab: &str,
 ) -> u8
-    ensures { result ≤ 3 }
+    ensures known { result ≤ 3 }
+    ensures status { IsRunStatus result ⊎ IsUnreadExplain words.entry result }
+    ensures skew { LacksSkew words.entry.skew.now → result ≡ 2 }
+    ensures others { IsUnreadSecond words.entry.at 2 ⊎ LacksName words.entry.only → (result ≡ 2) ⊎ (result ≡ 3) }
+{
+    match wanted_of(rt, words) {
+        Ok(wanted) => print_of_file(rt, &wanted, keytab),
+        Err(status) => status,
+    }
+}
+
+// What is asked for with a keytab. If it can't be read, that is printed, and the exit status is the error.
+fn wanted_of<R: AllocGlobal + Files + Clock + Input + Eprint>(
+    rt: &R,
+    words: ExplainWords<'_>,
+) -> Result<ExplainWithKeys, u8>
+    ensures asked { IfOk result (AsksExplain words.entry) }
+    ensures skew { LacksSkew words.entry.skew.now → result ≡ Err 2 }
+    ensures known { IfErr result (λ status. status ≤ 3) }
+    ensures fault { IfErr result (λ status. IsFailure status ⊎ IsUnreadExplain words.entry status) }
+    ensures others { IsUnreadSecond words.entry.at 2 ⊎ LacksName words.entry.only → IfErr result (λ status. (status ≡ 2) ⊎ (status ≡ 3)) }
 {
     let Some(skew) = skew_of(words.skew) else {
-        return WRONG_WORDS;
+        return Err(WRONG_WORDS);
     };
-    let second = match second_of(rt, words.at) {
-        Ok(second) => second,
-        Err(status) => return status,
-    };
-    let only = match name_of(rt, "only", words.only) {
-        Ok(only) => only,
-        Err(status) => return status,
-    };
-    let bytes = match message_of(rt, words) {
-        Ok(bytes) => bytes,
-        Err(status) => return status,
-    };
-    let wanted = ExplainWithKeys {
+    let second = second_of(rt, words.at)?;
+    let only = name_of(rt, "only", words.only)?;
+    let bytes = message_of(rt, words)?;
+    Ok(ExplainWithKeys {
         bytes,
         second,
         skew,
         only,
-    };
-    run_product(rt, &wanted, "explain", keytab, None)
+    })
 }
 
 // The second that is asked for, or that of the machine's clock. If the clock can't be read, that is printed, and the exit status is the
 // error.
 fn second_of<R: Clock + Eprint>(rt: &R, text: Option<&str>) -> Result<Seconds, u8>
     ensures asked { IfOk result (λ second. IfSome text.entry (λ word. IsSecond word.now second)) }
-    ensures unread { OnErr result (IfSome text.entry (λ word. (second : ℤ) → ¬ IsSecond word.now second)) }
-    ensures status { IfErr result (λ status. (status ≡ 2) ⊎ (status ≡ 3)) }
+    ensures unread { IfErr result (IsUnreadSecond text.entry) }
 {
     match text {
         Some(text) => match second_in(text) {
@@ -137,14 +139,11 @@ fn message_of<R: AllocGlobal + Files + Input + Eprint>(
 ) -> Result<Vec<u8>, u8>
     ensures bytes { IfSome words.entry.message (λ text. IfOk result (λ bytes. read_of text.now ≡ Ok bytes.items)) }
     ensures fault { IfSome words.entry.message (λ text. IfErr result (IsUnreadMessage (Some text.now))) }
-    ensures status { IfErr result (λ status. status ≤ 3) }
+    ensures status { IfErr result IsFailure }
 {
     match (words.message, words.file) {
         (Some(text), _) => message_from(rt, SliceSource::new(text.as_bytes()), MESSAGE),
-        (None, Some(path)) => {
-            let opened = open_file(rt, path)?;
-            message_from(rt, source_of(rt, opened, "explain")?, path)
-        }
+        (None, Some(path)) => message_from(rt, opened_source(rt, path, "explain")?, path),
         (None, None) => message_from(rt, ReadSource::new(rt.reader()), INPUT),
     }
 }
@@ -157,7 +156,7 @@ fn message_from<R: AllocGlobal + Eprint, S: Source + Drop>(
 ) -> Result<Vec<u8>, u8>
     ensures bytes { IfOk result (λ bytes. IfSome (S.remaining source) (λ text. read_of text ≡ Ok bytes.items)) }
     ensures fault { IfErr result (IsUnreadMessage (S.remaining source)) }
-    ensures status { IfErr result (λ status. status ≤ 3) }
+    ensures status { IfErr result IsFailure }
 {
     let mut source = source;
     match read_message(rt.alloc(), &mut source) {

@@ -1,11 +1,12 @@
 -- How far `accept` is with its input. A replay memory is read by two words: which stamps it has, and its latest moment.
-use Rattle.std.specs.Prelude.{◌≡◌, ◌⊎◌, ◌<◌, ◌≤◌, max, ℕ, ℤ, List, [], ◌∷◌, ◌++◌, Option, length}
+use Rattle.std.specs.Prelude.{◌≡◌, ◌⊎◌, ◌<◌, max, ℕ, ℤ, List, [], ◌∷◌, ◌++◌, Option, length}
 use Rattle.std.specs.Io.KnownBytes.{Appends, Consumes, IsAtEnd}
 use Rattle.krb_name.specs.Flow.{counted}
 use Rattle.krb_replay.specs.Stamp.{Stamp}
 use Rattle.krb_ap.specs.Setup.{Setup, Arrival}
 use Rattle.krb_ap.specs.Service.{Service, Stands}
 use Rattle.krb_service_command.specs.Answering.{Becomes, BecomeInTurn, HasLines, PrintsBeginning, answer_line, answer_lines, input_limit, outcome_status, status_of_lines}
+use Rattle.krb_service_command.specs.Status.{IsRunStatus}
 use Rattle.krb_call_lines.specs.Inner.Held.{Holds}
 use Rattle.krb_service_command.specs.declared.accept.AnswerOptions.{AnswerOptions}
 use Rattle.krb_service_command.specs.declared.accept.Session.{Session}
@@ -22,7 +23,7 @@ pub record Start : Type 0 where
 pub record Stays {M : Type 0} (old new : Session) (service next : Service M) : Type 0 where
   pub setup : next.setup ≡ service.setup
   pub options : new.options ≡ old.options
-  pub known : old.status ≤ 3 → new.status ≤ 3
+  pub known : IsRunStatus old.status → IsRunStatus new.status
 
 -- after a history this became of a line, and the service stands for the history then
 pub record BecomesOf {M : Type 0} (has : M → Stamp → Type 0) (newest : M → Option ℤ) (options : AnswerOptions) (service next : Service M)

@@ -89,7 +89,7 @@ pub returns-then-is_empty-clause-reads : goal.returns-then-is_empty-clause-reads
 returns-then-is_empty-clause-reads g c = elim c.in_ok-answer_source.ensures.reads [ inl e ↦ absurd (no_ok _ Input e) | inr same ↦ inr same ]
 
 pub returns-then-is_empty-clause-known : goal.returns-then-is_empty-clause-known
-returns-then-is_empty-clause-known g c = c.answer_source.ensures.stays.known (omega arith)
+returns-then-is_empty-clause-known g c = c.answer_source.ensures.stays.known (inl refl)
 
 pub returns-clause-known : goal.returns-clause-known
-returns-clause-known g c = c.answer_line.ensures.stays.known (c.answer_source.ensures.stays.known (omega arith))
+returns-clause-known g c = c.answer_line.ensures.stays.known (c.answer_source.ensures.stays.known (inl refl))

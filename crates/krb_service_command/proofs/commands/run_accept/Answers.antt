@@ -1,5 +1,12 @@
 use Rattle.std.proofs.Common.{inl, inr}
+use Rattle.krb_service_command.proofs.StatusLaws.{run_known, run_unlike}
 use Rattle.krb_service_command.proofs.commands.run_accept.Goals as goal
+
+pub returns-in-Ok-clause-known : goal.returns-in-Ok-clause-known
+returns-in-Ok-clause-known g c = run_known c.serve.result c.serve.ensures
+
+pub returns-in-Ok-clause-words : goal.returns-in-Ok-clause-words
+returns-in-Ok-clause-words g c = λ two. absurd (run_unlike c.serve.result c.serve.ensures two)
 
 pub returns-in-Ok-clause-times : goal.returns-in-Ok-clause-times
 returns-in-Ok-clause-times g c = λ lacks. let none = c.in-Ok.ensures.times lacks in cc
@@ -13,3 +20,6 @@ returns-in-Ok-clause-names g c = λ lacks.
 
 pub returns-in-Err-clause-times : goal.returns-in-Err-clause-times
 returns-in-Err-clause-times g c = λ lacks. let two = c.in-Err.ensures.times lacks in cc
+
+pub returns-in-Err-clause-words : goal.returns-in-Err-clause-words
+returns-in-Err-clause-words g c = λ two. rw two at c.in-Err.ensures.fault
