@@ -162,37 +162,25 @@ def memory() -> Iterator[Row]:
                       Side("{krb_bench} %s %s 1000000 1" % (what, order)), "1,000,000 held", nothing, 1, ())
 
 
-def remembered() -> Iterator[Row]:
-    """`accept` by a service that remembers a request of each of 1,000,000 clients, or of 1,000."""
-    for what, clients, each, count, counted in (LIVES[0], LIVES[3]):
-        side = "{krb_exchange} held {at}/keytab {now} {count} {at}/messages %d"
-        yield Row("greatest", f"accept, {what}: 1,000,000 remembered", Side(side % 1_000_000), Side(side % 1_000),
-                  "1,000 remembered", messages("requests", 19, 0, clients, each, count), count, counted)
-
-
-# What is counted of calls on a memory: what the program does, with how many tuples, and after how many times ten calls.
+# What is counted of calls on a memory: what the program does, with how many tuples, and how many calls.
 # (At 8,388,608 tuples the list of their buckets is copied to a place of twice the size.)
-COUNTED_CALLS = (("full", "as many tuples as its limits allow", 10_000_000, 100_000),
-                 ("growing", "a growing number of tuples", 8_300_000, 20_000))
+COUNTED_CALLS = (("full", "as many as its limits allow", 10_000_000, 1_000_000),
+                 ("growing", "and one more after each call", 8_300_000, 200_000))
 
 
 def greatest(folder, program):
-    """What a call on a memory takes more at most than another.
-
-    QEMU counts the instructions of ten calls at a time, so one call can't take more than what the greatest count is
-    above the least.
-    """
+    """What a call on a memory takes at least and at most: QEMU counts the instructions of each."""
     plugin = folder / "between_writes.so"
     said("cc", "-shared", "-fPIC", "-O2", "-o", plugin, HERE / "between_writes.c")
-    for how, what, held, lines in COUNTED_CALLS:
-        # before the first line the memory is filled
-        words = ["qemu-x86_64", "-cpu", "max", "-plugin", f"file={plugin}", program, "calls", how, held, lines]
+    for how, what, held, count in COUNTED_CALLS:
+        # before the first call the memory is filled
+        words = ["qemu-x86_64", "-cpu", "max", "-plugin", f"file={plugin}", program, "calls", how, held, count]
         words = list(map(str, words))
         ran = subprocess.run(words, stdout=subprocess.DEVNULL, stderr=subprocess.PIPE, text=True, check=True)
         writes, least, most = (int(it) for it in ran.stderr.split()[-3:])
-        assert writes == lines, f"{writes} times ten calls, not {lines}"
-        print(f"\n{10 * lines:,} calls on a memory of {held:,} tuples, {what}: ten calls take {least:,} instructions "
-              f"at least and {most:,} at most, so a call takes at most {most - least:,} more than another.")
+        assert writes == count, f"{writes} calls, not {count}"
+        print(f"\n{count:,} calls on a memory of {held:,} tuples, {what}: a call takes {least:,} instructions at least "
+              f"and {most:,} at most.")
 
 
 def found(folder, bench, groups, has_times):
@@ -200,8 +188,7 @@ def found(folder, bench, groups, has_times):
     bench.programs.update(built(folder))
     if "greatest" in groups:
         greatest(folder, bench.programs["krb_bench"])
-    rows = list(remembered()) if "greatest" in groups else []
-    rows += [row for of in (cipher, sealing, of_messages, requests) for row in of()] if "rattle" in groups else []
+    rows = [row for of in (cipher, sealing, of_messages, requests) for row in of()] if "rattle" in groups else []
     if has_times and "memory" in groups:
         rows += memory()
     return run.found_of(bench, rows, has_times)

@@ -24,7 +24,8 @@ static double processor_time(void)
 
 static size_t size_of(fevstunik_answer answer)
 {
-    if (answer.code != FEVSTUNIK_OK) exit(1);
+    if (answer.code != FEVSTUNIK_OK)
+        exit(1);
     return answer.size;
 }
 
@@ -33,14 +34,15 @@ static void requests(void)
     static const fevstunik_choice plain = {0, 0, false, false};
     for (long i = 0; i < count; i++) {
         fevstunik_time at = {now.seconds, (uint32_t)(100 + i)};
-        sizes[i] = size_of(fevstunik_request(&cache, &pending, WEB, &at, confounder, sizeof confounder, &plain, confounder, 0, made[i],
-                                             sizeof made[i]));
+        sizes[i] = size_of(fevstunik_request(&cache, &pending, WEB, &at, confounder, sizeof confounder, &plain,
+                                             confounder, 0, made[i], sizeof made[i]));
     }
 }
 
 static void accepts(void)
 {
-    for (long i = 0; i < count; i++) size_of(fevstunik_acceptor_accept(&service, &accepted, made[i], sizes[i], &now));
+    for (long i = 0; i < count; i++)
+        size_of(fevstunik_acceptor_accept(&service, &accepted, made[i], sizes[i], &now));
 }
 
 static void known_accepts(void)
@@ -53,41 +55,49 @@ static void known_accepts(void)
 
 static void seals(void)
 {
-    for (long i = 0; i < count; i++) size_of(sealing());
+    for (long i = 0; i < count; i++)
+        size_of(sealing());
 }
 
 static void opens(void)
 {
-    for (long i = 0; i < count; i++) size_of(opening());
+    for (long i = 0; i < count; i++)
+        size_of(opening());
 }
 
 static void checksums(void)
 {
-    for (long i = 0; i < count; i++) size_of(summing());
+    for (long i = 0; i < count; i++)
+        size_of(summing());
 }
 
 int main(int argc, char **argv)
 {
     static void (*const calls[CALLS])(void) = {requests, accepts, known_accepts, seals, opens, checksums};
     double least[CALLS] = {0};
-    if (argc != 4) return 2;
+    if (argc != 4)
+        return 2;
     of = atoi(argv[2]) == 20;
     count = strtol(argv[3], NULL, 10);
-    if (count > MOST) return 2;
+    if (count > MOST)
+        return 2;
     read_files(argv[1]);
     for (int run = 0; run < RUNS; run++) {
         size_of(reading_cache());
         size_of(making_service());
         size_of(getting_ready());
         for (int call = 0; call < CALLS; call++) {
-            if (calls[call] == known_accepts) size_of(making_service()); /* one that has seen none of the requests */
+            if (calls[call] == known_accepts)
+                size_of(making_service()); /* one that has seen none of the requests */
             double start = processor_time();
             calls[call]();
             double took = (processor_time() - start) / count;
-            if (run == 0 || took < least[call]) least[call] = took;
+            if (run == 0 || took < least[call])
+                least[call] = took;
         }
     }
-    for (int call = 0; call < CALLS; call++) printf("%.0f ", least[call]);
+    for (int call = 0; call < CALLS; call++)
+        printf("%.0f ", least[call]);
     printf("\n");
     return 0;
 }
