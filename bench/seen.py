@@ -23,7 +23,8 @@ def main():
     with tempfile.TemporaryDirectory() as name:
         program = Path(name) / "seen"
         archive = builds.archive_of(Path(name), builds.supported()[-1])
-        builds.said("cc", "-O2", f"-I{builds.TOP}/include", f"-I{builds.TOP}/tests/c", builds.HERE / "seen.c", archive, "-o", program)
+        folders = [f"-I{builds.TOP / it}" for it in ("include", "tests/c")]
+        builds.said("cc", "-O2", *folders, builds.HERE / "seen.c", archive, "-o", program)
         files = builds.TOP / "examples/service.keytab", builds.TOP / "examples/client.ccache"
         print("| clients that are remembered | requests | time of a call |\n|---|---|---|")
         for clients in CLIENTS:
