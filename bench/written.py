@@ -13,11 +13,12 @@ from support import reflow  # noqa: E402
 SENTENCE = {
     ("sealing", "1 MiB"): "sealing or opening 1 MiB",
     ("clients", "1,000 tickets"): "making a request",
-    ("services", "a new ticket"): "accepting a request with a new ticket",
-    ("services", "a kept ticket"): "accepting one with a kept ticket",
+    ("services", "a new ticket"): "accepting a new ticket",
+    ("services", "a kept ticket"): "accepting a kept one",
     ("logins", "a new ticket"): "a login in one call",
     ("python", "a new ticket"): "a login from Python",
     ("processes", "for each login"): "a new process for each login",
+    ("processes", "1,000 clients"): "`krbtool accept` with new tickets",
     ("refused", "not a request"): "refusing what isn't a request",
 }
 
