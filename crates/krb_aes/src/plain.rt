@@ -1,7 +1,7 @@
 //! The cipher byte by byte, with tables of 256 bytes: the calls of `KeySchedule` with a second body
 //! under the same contracts.
 
-ghost use Rattle.std.specs.Prelude.{◌≡◌, ℕ, List, [], ◌∷◌, length};
+ghost use Rattle.std.specs.Prelude.{◌≡◌, length};
 ghost use Rattle.krb_aes.specs.Field.{product};
 ghost use Rattle.krb_aes.specs.State.{sub_bytes, inv_sub_bytes, shift_rows, inv_shift_rows, mix_columns, inv_mix_columns, add_round_key};
 ghost use Rattle.krb_aes.specs.KeyExpansion.{IsKey};

@@ -1,6 +1,6 @@
 // The tables of the byte-wise cipher, and what one look-up gives.
 
-ghost use Rattle.std.specs.Prelude.{◌≡◌, ◌-◌, ◌<◌, ◌≤◌};
+ghost use Rattle.std.specs.Prelude.{◌≡◌, ◌-◌, ◌<◌};
 ghost use Rattle.krb_aes.specs.Field.{product};
 ghost use Rattle.krb_aes.specs.SBox.{s_box, inv_s_box};
 ghost use Rattle.krb_aes.specs.KeyExpansion.{x_to_the};

@@ -1,6 +1,6 @@
 //! The service's side: building an error.
 
-ghost use Rattle.std.specs.Prelude.{◌≡◌, ◌↔◌, ℤ, IfOk, IsErrOf, None};
+ghost use Rattle.std.specs.Prelude.{◌≡◌, ◌↔◌, IfOk, IsErrOf, None};
 ghost use Rattle.krb_msg.specs.Owned.{owned_krb_error_of};
 ghost use Rattle.krb_ap.specs.Causes.{code_of};
 ghost use Rattle.krb_ap.specs.ErrorReply.{IsErrorReply, IsErrorTooLong, error_for};

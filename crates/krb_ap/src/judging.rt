@@ -1,6 +1,6 @@
 //! What a service decides about a request, before it remembers or answers anything.
 
-ghost use Rattle.std.specs.Prelude.{◌≡◌, ◌↔◌, ℕ, List, IfErr, IfOk, IsErrOf, IsFalse, IsTrue, MatchOption, OnOk};
+ghost use Rattle.std.specs.Prelude.{◌≡◌, ◌↔◌, IfErr, IfOk, IsErrOf, IsFalse, IsTrue, MatchOption, OnOk};
 ghost use Rattle.krb_enc.specs.Key.{IsUsable};
 ghost use Rattle.krb_keytab.specs.Pick.{chosen, IsChoice};
 ghost use Rattle.krb_keytab.specs.Size.{IsNoLarger};

@@ -7,7 +7,7 @@ ghost use Rattle.krb_enc.specs.Opens.{Opens};
 ghost use Rattle.krb_msg.specs.Borrowed.{ap_req_of, authenticator_of, enc_ticket_part_of, ticket_of};
 ghost use Rattle.krb_msg.specs.Fields.{ticket_service};
 ghost use Rattle.krb_keytab.specs.Size.{name_size};
-ghost use Rattle.krb_msg.specs.Module.{ap_req, authenticator, enc_ticket_part};
+ghost use Rattle.krb_msg.specs.Module.{authenticator, enc_ticket_part};
 ghost use Rattle.krb_ap.specs.Causes.{BeginsOtherwise, place};
 ghost use Rattle.krb_ap.specs.Opened.{Asks, SameClient};
 ghost use Rattle.krb_ap.specs.Inner.Stages.{IsCauseOfBytes, IsNone, IsShut};

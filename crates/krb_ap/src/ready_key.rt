@@ -1,12 +1,9 @@
 //! Session keys with the keys that are derived from them, and credentials with theirs.
 
-ghost use Rattle.std.specs.Prelude.{◌≡◌, ◌≢◌, ◌↔◌, IfErr, IfOk, IsTrue};
-ghost use Rattle.krb_enc.specs.Key.{IsUsable, profile_of};
-ghost use Rattle.krb_enc.specs.Opens.{Opens};
+ghost use Rattle.std.specs.Prelude.{◌≡◌, ◌↔◌, IsTrue};
+ghost use Rattle.krb_enc.specs.Key.{IsUsable};
 ghost use Rattle.krb_ap.specs.Credentials.{credential_key};
-ghost use Rattle.krb_ap.specs.Inner.Stages.{IsShut, key_in};
 ghost use Rattle.krb_ap.specs.Opened.{authenticator_usage};
-ghost use Rattle.krb_ap.specs.declared.refusal.Refusal.TheVariants.{AuthenticatorIntegrity, OutOfMemory};
 
 use crate::keys::usable_key;
 use crate::refusal::Refusal;

@@ -3,7 +3,7 @@
 ghost use Rattle.std.specs.Prelude.{IfErr, IfOk, None, Some, ◌≡◌};
 ghost use Rattle.std.specs.Option.{MatchOption};
 ghost use Rattle.krb_c.specs.Refusal.{Errors, IsErrorFault, TellsError, TellsErrorOf, error_answer};
-ghost use Rattle.krb_c.specs.Answer.{plain, refused};
+ghost use Rattle.krb_c.specs.Answer.{plain};
 ghost use Rattle.krb_c.specs.Codes.{empty_handle};
 
 use crate::answer::hand_over;

@@ -4,7 +4,7 @@ ghost use Rattle.std.specs.Prelude.{IfErr, IfOk, length, ◌<◌, ◌≡◌, ◌
 ghost use Rattle.std.specs.Option.{MatchOption};
 ghost use Rattle.krb_c.specs.Answer.{Delivers, Hands};
 ghost use Rattle.krb_c.specs.Negotiation.{IsNoStage, IsNoVerdict, IsUnsaid, ReadsVerdict, Returns, SaysVerdict, TakesNext, negotiation_of, verdict_of};
-ghost use Rattle.krb_c.specs.Tokens.{later_of, mechanism_number};
+ghost use Rattle.krb_c.specs.Tokens.{later_of};
 
 use crate::answer::hand_over;
 use crate::code;

@@ -1,6 +1,6 @@
 //! What a service is made with: its options, the keys of its keytab and the name that it serves.
 
-ghost use Rattle.std.specs.Prelude.{◌≡◌, ◌*◌, ◌↔◌, ◌<◌, ◌≤◌, Contains, IfErr, IfOk, IsTrue, Some, []};
+ghost use Rattle.std.specs.Prelude.{◌≡◌, ◌*◌, ◌↔◌, ◌<◌, Contains, IfErr, IfOk, IsTrue, Some, []};
 ghost use Rattle.krb_ap.specs.History.{StandsFor};
 ghost use Rattle.krb_replay.specs.Memory.{empty_memory};
 ghost use Rattle.krb_c.specs.Service.{Serves};

@@ -1,10 +1,10 @@
 //! The lines that `accept` reads.
 
 ghost use Rattle.std.specs.Prelude.{◌≡◌, Option, ◌≤◌, ℕ, ℤ, List, None, Some, IfOk, IfSome, Ok, SomeIff};
-ghost use Rattle.std.specs.Str.Parse.{IsNumeral, digits_value};
+ghost use Rattle.std.specs.Str.Parse.{digits_value};
 ghost use Rattle.krb_time.specs.Time.{IsSeconds};
 ghost use Rattle.krb_time.specs.Moments.{micros_of};
-ghost use Rattle.krb_call_lines.specs.CallLine.{SpellsCall, SpellsConfounder, SpellsMessage, SpellsRest, SpellsNumber, SpellsSeconds, line_limit, IsBadLine};
+ghost use Rattle.krb_call_lines.specs.CallLine.{SpellsCall, SpellsConfounder, SpellsMessage, SpellsRest, SpellsNumber, SpellsSeconds, IsBadLine};
 ghost use Rattle.krb_call_lines.specs.Inner.Moments.{TellsMoment};
 
 use crate::cut::cut_at;

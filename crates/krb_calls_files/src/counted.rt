@@ -1,6 +1,5 @@
 //! The source of the calls.
 
-ghost use Rattle.std.specs.Prelude.{◌≡◌};
 ghost use Rattle.std.specs.Io.{ReadsAtMost};
 
 use krb_name::{PieceSource, ReadSource, SliceSource, Source, SourceFailed};

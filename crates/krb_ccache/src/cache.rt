@@ -1,6 +1,6 @@
 //! A credential cache.
 
-ghost use Rattle.std.specs.Prelude.{◌≡◌, ◌≢◌, ◌⊎◌, ◌≤◌, ◌<◌, List, [], All, IsTrue, ◌↔◌, IfOk, IfErr, IfSome, IfNone, OnOk, OnErr, Some, Ok, Err, Result, SomeIff, None, length, map, drop};
+ghost use Rattle.std.specs.Prelude.{◌≡◌, ◌≢◌, ◌⊎◌, ◌≤◌, ◌<◌, All, IsTrue, ◌↔◌, IfOk, IfErr, IfSome, IfNone, OnOk, OnErr, Some, Ok, Err, Result, SomeIff, None, length, drop};
 ghost use Rattle.krb_name.specs.Flow.{counted};
 ghost use Rattle.krb_ccache.specs.Value.{Cache, cache_of, server_of, HasLengths, Fits};
 ghost use Rattle.krb_ccache.specs.Types.{CacheFault as CacheFaultValue};

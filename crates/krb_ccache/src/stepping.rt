@@ -1,6 +1,6 @@
 //! Reading the parts of a cache from a source, one at a time.
 
-ghost use Rattle.std.specs.Prelude.{All, Option, ℕ, List, [], length, max, ◌≡◌, ◌+◌, ◌≤◌, IfOk, IfErr, OnOk, OnErr, Result, Err};
+ghost use Rattle.std.specs.Prelude.{All, Option, ℕ, List, [], length, max, ◌≡◌, ◌≤◌, IfOk, IfErr, OnOk, OnErr, Result, Err};
 ghost use Rattle.krb_name.specs.Flow.{counted};
 ghost use Rattle.krb_name.specs.Field.{IsBytes};
 ghost use Rattle.krb_ccache.specs.Fault.{failed_reads};

@@ -1,6 +1,6 @@
 //! What the bytes of a part are taken from: a source, or bytes in memory.
 
-ghost use Rattle.std.specs.Prelude.{◌≡◌, ◌+◌, ◌≤◌, ℕ, List, [], Option, OnOk, length};
+ghost use Rattle.std.specs.Prelude.{◌≡◌, ◌+◌, ◌≤◌, ℕ, OnOk, length};
 ghost use Rattle.krb_name.specs.Flow.{counted};
 ghost use Rattle.krb_ccache.specs.Inner.Walking.{Hand, IsTaken, stopped_reads, window_hand, window_within, window_lacks, bytes_hand, bytes_within, bytes_lacks};
 ghost use Rattle.krb_ccache.specs.declared.walking.TakeFault.{TakeFault as TakeFaultValue};

@@ -1,6 +1,6 @@
 //! Addresses and authorization data: bytes with a type.
 
-ghost use Rattle.std.specs.Prelude.{◌≡◌, ◌==◌, List, [], ◌∷◌, ◌++◌, length, IfOk, OnErr, OnOk};
+ghost use Rattle.std.specs.Prelude.{◌≡◌, ◌==◌, List, [], ◌∷◌, ◌++◌, length, OnErr, OnOk};
 ghost use Rattle.krb_ccache.specs.declared.typed.TypedBytes.{TypedBytes as TypedBytesValue};
 
 use crate::item_fault::ItemFault;

@@ -1,7 +1,7 @@
 //! Taking as many bytes as a part of a cache has, by its lengths and counts as they come. What the
 //! bytes mean doesn't matter here.
 
-ghost use Rattle.std.specs.Prelude.{◌≡◌, ◌+◌, ◌<◌, ◌^◌, ℕ, Bool, true, length, take, drop, IfOk};
+ghost use Rattle.std.specs.Prelude.{◌≡◌, ◌+◌, ◌<◌, ◌^◌, Bool, true, length, take, drop, IfOk};
 ghost use Rattle.std.specs.Int.{w16, w32, from_be_bytes};
 ghost use Rattle.krb_name.specs.Flow.{counted};
 ghost use Rattle.krb_name.specs.Cursor.{data_at};

@@ -1,6 +1,6 @@
 //! One side of a context: it sends tokens and takes those of the other side.
 
-ghost use Rattle.std.specs.Prelude.{◌≡◌, ◌≢◌, ◌≤◌, ◌<◌, ◌+◌, ◌-◌, ◌^◌, ◌++◌, ◌↔◌, ℕ, List, [], Bool, IfOk, IfErr, IfSome, IsNone, IsTrue, MatchResult, Ok, Some, length, take, drop, replicate, if◌then◌else◌};
+ghost use Rattle.std.specs.Prelude.{◌≡◌, ◌≤◌, ◌<◌, ◌+◌, ◌-◌, ◌^◌, ◌↔◌, ℕ, List, [], Bool, IfOk, IfErr, IfSome, IsNone, MatchResult, Ok, Some, length, take, drop, if◌then◌else◌};
 ghost use Rattle.krb_context.specs.Side.{peer_of, peer_sender};
 ghost use Rattle.krb_context.specs.Mic.{IsMic, mic_token};
 ghost use Rattle.krb_context.specs.Wrap.{IsWrap, wrap_token};

@@ -1,9 +1,9 @@
 //! What protects the tokens that one side sends.
 
 ghost use Rattle.std.specs.Prelude.{◌≡◌, ◌==◌, ◌<◌, ◌+◌, ◌%◌, ◌/◌, ◌≤◌, ◌-◌, ◌++◌, ◌↔◌, ℕ, List, IfOk, IfErr, IfSome, IsNone, IsOkAnd, IsErrOf, IsOk, IsTrue, length, take, drop, replicate, Ok, if◌then◌else◌, Bool, true, false};
-ghost use Rattle.krb_enc.specs.Key.{KeyValue, profile_of};
+ghost use Rattle.krb_enc.specs.Key.{profile_of};
 ghost use Rattle.krb_enc.specs.Written.{IsWritten};
-ghost use Rattle.krb_context.specs.Side.{Sender, HasFlags, flags_of, sender_flag};
+ghost use Rattle.krb_context.specs.Side.{Sender, flags_of, sender_flag};
 ghost use Rattle.krb_context.specs.Mic.{IsMic, mic_token};
 ghost use Rattle.krb_context.specs.Wrap.{IsWrap, plain_token, rotated, rotated_token, sealed_token, wrap_checksum, wrap_header, wrap_token};
 ghost use Rattle.krb_context.specs.Faults.{HasRoom, IsMicFault, IsWrapFault, sender_bit, subkey_bit};

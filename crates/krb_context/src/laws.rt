@@ -13,7 +13,7 @@ ghost use Rattle.krb_context.specs.declared.agreed.Agreed.{Agreed};
 ghost use Rattle.krb_context.specs.declared.fault.MessageFault.{MessageFault};
 ghost use Rattle.krb_context.specs.declared.fault.ReceiveFault.{ReceiveFault};
 ghost use Rattle.krb_context.specs.declared.order.Order.{Order};
-ghost use Rattle.krb_context.specs.declared.order.Order.TheVariants.{Next, AfterGap, Late, Repeat, Old};
+ghost use Rattle.krb_context.specs.declared.order.Order.TheVariants.{Next, Repeat, Old};
 ghost use Rattle.krb_context.specs.declared.role.Role.{Role};
 
 /// What one side takes is what the other side sends, if both agreed on the same keys.

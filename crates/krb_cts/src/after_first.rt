@@ -1,6 +1,6 @@
 //! Decryption of what comes after the first block, from one slice into another.
 
-ghost use Rattle.std.specs.Prelude.{◌≡◌, ◌+◌, ◌-◌, ◌*◌, ◌<◌, ◌≤◌, ◌++◌, length, take, drop};
+ghost use Rattle.std.specs.Prelude.{◌≡◌, ◌+◌, ◌-◌, ◌*◌, ◌≤◌, ◌++◌, length, take, drop};
 ghost use Rattle.krb_aes.specs.Cipher.{inv_cipher};
 ghost use Rattle.krb_cts.specs.Stealing.{joined, xor};
 ghost use Rattle.krb_cts.specs.Undo.{undo};

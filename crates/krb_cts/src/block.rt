@@ -1,7 +1,7 @@
 //! Blocks of 16 bytes.
 
 ghost use Rattle.std.specs.Prelude.{◌≡◌, ◌+◌, ◌≤◌, ◌++◌, ◌-◌, length, take, drop};
-ghost use Rattle.krb_cts.specs.Stealing.{xor, zeros};
+ghost use Rattle.krb_cts.specs.Stealing.{xor};
 
 use std::simd::u8x16;
 

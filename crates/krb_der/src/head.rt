@@ -1,6 +1,6 @@
 //! Heads: a tag and the shortest length (X.690, sections 8.1.2, 8.1.3 and 10.1).
 
-ghost use Rattle.std.specs.Prelude.{◌≡◌, ◌≤◌, ◌<◌, ◌^◌, ◌∷◌, length, take};
+ghost use Rattle.std.specs.Prelude.{◌≡◌, ◌≤◌, length, take};
 ghost use Rattle.krb_der.specs.Inner.HeadView.{head_bytes};
 
 /// The first `len` of these bytes.

@@ -1,9 +1,8 @@
 //! The fields of a SEQUENCE, read as one row in nested pairs.
 
-ghost use Rattle.std.specs.Prelude.{◌≡◌};
 ghost use Rattle.std.specs.Option.{option_map};
 ghost use Rattle.krb_der.specs.Kind.{Fields, FieldsOf, ends, must, may, wrapped};
-ghost use Rattle.krb_der.specs.Computed.Gives.{Gives, Fills};
+ghost use Rattle.krb_der.specs.Computed.Gives.{Fills};
 ghost use Rattle.krb_der.specs.Computed.Read.{element_at, fields_at};
 
 use crate::{Cursor, Element, Fault};

@@ -1,6 +1,6 @@
 //! Keys of checksums of one usage.
 
-ghost use Rattle.std.specs.Prelude.{◌≡◌, ◌↔◌, List, ℕ, IsTrue};
+ghost use Rattle.std.specs.Prelude.{◌≡◌, ◌↔◌, IsTrue};
 ghost use Rattle.krb_kdf.specs.Hmac.{joined};
 ghost use Rattle.krb_enc.specs.Key.{UsageKeyValue, profile_of};
 ghost use Rattle.krb_enc.specs.Sealed.{checksum_of};

@@ -1,12 +1,12 @@
 //! The trait of encryption types.
 
-ghost use Rattle.std.specs.Prelude.{◌≡◌, ◌≢◌, ◌↔◌, ◌⊎◌, ◌≤◌, ◌<◌, ◌+◌, ℕ, ℤ, List, length, All, IfOk, IsErrOf, MatchResult, vec_len};
+ghost use Rattle.std.specs.Prelude.{◌≡◌, ◌↔◌, ◌⊎◌, ◌≤◌, ◌<◌, ◌+◌, ℕ, ℤ, List, length, All, IfOk, IsErrOf, MatchResult, vec_len};
 ghost use Rattle.krb_aes.specs.Cipher.{IsBlock};
 ghost use Rattle.krb_kdf.specs.Hmac.{block_key, joined};
 ghost use Rattle.krb_kdf.specs.Kdf.{purpose_of};
 ghost use Rattle.krb_kdf.specs.declared.purpose.Purpose.TheVariants.{Kc, Ki};
 ghost use Rattle.krb_enc.specs.Sealed.{Profile, IsProfile, encryption_key, mac_key, short_mac, tag_of, checksum_of, sealed};
-ghost use Rattle.krb_enc.specs.Key.{KeyValue, UsageKeyValue, numbered};
+ghost use Rattle.krb_enc.specs.Key.{numbered};
 ghost use Rattle.krb_enc.specs.Inner.Derived.{key_of, integrity_of, encryption_of};
 ghost use Rattle.krb_enc.specs.Inner.KeyBytes.{value_of, mac_of};
 ghost use Rattle.krb_enc.specs.Opens.{HasTag, Opens, OpensOnlyTo, OpensToNothing};

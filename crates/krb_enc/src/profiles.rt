@@ -1,6 +1,6 @@
 //! The two encryption types: all that differs between them.
 
-ghost use Rattle.std.specs.Prelude.{◌≡◌, ◌⊎◌, pos, refl, length};
+ghost use Rattle.std.specs.Prelude.{◌≡◌, pos, refl, length};
 ghost use Rattle.std.proofs.Common.{inl, inr};
 ghost use Rattle.krb_enc.specs.Sealed.{aes128_sha256, aes256_sha384};
 

@@ -1,6 +1,6 @@
 //! Encryption and decryption of texts with their confounders.
 
-ghost use Rattle.std.specs.Prelude.{◌≡◌, ◌≤◌, ◌<◌, ◌^◌, ◌+◌, ◌++◌, length, drop, IfOk, vec_len};
+ghost use Rattle.std.specs.Prelude.{◌≡◌, ◌≤◌, ◌<◌, ◌+◌, ◌++◌, length, drop, IfOk, vec_len};
 ghost use Rattle.krb_cts.specs.Stealing.{cts};
 ghost use Rattle.krb_cts.specs.Undo.{undo};
 

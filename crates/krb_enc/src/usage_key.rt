@@ -1,7 +1,7 @@
 //! Keys of one usage.
 
 ghost use Rattle.std.specs.Prelude.{◌≡◌, ◌↔◌, ◌⊎◌, ◌≤◌, ◌<◌, ◌+◌, ℕ, List, length, take, drop, vec_len, IfOk, IfErr, IsErr, IsErrOf, IsTrue, MatchResult};
-ghost use Rattle.krb_enc.specs.Key.{KeyValue, UsageKeyValue, profile_of};
+ghost use Rattle.krb_enc.specs.Key.{UsageKeyValue, profile_of};
 ghost use Rattle.krb_enc.specs.Sealed.{encryption_key, tag_of, sealed};
 ghost use Rattle.krb_enc.specs.Opens.{IsShort, HasTag, Opens, OpensOnlyTo, OpensToNothing, body_of};
 ghost use Rattle.krb_cts.specs.Undo.{undo};

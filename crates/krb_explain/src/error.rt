@@ -1,6 +1,6 @@
 //! The lines of an error.
 
-ghost use Rattle.std.specs.Prelude.{◌≡◌, ◌++◌, ◌∷◌, ◌-ℤ◌, IfOk, OnOk, codes};
+ghost use Rattle.std.specs.Prelude.{◌≡◌, ◌-ℤ◌, IfOk};
 ghost use Rattle.std.specs.Option.{option_map};
 ghost use Rattle.krb_msg.specs.Borrowed.{krb_error_of, name_of};
 ghost use Rattle.krb_explain.specs.Message.{AreErrorLines, AreTimes, MayHaveTimes, AreClientTimes, client_lines, code_line, data_lines, difference_line, error_body, error_names, error_values, order_text, text_lines};

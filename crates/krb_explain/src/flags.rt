@@ -1,8 +1,8 @@
 //! Flags, in hexadecimal and by their names.
 
-ghost use Rattle.std.specs.Prelude.{◌≡◌, ◌++◌, IfOk, OnOk, string_bytes, map};
+ghost use Rattle.std.specs.Prelude.{◌≡◌, IfOk, string_bytes, map};
 ghost use Rattle.krb_explain.specs.Inner.Tables.{bit_of};
-ghost use Rattle.krb_explain.specs.Registry.{names_of, flags_text, flag_names, option_names};
+ghost use Rattle.krb_explain.specs.Registry.{flags_text, flag_names, option_names};
 
 use krb_der::Flags;
 use std::alloc::{AllocError, Global};

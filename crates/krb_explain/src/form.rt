@@ -1,6 +1,6 @@
 //! The kinds of messages.
 
-ghost use Rattle.std.specs.Prelude.{◌≡◌, ◌≢◌, ℕ, true, false, IfSome, IfNone};
+ghost use Rattle.std.specs.Prelude.{◌≡◌, true, IfSome};
 ghost use Rattle.krb_der.specs.Place.{begins};
 ghost use Rattle.krb_explain.specs.Layer.{first_of};
 ghost use Rattle.krb_explain.specs.Message.{form_name};

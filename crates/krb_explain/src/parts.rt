@@ -1,6 +1,6 @@
 //! The lines of the parts of messages.
 
-ghost use Rattle.std.specs.Prelude.{◌≡◌, ◌++◌, IfOk, OnOk, string_bytes, true, false};
+ghost use Rattle.std.specs.Prelude.{◌≡◌, ◌++◌, IfOk, OnOk, string_bytes};
 ghost use Rattle.std.specs.Option.{option_map};
 ghost use Rattle.krb_msg.specs.Borrowed.{encrypted_of, name_of};
 ghost use Rattle.krb_msg.specs.Fields.{principal_in};

@@ -1,8 +1,6 @@
 //! The lines on a keytab.
 
-ghost use Rattle.std.specs.Prelude.{◌≡◌, ◌↔◌, ◌++◌, ◌∷◌, [], List, IfOk, IsTrue, OnOk, string_bytes, map};
-ghost use Rattle.krb_keytab.specs.Entry.{KeytabEntry};
-ghost use Rattle.krb_keytab.specs.Only.{KeepsOnly};
+ghost use Rattle.std.specs.Prelude.{◌≡◌, IfOk, OnOk, string_bytes};
 ghost use Rattle.krb_keytab.specs.Pick.{IsChoice, choice_of};
 ghost use Rattle.krb_msg.specs.Borrowed.{encrypted_of};
 ghost use Rattle.krb_msg.specs.Fields.{encrypted_fields};

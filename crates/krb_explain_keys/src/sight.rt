@@ -1,18 +1,17 @@
 //! What is seen of a request by a keytab, as far as it opens.
 
-ghost use Rattle.std.specs.Prelude.{◌≡◌, ◌∷◌, [], false, List, IfOk, codes};
-ghost use Rattle.krb_enc.specs.Key.{IsUsable, profile_of};
-ghost use Rattle.krb_enc.specs.Opens.{Opens};
+ghost use Rattle.std.specs.Prelude.{◌≡◌, false, List, IfOk};
+ghost use Rattle.krb_enc.specs.Key.{IsUsable};
 ghost use Rattle.krb_keytab.specs.Entry.{KeytabEntry};
 ghost use Rattle.krb_keytab.specs.Pick.{choice_of, chosen};
 ghost use Rattle.krb_msg.specs.Borrowed.{ap_req_of, authenticator_of, enc_ticket_part_of, ticket_of};
 ghost use Rattle.krb_msg.specs.Fields.{ticket_service};
-ghost use Rattle.krb_ap.specs.Opened.{entry_key, session_key, ticket_usage};
+ghost use Rattle.krb_ap.specs.Opened.{entry_key, session_key};
 ghost use Rattle.krb_explain_keys.specs.Keyed.{new_service};
 ghost use Rattle.krb_explain_keys.specs.Seen.{AreShutLines, FindsOfAuthenticator, FindsOfShut, OpensTicket, Sees, SeesAuthenticator, SeesByChoice, SeesNone, SeesOpenedTicket, SeesRequest, SeesShut, SeesTicket, no_request_causes, other_size_lines, other_type_lines};
 ghost use Rattle.krb_explain_keys.specs.Authenticator.{AreAuthenticatorLines};
-ghost use Rattle.krb_explain_keys.specs.Inner.Seen.{authenticator_causes, request_causes, sight_of, ticket_causes};
-ghost use Rattle.krb_explain_keys.specs.Inner.Shut.{IsUsableChoice, OpensText};
+ghost use Rattle.krb_explain_keys.specs.Inner.Seen.{authenticator_causes, request_causes, sight_of};
+ghost use Rattle.krb_explain_keys.specs.Inner.Shut.{IsUsableChoice};
 
 use crate::authenticator::authenticator_lines;
 use crate::choice::{choice_lines, pick_for};

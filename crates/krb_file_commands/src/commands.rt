@@ -6,6 +6,8 @@ ghost use Rattle.krb_file_commands.specs.Tasks.{IsUnreadPick};
 ghost use Rattle.krb_file_commands.specs.Words.{AsksListing, FitsListing, IsNumber};
 ghost use Rattle.krb_file_commands.specs.declared.listing.CacheListing.{CacheListing};
 ghost use Rattle.krb_file_commands.specs.declared.task.UnreadPick.{UnreadPick};
+ghost use Rattle.krb_file_commands.specs.declared.task.UnreadPick.TheVariants.{Name};
+ghost use Rattle.krb_name.specs.declared.text_fault.TextFault.TheVariants.{OutOfMemory};
 
 use crate::add::add_keys;
 use crate::checking::{CheckCcache, CheckKeytab};
@@ -128,7 +130,7 @@ fn write_task<R: AllocGlobal + Files + RandomSource + Print + Eprint, P: Product
 /// the entry, and the status is 1.
 pub fn run_pick<R: AllocGlobal + Files + Print + Eprint>(rt: &R, words: PickWords<'_>) -> u8
     ensures known { result ≤ 3 }
-    ensures words { result ≡ 2 → (why : UnreadPick) × IsUnreadPick words.entry why }
+    ensures words { result ≡ 2 → (why : UnreadPick) × (why ≢ Name OutOfMemory) × IsUnreadPick words.entry why }
 {
     match pick_of_words(rt.alloc(), words) {
         Ok(task) => {

@@ -2,7 +2,6 @@
 
 ghost use Rattle.std.specs.Prelude.{◌≡◌, None};
 ghost use Rattle.std.specs.Option.{MatchOption};
-ghost use Rattle.krb_gss.specs.Mechanism.{named_of};
 ghost use Rattle.krb_gss.specs.Said.{named_if, Means, Says};
 ghost use Rattle.krb_gss.specs.Inner.Reading.{said_whole};
 

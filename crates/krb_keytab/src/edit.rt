@@ -1,6 +1,6 @@
 //! Editing the bytes of a keytab in place.
 
-ghost use Rattle.std.specs.Prelude.{◌≡◌, ◌≢◌, ◌↔◌, ◌⊎◌, ◌<◌, vec_capacity, Ok, Err, IfErr, OnOk, OnErr, length};
+ghost use Rattle.std.specs.Prelude.{◌≡◌, ◌≢◌, ◌↔◌, ◌<◌, vec_capacity, Ok, Err, IfErr, OnOk, OnErr, length};
 ghost use Rattle.std.specs.Vec.{VecUnchanged};
 ghost use Rattle.krb_keytab.specs.Format.{IsFaultOf};
 ghost use Rattle.krb_keytab.specs.Edit.{MakesHole, LosesEntry, LacksEntry, AddsEntry, GainsEntry, WouldGrow, WouldPass, IsRefusal};

@@ -1,7 +1,7 @@
 //! An entry of a keytab.
 
-ghost use Rattle.std.specs.Prelude.{◌≡◌, ◌↔◌, ◌<◌, ◌≤◌, ◌*◌, ◌^◌, length, All, IsTrue, SomeIff, Some};
-ghost use Rattle.krb_keytab.specs.Entry.{KeytabEntry, LengthsFit, FitsEntry};
+ghost use Rattle.std.specs.Prelude.{◌≡◌, ◌↔◌, ◌<◌, ◌^◌, length, All, IsTrue, SomeIff, Some};
+ghost use Rattle.krb_keytab.specs.Entry.{KeytabEntry, LengthsFit};
 ghost use Rattle.krb_keytab.specs.Inner.KeyHash.{key_hash};
 ghost use Rattle.krb_keytab.specs.Size.{name_size};
 ghost use Rattle.krb_keytab.specs.Written.{record_length};

@@ -1,8 +1,6 @@
 //! Fields that stand one after another, read in place.
 
-ghost use Rattle.std.specs.Prelude.{◌≡◌, ◌<◌, ◌^◌, ℕ, IfOk, OnErr, None, Some, length};
-ghost use Rattle.std.specs.Int.{w16};
-ghost use Rattle.krb_name.specs.Cursor.{data_at, data_bytes};
+ghost use Rattle.std.specs.Prelude.{◌≡◌, ◌<◌, ℕ, IfOk, OnErr, None, Some};
 ghost use Rattle.krb_name.proofs.CursorLaws.{IsField-u8, IsField-u16, IsField-u32, IsField-i16, IsField-i32, IsField-data16};
 ghost use Rattle.krb_name.proofs.Rows.{Spelling, spelling, followed};
 

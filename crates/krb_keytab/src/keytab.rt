@@ -1,7 +1,6 @@
 //! A keytab: the list of its entries.
 
-ghost use Rattle.std.specs.Prelude.{◌≡◌, ◌≢◌, ◌⊎◌, ◌≤◌, ◌<◌, ℕ, List, All, IsTrue, ◌↔◌, take, IfOk, IfErr, IfSome, OnOk, Some, Err, Result, length};
-ghost use Rattle.std.specs.Io.KnownBytes.{IsAtEnd};
+ghost use Rattle.std.specs.Prelude.{◌≡◌, ◌≢◌, ◌⊎◌, ◌≤◌, ◌<◌, ℕ, List, All, IfOk, IfErr, IfSome, OnOk, Some, Err, Result, length};
 ghost use Rattle.krb_name.specs.Flow.{counted};
 ghost use Rattle.krb_keytab.specs.Entry.{KeytabEntry};
 ghost use Rattle.krb_keytab.specs.Fault.{offset_of, failed_reads};

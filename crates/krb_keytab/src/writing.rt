@@ -1,17 +1,14 @@
 //! Writing records into existing bytes.
 
-ghost use Rattle.std.specs.Prelude.{◌≡◌, ◌+◌, ◌-◌, ◌<◌, ◌≤◌, ◌^◌, IfErr, OnErr, OnOk, Err, All, length, take, ◌++◌, vec_capacity};
-ghost use Rattle.std.specs.Int.{w16, bytes_high_first};
-ghost use Rattle.std.specs.List.{flat_map};
+ghost use Rattle.std.specs.Prelude.{◌≡◌, ◌+◌, ◌-◌, ◌<◌, ◌≤◌, ◌^◌, IfErr, OnErr, OnOk, Err, length, take, ◌++◌, vec_capacity};
 ghost use Rattle.std.specs.Vec.{VecUnchanged};
-ghost use Rattle.krb_name.specs.Cursor.{data_bytes};
 ghost use Rattle.krb_keytab.specs.Entry.{LengthsFit, FitsEntry};
 ghost use Rattle.krb_keytab.specs.Format.{record_bytes};
 ghost use Rattle.krb_keytab.specs.Written.{padded_record, written_record, record_length};
 ghost use Rattle.krb_keytab.specs.Edit.{zero_hole, AddsEntry, WouldGrow, WouldPass, IsUnadded};
 ghost use Rattle.krb_keytab.specs.Inner.Finding.{IsFoundRoom};
 ghost use Rattle.krb_keytab.specs.Inner.Room.{PutsIn};
-ghost use Rattle.krb_keytab.specs.Inner.Putting.{Puts, PutsTo, body_bytes};
+ghost use Rattle.krb_keytab.specs.Inner.Putting.{Puts};
 
 use crate::entry::Entry;
 use crate::fault::KeytabFault;

@@ -1,8 +1,6 @@
 //! A login in two steps: a store of stamps that several services share is asked between them.
 
 ghost use Rattle.std.specs.Prelude.{◌≡◌, ◌↔◌, List, ℕ, IfOk, IsTrue, OnErr, SomeIff};
-ghost use Rattle.std.specs.Option.{MatchOption};
-ghost use Rattle.krb_ap.specs.Answer.{taken_of};
 ghost use Rattle.krb_replay.specs.Bytes.{IsBytesOf};
 ghost use Rattle.krb_replay.specs.Keeping.{kept_until};
 ghost use Rattle.krb_time.specs.Moments.{IsMoment};

@@ -1,12 +1,10 @@
 //! What a service asks of a client beyond what makes its request acceptable.
 
-ghost use Rattle.std.specs.Prelude.{◌≡◌, ◌↔◌, ◌⊎◌, ℕ, List, IsTrue, IsSomeAnd};
+ghost use Rattle.std.specs.Prelude.{◌≡◌, ◌↔◌, ℕ, List, IsTrue, IsSomeAnd};
 ghost use Rattle.std.specs.Option.{MatchOption};
 ghost use Rattle.krb_ap.specs.Answer.{taken_of};
-ghost use Rattle.krb_der.specs.Flags.{HasBit};
 ghost use Rattle.krb_msg.specs.PartsOwned.{owned_typed_of};
 ghost use Rattle.krb_login.specs.Terms.{HasBindings, HasWanted, IsAnonymous, IsFirstBroken, IsOfGss, IsOfRealms, Meets, Sends, SendsGss, anonymous_name};
-ghost use Rattle.krb_login.specs.NoBindings.{none_sent};
 
 use crate::bindings_hash::BindingsHash;
 use crate::breach::Breach;

@@ -1,7 +1,6 @@
 //! Sources and sinks for tests. They move a few bytes in each call, and fail if a test asks for it.
 
 ghost use Rattle.std.specs.Prelude.{ℕ, ◌≡◌, ◌≢◌, ◌-◌, ◌<◌, ◌≤◌, ◌↔◌, min, Some, None, IfOk, IsErr, IsOk, is_ok, length, take, [], if◌then◌else◌};
-ghost use Rattle.std.specs.Option.{ForSome};
 ghost use Rattle.std.specs.Io.{ReadsAtMost, WritesAtMost};
 ghost use Rattle.std.specs.Io.KnownBytes.{ReadConsumes, WriteAppends};
 ghost use Rattle.krb_name.specs.Flow.{counted};

@@ -3,8 +3,8 @@
 ghost use Rattle.std.specs.Prelude.{◌≡◌, ◌↔◌, ◌≤◌, ◌≤ℤ◌, ◌<◌, ◌+◌, ◌-◌, ◌*◌, ◌^◌, ℤ, None, [], drop, false, min, length, Contains, IfOk, IsTrue, OnErr, OnOk};
 ghost use Rattle.std.specs.Option.{option_map};
 ghost use Rattle.krb_replay.specs.Inner.Counts.{AddsOne, SameCounts, TakesOne, count_by};
-ghost use Rattle.krb_replay.specs.Inner.Held.{IsOnce, is_of, number_before, number_of, since};
-ghost use Rattle.krb_replay.specs.Inner.Order.{client_cmp, names_of, pair_cmp};
+ghost use Rattle.krb_replay.specs.Inner.Held.{IsOnce, number_before, number_of, since};
+ghost use Rattle.krb_replay.specs.Inner.Order.{client_cmp, pair_cmp};
 ghost use Rattle.krb_replay.specs.Inner.Times.{AddsTime, SameTimes, TakesTime, times_by};
 ghost use Rattle.krb_replay.specs.Memory.{AddsStamp};
 

@@ -1,7 +1,6 @@
 //! The MICs of a list of mechanisms, and what they go back with.
 
-ghost use Rattle.std.specs.Prelude.{◌≡◌, ℕ, List, Option, Some, IfOk, IfErr, OnOk, OnErr, IsSomeAnd, ◌≤◌, take, length};
-ghost use Rattle.std.specs.Option.{MatchOption};
+ghost use Rattle.std.specs.Prelude.{◌≡◌, Option, Some, IfOk, IfErr, OnOk, OnErr, ◌≤◌, take, length};
 ghost use Rattle.krb_ap.specs.Answer.{taken_of};
 ghost use Rattle.krb_context.specs.Context.{IsMicRefusal};
 ghost use Rattle.krb_talk.specs.Inner.{HasNext, IsInToken};

@@ -4,16 +4,13 @@ ghost use Rattle.std.specs.Prelude.{◌≡◌, List, Err, IfSome, None, Ok, Resu
 ghost use Rattle.std.specs.Option.{MatchOption};
 ghost use Rattle.krb_ap.specs.Service.{Stands};
 ghost use Rattle.krb_ap.specs.Setup.{Arrival};
-ghost use Rattle.krb_login.specs.declared.decision.Decision.{Decision as LoginDecisionValue};
 ghost use Rattle.krb_talk.specs.Inner.{AsksFor, ConcludesUnlisted, LeadsBy, Passes, PreparesBy};
 ghost use Rattle.krb_talk.specs.Pending.{Finishes};
 ghost use Rattle.krb_talk.specs.Serving.{Serves};
-ghost use Rattle.krb_talk.specs.States.{Listing, Pending as PendingValue};
-ghost use Rattle.krb_talk.specs.Talk.{ConcludesBy, Ends, IsListed, IsUnshown, Leads, Talks, TalksAt, as_decided};
+ghost use Rattle.krb_talk.specs.States.{Listing};
+ghost use Rattle.krb_talk.specs.Talk.{ConcludesBy, Ends, IsUnshown, Talks, TalksAt, as_decided};
 ghost use Rattle.krb_talk.specs.Turns.{ConcludesAt, ConcludesEnded, ConcludesLogin, Takes};
 ghost use Rattle.krb_talk.specs.declared.checking.Admitted.{Admitted as AdmittedValue};
-ghost use Rattle.krb_talk.specs.declared.decision.Decision.{Decision as DecisionValue};
-ghost use Rattle.krb_gss.specs.declared.negotiating.Negotiation.{Negotiation as NegotiationValue};
 
 use crate::agreeing::choice_again;
 use crate::checking::{Admitted, Checking, ListFault, Prepared};

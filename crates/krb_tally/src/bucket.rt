@@ -1,6 +1,6 @@
 //! Some of the items.
 
-ghost use Rattle.std.specs.Prelude.{◌≡◌, ◌≢◌, ◌-◌, ◌↔◌, ◌≤◌, ◌<◌, ◌≤ℤ◌, ◌<ℤ◌, ◌∷◌, ℤ, pos, [], All, Contains, IfOk, IsTrue, MatchOption, OnErr, OnOk, drop, false, length, slice_index_or, take};
+ghost use Rattle.std.specs.Prelude.{◌≡◌, ◌≢◌, ◌-◌, ◌≤◌, ◌<◌, ◌≤ℤ◌, ◌<ℤ◌, ◌∷◌, ℤ, pos, [], All, Contains, IfOk, IsTrue, MatchOption, OnErr, OnOk, drop, false, length, slice_index_or, take};
 ghost use Rattle.std.specs.List.{remove};
 ghost use Rattle.krb_tally.specs.Times.{HasEqual, LacksEqual, number_since};
 ghost use Rattle.krb_tally.specs.Inner.Buckets.{AddsIn, IsAt, IsRising, IsSorted, place_from};

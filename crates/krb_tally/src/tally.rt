@@ -1,6 +1,6 @@
 //! Items in order, by their times first.
 
-ghost use Rattle.std.specs.Prelude.{◌≡◌, ◌≢◌, ◌↔◌, ◌∷◌, ◌⊎◌, ◌+◌, ◌-◌, ◌≤◌, ◌<◌, ◌≤ℤ◌, ◌<ℤ◌, ◌^◌, ℤ, pos, suc, [], All, Contains, IfOk, IsTrue, MatchOption, OnErr, OnOk, Some, drop, false, length, slice_get, slice_index_or, take, true};
+ghost use Rattle.std.specs.Prelude.{◌≡◌, ◌≢◌, ◌∷◌, ◌⊎◌, ◌+◌, ◌-◌, ◌≤◌, ◌<◌, ◌≤ℤ◌, ◌<ℤ◌, ◌^◌, ℤ, pos, suc, [], All, Contains, IfOk, IsTrue, MatchOption, OnErr, OnOk, Some, false, length, slice_get, slice_index_or, take, true};
 ghost use Rattle.std.specs.List.Sorted.{IsPermutation};
 ghost use Rattle.krb_tally.specs.Times.{HasEqual, LacksEqual, number_since};
 ghost use Rattle.krb_tally.specs.Inner.Buckets.{Fits, Halves, IsIn, IsPlace, IsRising, IsSorted, Reaches, TakesOut, all_of, place_from};
