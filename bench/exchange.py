@@ -103,8 +103,12 @@ def authenticator(now, client=CLIENT, key=SESSION[19]):
     return der.encrypted(19, sealed(19, key, 11, CONFOUNDER, part))
 
 
+# What is refused at the last stage, which knows a request that it has accepted.
+REPEATED = "the same request again"
+
+
 def refused(now):
-    """Requests that a service refuses, each with what it is: one for each stage but the last, which knows a repeat."""
+    """Requests that a service refuses, each with what it is: one for each stage."""
     good = ticket(19, now, 0)
     other = authenticator(now)
     yield "not a request", b"hello"
@@ -118,6 +122,7 @@ def refused(now):
     yield "a clock that is an hour off", der.request(0, good, authenticator(now - 3600))
     yield "a ticket that isn't valid yet", der.request(0, ticket(19, now + 3600, 0), other)
     yield "a ticket that has expired", der.request(0, ticket(19, now - HOURS_10 - 3600, 0), other)
+    yield REPEATED, der.request(0, good, other)
     yield "1 MiB: a service of 523,000 empty components", der.request(0, ticket_for([b""] * ((FILLED - 1_500) // 2)), other)
     yield "1 MiB: a service of one long component", der.request(0, ticket_for([b"host", b"a" * (FILLED - 500)]), other)
     yield "1 MiB: a ticket that isn't sealed with the key", der.request(0, ticket_for(SERVICE, 1, b"\x5a" * (FILLED - 500)), other)

@@ -1,5 +1,4 @@
-/* Times MIT krb5's reading and writing of messages: mit_messages ap-req|ticket|enc-ticket decode|encode HEX COUNT prints
-   nanoseconds a call, with the freeing of what it answered. krb5.h has no prototypes of most of these calls. */
+/* Times MIT krb5's reading and writing of messages: mit_messages MESSAGE decode|encode HEX COUNT prints nanoseconds a call, with the freeing of what it answered. krb5.h has no prototypes of most of these calls. */
 #include <krb5.h>
 #include <stdio.h>
 #include <stdlib.h>
@@ -12,6 +11,15 @@ krb5_error_code decode_krb5_enc_tkt_part(const krb5_data *bytes, krb5_enc_tkt_pa
 krb5_error_code encode_krb5_ap_req(const krb5_ap_req *message, krb5_data **made);
 krb5_error_code encode_krb5_ticket(const krb5_ticket *message, krb5_data **made);
 krb5_error_code encode_krb5_enc_tkt_part(const krb5_enc_tkt_part *message, krb5_data **made);
+krb5_error_code decode_krb5_authenticator(const krb5_data *bytes, krb5_authenticator **made);
+krb5_error_code decode_krb5_ap_rep(const krb5_data *bytes, krb5_ap_rep **made);
+krb5_error_code decode_krb5_ap_rep_enc_part(const krb5_data *bytes, krb5_ap_rep_enc_part **made);
+krb5_error_code decode_krb5_error(const krb5_data *bytes, krb5_error **made);
+krb5_error_code encode_krb5_authenticator(const krb5_authenticator *message, krb5_data **made);
+krb5_error_code encode_krb5_ap_rep(const krb5_ap_rep *message, krb5_data **made);
+krb5_error_code encode_krb5_ap_rep_enc_part(const krb5_ap_rep_enc_part *message, krb5_data **made);
+krb5_error_code encode_krb5_error(const krb5_error *message, krb5_data **made);
+void krb5_free_ap_rep(krb5_context context, krb5_ap_rep *message);
 void krb5_free_ap_req(krb5_context context, krb5_ap_req *message);
 void krb5_free_enc_tkt_part(krb5_context context, krb5_enc_tkt_part *message);
 
@@ -72,18 +80,33 @@ TIMED(ap_req, krb5_ap_req, decode_krb5_ap_req, encode_krb5_ap_req, krb5_free_ap_
 TIMED(ticket, krb5_ticket, decode_krb5_ticket, encode_krb5_ticket, krb5_free_ticket, enc_part.ciphertext.data[0])
 TIMED(enc_ticket, krb5_enc_tkt_part, decode_krb5_enc_tkt_part, encode_krb5_enc_tkt_part, krb5_free_enc_tkt_part, times.endtime)
 
+TIMED(authenticator, krb5_authenticator, decode_krb5_authenticator, encode_krb5_authenticator, krb5_free_authenticator, subkey->contents[15])
+TIMED(ap_rep, krb5_ap_rep, decode_krb5_ap_rep, encode_krb5_ap_rep, krb5_free_ap_rep, enc_part.ciphertext.data[0])
+TIMED(enc_ap_rep, krb5_ap_rep_enc_part, decode_krb5_ap_rep_enc_part, encode_krb5_ap_rep_enc_part, krb5_free_ap_rep_enc_part,
+      subkey->contents[15])
+TIMED(error, krb5_error, decode_krb5_error, encode_krb5_error, krb5_free_error, e_data.data[0])
+
+/* The messages, by the words for them. */
+static const struct message {
+    const char *word;
+    double (*time)(krb5_context context, krb5_data bytes, int encodes, long count, long *sum);
+} messages[] = {
+    {"ap-req", ap_req}, {"ticket", ticket}, {"enc-ticket", enc_ticket}, {"authenticator", authenticator},
+    {"ap-rep", ap_rep}, {"enc-ap-rep", enc_ap_rep}, {"error", error},
+};
+
 int main(int argc, char **argv)
 {
     if (argc != 5)
         return 2;
     krb5_context context;
     must(!krb5_init_context(&context), "no context");
-    krb5_data bytes = from_hex(argv[3]);
-    int encodes = !strcmp(argv[2], "encode");
     long count = atol(argv[4]), sum = 0;
-    double took = !strcmp(argv[1], "ap-req")   ? ap_req(context, bytes, encodes, count, &sum)
-                  : !strcmp(argv[1], "ticket") ? ticket(context, bytes, encodes, count, &sum)
-                                               : enc_ticket(context, bytes, encodes, count, &sum);
-    printf("%.1f %ld\n", took / count, sum);
-    return 0;
+    for (size_t at = 0; at < sizeof messages / sizeof *messages; at++)
+        if (!strcmp(argv[1], messages[at].word)) {
+            double took = messages[at].time(context, from_hex(argv[3]), !strcmp(argv[2], "encode"), count, &sum);
+            printf("%.1f %ld\n", took / count, sum);
+            return 0;
+        }
+    return 2;
 }

@@ -118,12 +118,18 @@ def sealing() -> Iterator[Row]:
 def several_messages():
     """The messages: a name, the word that the programs know the type by, and the bytes. The last byte is one of an
     OCTET STRING."""
-    request = der.request(0, TICKET, der.encrypted(19, b"\x5a" * 91))
+    sealed, seconds = der.encrypted(19, b"\x5a" * 91), 1_700_000_000
     data = der.sequence(*[der.key(1, b"\x5a" * 32)] * 20)
     key, client = der.key(19, bytes(range(16))), der.name(1, b"alice")
-    part = der.enc_ticket_part(0, key, b"EX", client, 1_700_000_000, 1_700_036_000, data=data)
-    return [("AP-REQ", "ap-req", request), ("Ticket", "ticket", TICKET),
-            ("EncTicketPart, 20 elements of authorization data", "enc-ticket", part)]
+    part = der.enc_ticket_part(0, key, b"EX", client, seconds, seconds + 36_000, data=data)
+    moment, realm, service = der.time_of(seconds), der.string(b"EX"), der.name(3, b"host", b"web")
+    error = der.message(0x7E, 5, 30, moment, 5, moment, 5, 37, realm, client, realm, service, der.string(b"skew"),
+                        der.octets(b"\x5a" * 16))
+    return [("AP-REQ", "ap-req", der.request(0, TICKET, sealed)), ("Ticket", "ticket", TICKET),
+            ("EncTicketPart, 20 elements of authorization data", "enc-ticket", part),
+            ("Authenticator", "authenticator", der.authenticator(b"EX", client, 5, seconds, subkey=key)),
+            ("AP-REP", "ap-rep", der.reply(sealed)),
+            ("EncAPRepPart", "enc-ap-rep", der.enc_reply_part(seconds, 5, key)), ("KRB-ERROR", "error", error)]
 
 
 def of_messages() -> Iterator[Row]:

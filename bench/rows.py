@@ -137,9 +137,10 @@ def refused() -> Iterator[Row]:
 
     for index, (what, _) in enumerate(exchange.refused(calendar.timegm(time.gmtime()))):
         count = 4 if what.startswith("1 MiB:") else 2_000
-        yield Row("refused", what, Side("{service} accept {at}/keytab {at}/messages {count} refused"),
-                  Side("{service} rd_req {at}/keytab {at}/messages {count} refused"), "krb5_rd_req", of(index), count,
-                  (1, 2) if count == 4 else (COUNTED, 2 * COUNTED))
+        how, cache = ("repeated", "file2:{at}/rcache") if what == exchange.REPEATED else ("refused", "none:")
+        yield Row("refused", what, Side(f"{{service}} accept {{at}}/keytab {{at}}/messages {{count}} {how}"),
+                  Side(f"{{service}} rd_req {{at}}/keytab {{at}}/messages {{count}} {how}", cache=cache),
+                  f"krb5_rd_req{CACHES[cache]}", of(index), count, (1, 2) if count == 4 else (COUNTED, 2 * COUNTED))
 
 
 def clients() -> Iterator[Row]:

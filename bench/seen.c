@@ -1,7 +1,7 @@
-/* Times `fevstunik_acceptor_accept` of a service that remembers a request of each of many clients, for bench/seen.py.
+/* Times `fevstunik_acceptor_accept` of a service that remembers many requests, for bench/seen.py.
  *
- *   seen KEYTAB CACHE CLIENTS CALLERS COUNT     prints the nanoseconds of processor time for each of COUNT requests of CALLERS clients in turn,
- *                                               who are some of CLIENTS that are remembered
+ *   seen KEYTAB CACHE CLIENTS REMEMBERED CALLERS COUNT     prints the nanoseconds of processor time for each of COUNT requests of CALLERS of the
+ *                                                          CLIENTS in turn, while REMEMBERED requests of the CLIENTS are remembered
  *
  * KEYTAB and CACHE have the fixture's files: the ticket's sealed part is opened, and sealed again for each client with its name.
  */
@@ -124,7 +124,7 @@ int main(int count, char **words)
                                           .limit = 10000000,
                                           .limit_for_client = 10000000};
 
-    if (count != 6)
+    if (count != 7)
         return 2;
     from_file(&keytab, words[1]);
     from_file(&cache, words[2]);
@@ -132,11 +132,11 @@ int main(int count, char **words)
     must(fevstunik_acceptor_new(&service, keytab.at, keytab.size, (const uint8_t *)"host/web@EX", 11, &options).code ==
          FEVSTUNIK_OK);
     must(fevstunik_accepted_new(&client.accepted).code == FEVSTUNIK_OK);
-    for (long at = 0; at < atol(words[3]); at++) {
-        make(&request, (uint32_t)at, (uint32_t)at);
+    for (long at = 0; at < atol(words[4]); at++) {
+        make(&request, (uint32_t)(at % atol(words[3])), (uint32_t)at);
         accept(&request);
     }
-    timed((uint32_t)atol(words[3]), (uint32_t)atol(words[4]), (uint32_t)atol(words[5]));
+    timed((uint32_t)atol(words[3]), (uint32_t)atol(words[5]), (uint32_t)atol(words[6]));
     fevstunik_accepted_free(&client.accepted);
     fevstunik_acceptor_free(&service);
     return 0;

@@ -1,12 +1,13 @@
 /* Times what a service does with the messages of clients, by the library for C and by MIT krb5.
  *
- *   service WAY KEYTAB MESSAGES COUNT [refused]    prints the nanoseconds of processor time of each call
+ *   service WAY KEYTAB MESSAGES COUNT [refused|repeated]    prints the nanoseconds of processor time of each call
  *
  * WAY is accept (fevstunik_acceptor_accept and fevstunik_accepted_known), rd_req (krb5_rd_req), answer (fevstunik_service_answer and
  * fevstunik_accepted_known), parts (the calls that fevstunik_service_answer puts together, for a negotiation whose client asks for a reply)
  * or gss (gss_accept_sec_context and gss_display_name); or, for the start of a service, new
  * (fevstunik_acceptor_new) or keys (MIT's reading of a keytab file from end to end). MESSAGES has messages, each after its size in four bytes.
  * All of them are read, and the first COUNT are used; with refused, the first is given COUNT times, and isn't accepted: a second line has our code.
+ * With repeated it is accepted before that, once.
  * MIT's library has the keytab in memory. Its replay cache is as KRB5RCACHENAME says; ours remembers what it has accepted.
  */
 #include <gssapi/gssapi_ext.h>
@@ -20,7 +21,7 @@ static const uint8_t random_bytes[16] = {7};
 static const char *keytab_name;
 static struct bytes keytab;
 static struct parts messages;
-static int are_refused;
+static int are_refused, was_accepted;
 static krb5_context context;
 static krb5_keytab keys;
 static krb5_principal server;
@@ -191,6 +192,8 @@ static void timed(uint32_t (*call)(struct bytes), long count, int uses_messages)
 {
     uint32_t code = 0;
     must(!uses_messages || are_refused || messages.count >= count, "so many messages", messages.count);
+    if (was_accepted)
+        must(call(messages.at[0]) == 0, "the first call", 0);
     double began = processor_time();
     for (long i = 0; i < count; i++) {
         struct bytes none = {0};
@@ -209,6 +212,7 @@ int main(int argc, char **argv)
     keytab = read_file(argv[2]);
     messages = read_parts(argv[3]);
     are_refused = argc == 6;
+    was_accepted = are_refused && strcmp(argv[5], "repeated") == 0;
     for (size_t i = 0; i < sizeof ways / sizeof *ways; i++)
         if (strcmp(argv[1], ways[i].name) == 0) {
             ways[i].start();

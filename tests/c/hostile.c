@@ -1,6 +1,7 @@
-/* A service turns away requests of 1 MiB for a service whose name is larger than each name of the keytab, and takes no memory for them. The
- * arguments are the files of the keytab and of the requests. It is linked with --wrap=malloc and --wrap=realloc. Whoever counts what each request
- * takes counts from one call of `counted` to the next. Each line of output that begins with `wrong` is one. */
+/* A service turns away requests of 1 MiB: those for a service whose name is larger than each name of the keytab, for which it takes no memory,
+ * and one whose ticket doesn't open, for which it takes no piece of more than 64 KiB. The arguments are the files of the keytab and of the requests,
+ * of which that one is the last. It is linked with --wrap=malloc and --wrap=realloc. Whoever counts what each request takes counts from one call of
+ * `counted` to the next. Each line of output that begins with `wrong` is one. */
 #define BYTES_ROOM (1 << 20)
 #include "checks.h"
 
@@ -13,17 +14,25 @@ void *__wrap_malloc(size_t size);
 void *__wrap_realloc(void *at, size_t size);
 void counted(void);
 
-static size_t asked = 0;
+/* How many bytes were asked for, and how many at once. */
+static size_t asked = 0, largest = 0;
+
+static void ask(size_t size)
+{
+    asked += size;
+    if (size > largest)
+        largest = size;
+}
 
 void *__wrap_malloc(size_t size)
 {
-    asked += size;
+    ask(size);
     return __real_malloc(size);
 }
 
 void *__wrap_realloc(void *at, size_t size)
 {
-    asked += size;
+    ask(size);
     return __real_realloc(at, size);
 }
 
@@ -35,7 +44,7 @@ __attribute__((noinline)) void counted(void)
 static fevstunik_acceptor service;
 static fevstunik_accepted accepted;
 
-static void turned_away(const char *file)
+static void turned_away(const char *file, unsigned code, size_t most)
 {
     static struct bytes request;
     const fevstunik_time now = {START, 0};
@@ -45,11 +54,14 @@ static void turned_away(const char *file)
     from_file(&request, file);
     is("the size", request.size > 1040000, 1);
     before = asked;
+    largest = 0;
     counted();
     answer = fevstunik_acceptor_accept(&service, &accepted, request.at, request.size, &now);
     counted();
-    is("the answer", answer.code, FEVSTUNIK_NOT_US);
-    is("memory", (long long)(asked - before), 0);
+    is("the answer", answer.code, code);
+    is("pieces of memory", largest <= most, 1);
+    if (most == 0)
+        is("memory", (long long)(asked - before), 0);
 }
 
 int main(int count, char **words)
@@ -58,13 +70,14 @@ int main(int count, char **words)
     fevstunik_acceptor_options options = {.size = sizeof options, .skew = 300, .restarts = FEVSTUNIK_RESTART_FIRST_LIFE};
     int at;
 
-    if (count < 3)
+    if (count < 4)
         return 2;
     from_file(&keytab, words[1]);
     is("service", fevstunik_acceptor_new(&service, keytab.at, keytab.size, WEB, &options).code, FEVSTUNIK_OK);
     is("accepted", fevstunik_accepted_new(&accepted).code, FEVSTUNIK_OK);
-    for (at = 2; at < count; at++)
-        turned_away(words[at]);
+    for (at = 2; at < count - 1; at++)
+        turned_away(words[at], FEVSTUNIK_NOT_US, 0);
+    turned_away(words[at], FEVSTUNIK_TICKET_INTEGRITY, 65536);
     fevstunik_accepted_free(&accepted);
     fevstunik_acceptor_free(&service);
     printf("%d passed, %d failed\n", passed, failed);
