@@ -100,8 +100,8 @@ module _ (Serves : Negotiation → Negotiation → LoginDecision → Type 0) (Re
     pub begun_for : IsContextOf decided.accepted given.choice options begun
     pub sender_is : pending.context.sender ≡ begun.sender
 
-  abbrev check_of : Listing → LetInValue → Check
-  check_of listing login = record {
+  abbrev check_for : Listing → LetInValue → Check
+  check_for listing login = record {
     list = listing.list;
     bytes = given.bytes.now;
     accepted = login.accepted;
@@ -112,7 +112,7 @@ module _ (Serves : Negotiation → Negotiation → LoginDecision → Type 0) (Re
 
   -- ---- a MIC that came with the token
   over : (first : List ℕ) (listing : Listing) → IsListed listing first → (after : Negotiation) (decided : LetInValue)
-      → Serves (Asked listing.mechanism) after (decisions.LetIn decided) → (login : Admitted) → IsShown (check_of listing decided) login
+      → Serves (Asked listing.mechanism) after (decisions.LetIn decided) → (login : Admitted) → IsShown (check_for listing decided) login
       → IsLetInOver first given.bytes.now Serves given.choice login
   over first listing listed after decided serves login it =
       let shows = it.let_in.shows in
@@ -131,10 +131,10 @@ module _ (Serves : Negotiation → Negotiation → LoginDecision → Type 0) (Re
 
   made_over : (first : List ℕ) (listing : Listing) → IsListed listing first → (after : Negotiation) (decided : LetInValue)
       → Serves (Asked listing.mechanism) after (decisions.LetIn decided) → (login : Admitted) (new : Stage) (made : Result Checking ListFault)
-      → Checks (check_of listing decided) made → Leads made (Shown login) new → IsLetInOver first given.bytes.now Serves given.choice login
+      → Checks (check_for listing decided) made → Leads made (Shown login) new → IsLetInOver first given.bytes.now Serves given.choice login
   made_over first listing listed after decided serves login new (Ok (checked.Shown other)) it leads =
       over first listing listed after decided serves login
-      (subst (λ (a : Admitted). IsShown (check_of listing decided) a) (sym (same_login login other leads.0)) it)
+      (subst (λ (a : Admitted). IsShown (check_for listing decided) a) (sym (same_login login other leads.0)) it)
   made_over first listing listed after decided serves login new (Ok (checked.Waits pending sent)) it leads =
       absurd (shown_not_go_on login sent leads.0)
   made_over first listing listed after decided serves login new (Err fault) it leads = absurd leads.0
@@ -150,7 +150,7 @@ module _ (Serves : Negotiation → Negotiation → LoginDecision → Type 0) (Re
 
   -- ---- a MIC that comes after the reply
   held : (listing : Listing) (after : Negotiation) (decided : LetInValue) → Serves (Asked listing.mechanism) after (decisions.LetIn decided)
-      → (pending : Pending) (sent : List ℕ) → IsAwaited (check_of listing decided) pending sent → Holds listing pending
+      → (pending : Pending) (sent : List ℕ) → IsAwaited (check_for listing decided) pending sent → Holds listing pending
   held listing after decided serves pending sent it =
       let marks = it.asked_for.answer.marks in
       record {
@@ -165,7 +165,7 @@ module _ (Serves : Negotiation → Negotiation → LoginDecision → Type 0) (Re
       }
 
   made_held : (listing : Listing) (after : Negotiation) (decided : LetInValue) → Serves (Asked listing.mechanism) after (decisions.LetIn decided)
-      → (pending : Pending) (decision : Decision) (made : Result Checking ListFault) → Checks (check_of listing decided) made
+      → (pending : Pending) (decision : Decision) (made : Result Checking ListFault) → Checks (check_for listing decided) made
       → Leads made decision (Waiting pending) → Holds listing pending
   made_held listing after decided serves pending decision (Ok (checked.Shown login)) it leads = absurd (waiting_not_login pending Ended leads.1)
   made_held listing after decided serves pending decision (Ok (checked.Waits other sent)) it leads =
