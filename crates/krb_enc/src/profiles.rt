@@ -49,6 +49,7 @@ impl Enctype for Sha256Aes128 {
         }
     }
 
+    #[inline(never)]
     fn prepared(_: Inside, key: &[u8], mac_key: &[u8]) -> KeyBytes {
         KeyBytes::Short(array_of(key), HmacSha256::new(mac_key))
     }
@@ -117,6 +118,7 @@ impl Enctype for Sha384Aes256 {
         }
     }
 
+    #[inline(never)]
     fn prepared(_: Inside, key: &[u8], mac_key: &[u8]) -> KeyBytes {
         KeyBytes::Long(array_of(key), HmacSha384::new(mac_key))
     }

@@ -154,7 +154,8 @@ pub fn hmac_sha384(key: &[u8], parts: &[&[u8]]) -> [u8; 48]
     HmacSha384::new(key).code(parts)
 }
 
-// A hasher that has taken a block under a pad.
+// A hasher that has taken a block under a pad. (Never inlined: its stack frame is gone before the next.)
+#[inline(never)]
 fn padded<D: BlockHash<N>, const N: usize, const B: usize>(block: &[u8; B], pad: u8) -> D
     requires memory { B < 2 ^ 63 }
     ensures { D.holds result (masked pad block.now) }
