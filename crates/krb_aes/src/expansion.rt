@@ -75,6 +75,7 @@ fn with_room(key: &[u8]) -> [u8; EXPANDED_LEN]
 }
 
 // The words of the round keys: one key more than rounds. Zeros fill the rest.
+#[inline(never)]
 pub(crate) fn expand(key: &[u8]) -> [u8; EXPANDED_LEN]
     requires { IsKey key.now }
     ensures words { take (4 * length key.now + 112) result ≡ key_expansion key.now }

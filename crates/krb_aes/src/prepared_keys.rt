@@ -16,7 +16,7 @@ pub(crate) struct PreparedKeys {
     pub(crate) inv_words: [u8; EXPANDED_LEN],
 }
 
-#[inline(always)]
+#[inline(never)]
 pub(crate) fn prepared_keys(words: &[u8; EXPANDED_LEN], last: usize) -> PreparedKeys
     requires { last ≤ 14 }
     ensures formed { (j : ℕ) → 1 ≤ j → j < last → round_key result.form_words j ≡ form_round_key words.now j }

@@ -14,8 +14,7 @@ use std::marker::Model;
 #[derive(Drop)]
 pub struct KeySchedule {
     words: [u8; EXPANDED_LEN],
-    form_words: [u8; EXPANDED_LEN],
-    inv_words: [u8; EXPANDED_LEN],
+    prepared: PreparedKeys,
     key_len: usize,
 }
 
@@ -24,7 +23,7 @@ impl Model for KeySchedule {
 
     ghost view = { λ s. take s.key_len s.words };
 
-    ghost invariant = { λ s. IsSchedule s.key_len s.words s.form_words s.inv_words };
+    ghost invariant = { λ s. IsSchedule s.key_len s.words s.prepared.form_words s.prepared.inv_words };
 }
 
 impl KeySchedule {
@@ -35,14 +34,9 @@ impl KeySchedule {
         ensures { result ≡ key.now }
     {
         let words = expand(key);
-        let PreparedKeys {
-            form_words,
-            inv_words,
-        } = prepared_keys(&words, 10);
         KeySchedule {
+            prepared: prepared_keys(&words, 10),
             words,
-            form_words,
-            inv_words,
             key_len: 16,
         }
     }
@@ -54,14 +48,9 @@ impl KeySchedule {
         ensures { result ≡ key.now }
     {
         let words = expand(key);
-        let PreparedKeys {
-            form_words,
-            inv_words,
-        } = prepared_keys(&words, 14);
         KeySchedule {
+            prepared: prepared_keys(&words, 14),
             words,
-            form_words,
-            inv_words,
             key_len: 32,
         }
     }
@@ -143,7 +132,7 @@ impl KeySchedule {
         ensures value { result.now ≡ form_round_key (key_expansion self.now) round }
         ensures len { length result.now ≡ 16 }
     {
-        &self.form_words[16 * round..16 * round + 16]
+        &self.prepared.form_words[16 * round..16 * round + 16]
     }
 
     // The same of decryption, as `lanes::inv_round` takes it.
@@ -154,6 +143,6 @@ impl KeySchedule {
         ensures value { result.now ≡ inv_round_key (key_expansion self.now) round }
         ensures len { length result.now ≡ 16 }
     {
-        &self.inv_words[16 * round..16 * round + 16]
+        &self.prepared.inv_words[16 * round..16 * round + 16]
     }
 }
