@@ -3,7 +3,7 @@
 ghost use Rattle.std.specs.Prelude.{◌≡◌, IfOk};
 ghost use Rattle.krb_replay.specs.Bytes.{HasLengths, name_bytes};
 ghost use Rattle.krb_replay.specs.Inner.Names.{hash_of};
-ghost use Rattle.krb_replay.specs.Inner.Order.{bytes_cmp};
+ghost use Rattle.krb_replay.specs.Inner.Order.{bytes_cmp, name_cmp, pair_cmp};
 ghost use Rattle.krb_replay.specs.Stamp.{name_of};
 
 use crate::stamp_bytes::write_name;
@@ -87,8 +87,27 @@ impl Names {
         self.client_hash
     }
 
-    /// Compares the names of the clients.
-    pub(crate) fn compare_clients(&self, other: &Names) -> Ordering
+    /// Compares the clients, by the hashes of their names first, and then the services.
+    pub(crate) fn compare(&self, other: &Names) -> Ordering
+        ensures { result ≡ pair_cmp self.now other.now }
+    {
+        match self.compare_clients(other) {
+            Ordering::Equal => self.compare_servers(other),
+            apart => apart,
+        }
+    }
+
+    fn compare_clients(&self, other: &Names) -> Ordering
+        ensures { result ≡ name_cmp self.now.1 other.now.1 }
+    {
+        match self.client_hash().cmp(&other.client_hash()) {
+            Ordering::Equal => self.compare_client_bytes(other),
+            apart => apart,
+        }
+    }
+
+    /// Compares the names of the clients by their bytes alone.
+    pub(crate) fn compare_client_bytes(&self, other: &Names) -> Ordering
         ensures { result ≡ bytes_cmp self.now.1 other.now.1 }
     {
         self.client().cmp(&other.client())
@@ -105,7 +124,7 @@ fn size_of(name: &Principal) -> usize {
     size
 }
 
-// The same length in 4 bytes. It fails if there isn't room for it.
+// The same length in 4 bytes. It fails if the length needs more.
 fn in_four_bytes(len: usize) -> Result<u32, AllocError>
     ensures { IfOk result (λ short. short ≡ len) }
 {

@@ -49,10 +49,17 @@ impl Pair {
         ensures { IfOk result (λ pair. pair ≡ (name_of server.now, name_of client.now)) }
     {
         let names = Names::new(alloc, server, client)?;
-        Ok(Pair {
+        Ok(Pair::of(Rc::new(alloc, names)?))
+    }
+
+    /// Makes a pair of names that may have other holders.
+    pub(crate) fn of(names: Rc<Names>) -> Pair
+        ensures { result ≡ names.value }
+    {
+        Pair {
             client_hash: names.client_hash(),
-            names: Rc::new(alloc, names)?,
-        })
+            names,
+        }
     }
 
     /// Returns one more holder of the same names. Allocates no memory. It fails only if there are
@@ -64,6 +71,14 @@ impl Pair {
             client_hash: self.client_hash,
             names: self.names.clone()?,
         })
+    }
+
+    /// Returns one more reference to the names. Allocates no memory. It fails only if there are too
+    /// many to count.
+    pub(crate) fn share_names(&self) -> Result<Rc<Names>, AllocError>
+        ensures { IfOk result (λ names. names.value ≡ self.now) }
+    {
+        self.names.clone()
     }
 
     pub(crate) fn names(&self) -> &Names
@@ -78,7 +93,7 @@ impl Pair {
         ensures { result ≡ name_cmp self.now.1 other.now.1 }
     {
         match self.client_hash.cmp(&other.client_hash) {
-            Ordering::Equal => self.names().compare_clients(other.names()),
+            Ordering::Equal => self.names().compare_client_bytes(other.names()),
             apart => apart,
         }
     }

@@ -1,5 +1,5 @@
 use Rattle.krb_replay.proofs.NamesLaws.{compared}
-use Rattle.krb_replay.proofs.names.Names.compare_clients.Goals as goal
+use Rattle.krb_replay.proofs.names.Names.compare_client_bytes.Goals as goal
 
 pub returns : goal.returns
 returns c =
