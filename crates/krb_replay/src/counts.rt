@@ -1,6 +1,7 @@
 //! How many tuples each client has, or each pair of names.
 
 ghost use Rattle.std.specs.Prelude.{◌≡◌, ◌<◌, IfSome, OnErr, OnOk};
+ghost use Rattle.std.specs.BTreeMap.{btree_map_len};
 ghost use Rattle.std.specs.declared.cmp.Ordering.TheVariants.{Equal};
 ghost use Rattle.krb_replay.specs.Inner.Counts.{AddsOne, HasNoZero, SameCounts, TakesOne, count_by};
 
@@ -24,7 +25,9 @@ impl<K: Ord + Drop> Counts<K> {
     }
 
     /// Returns how many keys have tuples.
-    pub(crate) fn len(&self) -> usize {
+    pub(crate) fn len(&self) -> usize
+        ensures { result ≡ btree_map_len self.now.counts }
+    {
         self.counts.len()
     }
 

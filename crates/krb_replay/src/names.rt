@@ -3,7 +3,7 @@
 ghost use Rattle.std.specs.Prelude.{◌≡◌, IfOk};
 ghost use Rattle.krb_replay.specs.Bytes.{HasLengths, name_bytes};
 ghost use Rattle.krb_replay.specs.Inner.Names.{hash_of};
-ghost use Rattle.krb_replay.specs.Inner.Order.{bytes_cmp, name_cmp};
+ghost use Rattle.krb_replay.specs.Inner.Order.{bytes_cmp, name_cmp, pair_cmp};
 ghost use Rattle.krb_replay.specs.Stamp.{name_of};
 
 use crate::stamp_bytes::write_name;
@@ -18,7 +18,7 @@ use std::marker::Model;
 #[derive(Debug, Drop)]
 pub(crate) struct Names {
     bytes: Vec<u8>,
-    server_len: usize,
+    server_len: u32,
     client_hash: u32,
 }
 
@@ -35,7 +35,8 @@ impl Model for Names {
 }
 
 impl Names {
-    /// Copies the names, without their types.
+    /// Copies the names, without their types. It fails if there is no memory, or the service's name
+    /// takes 4 GiB or more.
     pub(crate) fn new(
         alloc: Global,
         server: &Principal,
@@ -47,7 +48,7 @@ impl Names {
         let size = size_of(server).saturating_add(size_of(client));
         let mut bytes = Vec::with_capacity(alloc, size)?;
         write_name(&mut bytes, server)?;
-        let server_len = bytes.len();
+        let server_len = in_four_bytes(bytes.len())?;
         write_name(&mut bytes, client)?;
         Ok(Names {
             bytes,
@@ -61,7 +62,7 @@ impl Names {
         ensures bytes { result.now ≡ name_bytes self.now.0 }
         ensures lengths { HasLengths self.now.0 }
     {
-        &self.bytes.as_slice()[..self.server_len]
+        &self.bytes.as_slice()[..self.server_len as usize]
     }
 
     /// Returns the bytes of the client's name.
@@ -69,7 +70,7 @@ impl Names {
         ensures bytes { result.now ≡ name_bytes self.now.1 }
         ensures lengths { HasLengths self.now.1 }
     {
-        &self.bytes.as_slice()[self.server_len..]
+        &self.bytes.as_slice()[self.server_len as usize..]
     }
 
     /// Compares the names of the services.
@@ -79,24 +80,34 @@ impl Names {
         self.server().cmp(&other.server())
     }
 
-    /// Compares the names of the clients, by their hashes first. So a tree over them is filled
-    /// evenly, also if clients come in the order of their names.
-    pub(crate) fn compare_clients(&self, other: &Names) -> Ordering
-        ensures { result ≡ name_cmp self.now.1 other.now.1 }
-    {
-        match self.hash().cmp(&other.hash()) {
-            Ordering::Equal => self.compare_client_bytes(other),
-            apart => apart,
-        }
-    }
-
-    fn hash(&self) -> u32
+    /// Returns the hash of the client's name.
+    pub(crate) fn client_hash(&self) -> u32
         ensures { result ≡ hash_of self.now.1 }
     {
         self.client_hash
     }
 
-    fn compare_client_bytes(&self, other: &Names) -> Ordering
+    /// Compares the clients, by the hashes of their names first, and then the services.
+    pub(crate) fn compare(&self, other: &Names) -> Ordering
+        ensures { result ≡ pair_cmp self.now other.now }
+    {
+        match self.compare_clients(other) {
+            Ordering::Equal => self.compare_servers(other),
+            apart => apart,
+        }
+    }
+
+    fn compare_clients(&self, other: &Names) -> Ordering
+        ensures { result ≡ name_cmp self.now.1 other.now.1 }
+    {
+        match self.client_hash().cmp(&other.client_hash()) {
+            Ordering::Equal => self.compare_client_bytes(other),
+            apart => apart,
+        }
+    }
+
+    /// Compares the names of the clients by their bytes alone.
+    pub(crate) fn compare_client_bytes(&self, other: &Names) -> Ordering
         ensures { result ≡ bytes_cmp self.now.1 other.now.1 }
     {
         self.client().cmp(&other.client())
@@ -111,4 +122,14 @@ fn size_of(name: &Principal) -> usize {
         size = size.saturating_add(component.len()).saturating_add(8);
     }
     size
+}
+
+// The same length in 4 bytes. It fails if the length needs more.
+fn in_four_bytes(len: usize) -> Result<u32, AllocError>
+    ensures { IfOk result (λ short. short ≡ len) }
+{
+    match u32::try_from(len) {
+        Ok(short) => Ok(short),
+        Err(_) => Err(AllocError),
+    }
 }

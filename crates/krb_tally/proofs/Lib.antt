@@ -1,3 +1,4 @@
+mod AddedLaws
 pub mod BucketLaws
 pub mod OrderLaws
 pub mod RemovalLaws

@@ -1,5 +1,5 @@
 -- Removing a time, if it is there and isn't the only one; and that there is still one.
-use Rattle.std.proofs.Common.{◌≡◌, ◌≢◌, ◌<◌, ◌∙◌, zero, ℤ, Bool, true, false, Option, Some, None, Result, Ok, Err, List, ◌∷◌, All, Contains, MatchOption, OnErr, OnOk, length, refl, sym, subst, ap, arith}
+use Rattle.std.proofs.Common.{◌≡◌, ◌≢◌, ◌<◌, ◌∙◌, zero, ℤ, Bool, true, false, Option, Some, None, Result, Ok, Err, List, [], ◌∷◌, All, Contains, MatchOption, OnErr, OnOk, length, refl, sym, subst, ap, arith}
 use Rattle.std.specs.Option.{is_some}
 use Rattle.std.specs.List.Sorted.{IsPermutation}
 use Rattle.std.proofs.lemmas.List.Elements.{All-contains}
@@ -35,6 +35,16 @@ gone old new time more here less = record {
   removed = λ e. less;
   kept = λ e. absurd (cc);
 }
+
+-- one of two goes
+pub one_of_two : (old was : List ℤ) (time said other : ℤ) → was ≡ old → said ≡ time → IsPermutation was (said ∷ other ∷ []) → Contains old time × (1 < length old)
+one_of_two old was time said other same t less =
+    let also : IsPermutation old (time ∷ other ∷ []) =
+    subst (λ (times : List ℤ). IsPermutation times (time ∷ other ∷ [])) same (subst (λ (one : ℤ). IsPermutation was (one ∷ other ∷ [])) t less) in
+    let long = length_permutation old (time ∷ other ∷ []) also in (
+      Contains-permutation (time ∷ other ∷ []) old time (IsPermutation-sym old (time ∷ other ∷ []) also) (zero, omega arith, refl),
+      omega arith,
+    )
 
 -- what a tally answers
 pub taken_out : (answer : Option ℤ) (old new : List ℤ) (said time : ℤ) → said ≡ time → 1 < length old

@@ -116,3 +116,24 @@ fn counts_the_times_of_one_owner(rt: HostRuntime) -> Result<(), Fail> {
     assert_eq!(rt; times.since(7), 1);
     Ok(())
 }
+
+// Two times: near each other in either order, the same, and too far apart to be kept as one.
+#[test]
+fn counts_two_times_of_one_owner(rt: HostRuntime) -> Result<(), Fail> {
+    for (one, other) in [
+        (5, 7),
+        (7, 5),
+        (7, 7),
+        (0, 1i64 << 32),
+        (i64::MIN, i64::MAX),
+    ] {
+        let mut times = Times::new(one);
+        times.add(rt.alloc(), other)?;
+        assert_eq!(rt; times.len(), 2);
+        assert_eq!(rt; times.since(one), 1 + usize::from(one <= other));
+        assert!(rt; times.remove(one));
+        assert_eq!(rt; times.since(other), 1);
+        assert!(rt; !times.remove(other));
+    }
+    Ok(())
+}
