@@ -10,7 +10,6 @@ ghost use Rattle.krb_replay.specs.Memory.{AddsStamp};
 
 use crate::client_times::ClientTimes;
 use crate::counts::Counts;
-use crate::held_tuple::HeldTuple;
 use crate::pair::{ByClient, Pair};
 use crate::tuple::Tuple;
 use krb_tally::{Tally, Timed};
@@ -25,7 +24,7 @@ use std::marker::Model;
 /// No call moves many tuples: they are in buckets.
 #[derive(Debug, Drop)]
 pub(crate) struct Held {
-    tuples: Tally<HeldTuple>,
+    tuples: Tally<Tuple>,
     pairs: Counts<Pair>,
     clients: ClientTimes,
 }
@@ -58,7 +57,7 @@ impl Held {
     pub(crate) fn contains(&self, tuple: &Tuple) -> bool
         ensures { IsTrue result ↔ Contains self.now tuple.now }
     {
-        self.tuples.has(tuple.held())
+        self.tuples.has(tuple)
     }
 
     pub(crate) fn len(&self) -> usize
@@ -89,14 +88,14 @@ impl Held {
         ensures grows { length self.new ≤ length self.old + 1 }
         ensures before { (oldest : ℤ) → oldest ≤ℤ tuple.time → number_before None oldest self.new ≡ number_before None oldest self.old }
     {
-        if self.tuples.has(tuple.held()) {
+        if self.tuples.has(&tuple) {
             return Ok(());
         }
         let tuple = share_names(&self.pairs, tuple)?;
-        let (held, names) = tuple.into_parts();
-        let time = held.timestamp();
+        let names = tuple.share_names()?;
+        let time = tuple.timestamp();
         count(&mut self.clients, &mut self.pairs, &names, time)?;
-        match self.tuples.add(held) {
+        match self.tuples.add(tuple) {
             Ok(()) => Ok(()),
             Err(_) => {
                 uncount(&mut self.clients, &mut self.pairs, &names, time);
@@ -127,9 +126,13 @@ impl Held {
         ensures rest { self.new ≡ drop 1 self.old }
     {
         match self.tuples.pop_first() {
-            Some(first) => {
-                let (time, names) = first.into_parts();
-                uncount(&mut self.clients, &mut self.pairs, &names, time.micros());
+            Some(tuple) => {
+                uncount(
+                    &mut self.clients,
+                    &mut self.pairs,
+                    tuple.names(),
+                    tuple.timestamp(),
+                );
                 true
             }
             None => false,
@@ -180,7 +183,7 @@ fn share_names(pairs: &Counts<Pair>, tuple: Tuple) -> Result<Tuple, AllocError>
         Some(pair) => pair.share()?,
         None => return Ok(tuple),
     };
-    tuple.with_names(shared)
+    Ok(tuple.with_names(shared))
 }
 
 // Counts a tuple of these names and this time for its client and its names, or for neither.

@@ -18,7 +18,6 @@
 mod client_times;
 mod counts;
 mod held;
-mod held_tuple;
 pub mod laws;
 mod limited;
 mod list;

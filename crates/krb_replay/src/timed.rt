@@ -84,7 +84,7 @@ impl TimedMemory {
     /// A tuple takes 24 bytes, its buckets have at most an eighth more room if tuples come in the
     /// order of their times, and the lists of buckets take less than 1 byte for each. Not counted
     /// is the room of a bucket's freed tuples, until its last one is freed: at most 10,000 bytes, and
-    /// 5,000 for each client. Names as short as `host/web@EX` and `alice@EX` take 190 bytes, and each
+    /// 5,000 for each client. Names as short as `host/web@EX` and `alice@EX` take 170 bytes, and each
     /// further letter 1 more. A client's third tuple takes 40 bytes more, for the list of its times.
     /// The heap's own headers aren't counted.
     pub fn bytes(&self) -> usize

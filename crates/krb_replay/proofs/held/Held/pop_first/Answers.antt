@@ -23,26 +23,26 @@ takes_for old new names time tuple is at takes =
 
 pub uncount-requires-clause-client : goal.uncount-requires-clause-client
 uncount-requires-clause-client c =
-    there_for c.self.inside.clients.times c.into_parts-time.result.1 _ c.in-Some.first c.into_parts-time.ensures.names (let time = c.micros.ensures in let at = c.into_parts-time.ensures.time in omega (arith, ints))
-    (first_timed client_cmp client_total c.in-Some.first c.pop_first.new.self c.self.inside.clients.times
+    there_for c.self.inside.clients.times c.names.result.now _ c.in-Some.tuple c.names.ensures (let time = c.timestamp.ensures in omega (arith, ints))
+    (first_timed client_cmp client_total c.in-Some.tuple c.pop_first.new.self c.self.inside.clients.times
     (subst (λ (stamps : List Stamp). AreTimed client_cmp stamps c.self.inside.clients.times) c.in-Some.ensures c.self.invariant.1.0))
 
 pub uncount-requires-clause-pair : goal.uncount-requires-clause-pair
 uncount-requires-clause-pair c =
-    subst (λ (names : TwoNames). 0 < count_by pair_cmp c.self.inside.pairs.counts names) (sym c.into_parts-time.ensures.names)
-    (first_counts pair_cmp pair_total c.in-Some.first c.pop_first.new.self c.self.inside.pairs.counts
+    subst (λ (names : TwoNames). 0 < count_by pair_cmp c.self.inside.pairs.counts names) (sym c.names.ensures)
+    (first_counts pair_cmp pair_total c.in-Some.tuple c.pop_first.new.self c.self.inside.pairs.counts
     (subst (λ (stamps : List Stamp). AreCounted pair_cmp stamps c.self.inside.pairs.counts) c.in-Some.ensures c.self.invariant.1.1))
 
 pub invariant_of-self : goal.invariant_of-self
 invariant_of-self c = (
-  once_rest_counts c.in-Some.first c.pop_first.new.self (subst (λ (stamps : List Stamp). IsOnce stamps) c.in-Some.ensures c.self.invariant.0),
+  once_rest_counts c.in-Some.tuple c.pop_first.new.self (subst (λ (stamps : List Stamp). IsOnce stamps) c.in-Some.ensures c.self.invariant.0),
   (
-    timed_less client_cmp c.in-Some.first c.pop_first.new.self c.self.inside.clients.times c.uncount.new.clients.times
+    timed_less client_cmp c.in-Some.tuple c.pop_first.new.self c.self.inside.clients.times c.uncount.new.clients.times
         (subst (λ (stamps : List Stamp). AreTimed client_cmp stamps c.self.inside.clients.times) c.in-Some.ensures c.self.invariant.1.0)
-        (takes_for c.self.inside.clients.times c.uncount.new.clients.times c.into_parts-time.result.1 _ c.in-Some.first c.into_parts-time.ensures.names
-        (let time = c.micros.ensures in let at = c.into_parts-time.ensures.time in omega (arith, ints)) c.uncount.ensures.client),
-    counted_less pair_cmp c.in-Some.first c.pop_first.new.self c.self.inside.pairs.counts c.uncount.new.pairs.counts
+        (takes_for c.self.inside.clients.times c.uncount.new.clients.times c.names.result.now _ c.in-Some.tuple c.names.ensures
+        (let time = c.timestamp.ensures in omega (arith, ints)) c.uncount.ensures.client),
+    counted_less pair_cmp c.in-Some.tuple c.pop_first.new.self c.self.inside.pairs.counts c.uncount.new.pairs.counts
         (subst (λ (stamps : List Stamp). AreCounted pair_cmp stamps c.self.inside.pairs.counts) c.in-Some.ensures c.self.invariant.1.1)
-        (subst (λ (names : TwoNames). TakesOne pair_cmp c.self.inside.pairs.counts c.uncount.new.pairs.counts names) c.into_parts-time.ensures.names c.uncount.ensures.pair),
+        (subst (λ (names : TwoNames). TakesOne pair_cmp c.self.inside.pairs.counts c.uncount.new.pairs.counts names) c.names.ensures c.uncount.ensures.pair),
   ),
 )
