@@ -1,14 +1,13 @@
-use Rattle.std.proofs.Common.{[]}
-use Rattle.krb_msg.specs.Borrowed.{ap_req_of, enc_ticket_part_of, authenticator_of}
+use Rattle.std.proofs.Common.{[], sym}
+use Rattle.krb_msg.specs.Borrowed.{ap_req_of, enc_ticket_part_of}
 use Rattle.krb_msg.specs.Module.{authenticator, enc_ticket_part}
 use Rattle.krb_ap.specs.Setup.{arrival}
-use Rattle.krb_ap.specs.Opened.{AsksWithin, Authenticated, Keyed, Ticketed, entry_key, session_key, authenticator_usage, ticket_usage}
+use Rattle.krb_ap.specs.Opened.{AsksWithin, Keyed, Ticketed, entry_key, session_key, authenticator_usage, ticket_usage}
 use Rattle.krb_ap.proofs.Truth.{err_is, if_ok, is_not, is_so}
-use Rattle.krb_ap.proofs.TurnedAway.{authenticator_shut, key_unusable, opens_nothing, opens_to_none, other_client, ticket_shut, turned_away, wanted, wants_by}
-use Rattle.krb_ap.proofs.AsJudged.{judged_far, judged_new, judged_repeat, serves}
+use Rattle.krb_ap.proofs.TurnedAway.{authenticator_shut, key_unusable, opens_nothing, opens_to_none, ticket_shut, turned_away, wanted, wants_by}
 use Rattle.krb_ap.proofs.Offsets.{cause_within}
 use Rattle.krb_ap.proofs.judging.Judge.judge.Goals as goal
-use Rattle.krb_ap.proofs.judging.Judge.judge.Goals.{In_ok-check_size, In_ok-entry, In_ok-part, In_ok-auth}
+use Rattle.krb_ap.proofs.judging.Judge.judge.Goals.{In_ok-check_size, In_ok-entry, In_ok-part}
 
 -- ---- what the steps so far have found
 
@@ -23,17 +22,6 @@ ticketed g c = record {
   entry = c.in_ok-entry.entry.now;
   keyed = record { asks = c.in_ok-request.ensures.read; chosen_is = rw c.in_ok-server.ensures at c.in_ok-entry.ensures.chosen };
   opens = record { plain = _; opens = c.in_ok-open.ensures.opened; message = rw c.plain.ensures at c.in_ok-part.ensures.found };
-}
-
-authenticated : (g : _) (c : In_ok-auth g) → Ticketed c.args.self.now.rules c.args.bytes.now (ap_req_of c.in_ok-request.request) (enc_ticket_part_of c.in_ok-part.part)
-    → Authenticated c.args.self.now.rules c.args.bytes.now (ap_req_of c.in_ok-request.request) (enc_ticket_part_of c.in_ok-part.part) (authenticator_of c.in_ok-auth.auth)
-authenticated g c t = record {
-  ticketed = t;
-  usable = (is_so _ _ c.is_usable.ensures c.in_ok-require.ensures.so);
-  opens = record {
-    same_type = is_so _ _ c.is_of_type.ensures c.in_ok-require-2.ensures.so;
-    opens = record { plain = _; opens = c.in_ok-plain.ensures.opened; message = rw c.as_slice.ensures.value at c.in_ok-auth.ensures.found };
-  };
 }
 
 -- ---- what it asks for, and the key
@@ -97,55 +85,24 @@ returns-in_err-plain-clause-judged g c = rw (err_is _ c.from_residual-in_err-pla
 pub returns-in_err-plain-clause-memory : goal.returns-in_err-plain-clause-memory
 returns-in_err-plain-clause-memory g c = λ memory. asks_within g (goal.at.returns-in_err-plain-clause-memory g c).In_ok-check_size
 
-pub returns-in_err-auth-clause-judged : goal.returns-in_err-auth-clause-judged
-returns-in_err-auth-clause-judged g c = rw (err_is _ c.from_residual-in_err-auth.ensures) (λ history moment stands eff named.
-    rw c.in_err-auth.ensures.refused (authenticator_shut c.facts.ensures c.args.self.now.rules history c.args.bytes.now moment _ (ap_req_of c.in_ok-request.request) (enc_ticket_part_of c.in_ok-part.part)
-    (ticketed g (goal.at.returns-in_err-auth-clause-judged g c).In_ok-part)
-    (is_so _ _ c.is_usable.ensures c.in_ok-require.ensures.so) (λ auth opens. opens_to_none c.facts.ensures (session_key (enc_ticket_part_of c.in_ok-part.part)) authenticator_usage _ _ authenticator
-    c.in_ok-plain.ensures.opened (rw c.as_slice.ensures.value at c.in_err-auth.ensures.none) auth opens.opens)))
+-- ---- what is decrypted
 
-pub returns-in_err-require-3-clause-judged : goal.returns-in_err-require-3-clause-judged
-returns-in_err-require-3-clause-judged g c = rw (err_is _ c.from_residual-in_err-require-3.ensures) (λ history moment stands eff named.
-    let at = goal.at.returns-in_err-require-3-clause-judged g c in
-    rw c.in_err-require-3.ensures.not_so.0 (other_client c.facts.ensures c.args.self.now.rules history c.args.bytes.now moment _ (ap_req_of c.in_ok-request.request) (enc_ticket_part_of c.in_ok-part.part) (authenticator_of c.in_ok-auth.auth)
-    (authenticated g at.In_ok-auth (ticketed g at.In_ok-part)) (is_not _ _ c.is_same_client.ensures c.in_err-require-3.ensures.not_so.1)))
-
--- ---- what was opened
-
-pub returns-in_err-require-4-clause-judged : goal.returns-in_err-require-4-clause-judged
-returns-in_err-require-4-clause-judged g c =
-    let at = goal.at.returns-in_err-require-4-clause-judged g c in
-    rw (err_is _ c.from_residual-in_err-require-4.ensures) (rw c.in_err-require-4.ensures.not_so.0 (judged_far c.facts.ensures c.args.self.now.rules
-    (g.M.ReplayMemory.has c.args.memory.now) (g.M.ReplayMemory.newest c.args.memory.now) c.args.bytes.now (ap_req_of c.in_ok-request.request) (enc_ticket_part_of c.in_ok-part.part) (authenticator_of c.in_ok-auth.auth)
-    (record { authenticated = authenticated g at.In_ok-auth (ticketed g at.In_ok-part); same_client = is_so _ _ c.is_same_client.ensures c.in_ok-require-3.ensures.so }) c.args.now
-    (is_not _ _ c.is_near.ensures c.in_err-require-4.ensures.not_so.1)))
-
-pub returns-in_err-tuple-clause-memory : goal.returns-in_err-tuple-clause-memory
-returns-in_err-tuple-clause-memory g c = λ memory. asks_within g (goal.at.returns-in_err-tuple-clause-memory g c).In_ok-check_size
-
-pub returns-in_err-require-5-clause-judged : goal.returns-in_err-require-5-clause-judged
-returns-in_err-require-5-clause-judged g c =
-    let at = goal.at.returns-in_err-require-5-clause-judged g c in
-    rw (err_is _ c.from_residual-in_err-require-5.ensures) (rw c.in_err-require-5.ensures.not_so.0 (judged_repeat c.facts.ensures c.args.self.now.rules
-    (g.M.ReplayMemory.has c.args.memory.now) (g.M.ReplayMemory.newest c.args.memory.now) c.args.bytes.now (ap_req_of c.in_ok-request.request) (enc_ticket_part_of c.in_ok-part.part) (authenticator_of c.in_ok-auth.auth)
-    (record { authenticated = authenticated g at.In_ok-auth (ticketed g at.In_ok-part); same_client = is_so _ _ c.is_same_client.ensures c.in_ok-require-3.ensures.so }) c.args.now
-    (is_so _ _ c.is_near.ensures c.in_ok-require-4.ensures.so) c.in_ok-tuple.tuple (rw c.in_ok-server.ensures at c.in_ok-tuple.ensures) (c.is_new.ensures.seen c.in_err-require-5.ensures.not_so.1)))
-
-pub judge_new-requires : goal.judge_new-requires
-judge_new-requires g c = is_so _ _ c.is_usable.ensures c.in_ok-require.ensures.so
+pub judge_decrypted-requires : goal.judge_decrypted-requires
+judge_decrypted-requires g c = is_so _ _ c.is_usable.ensures c.in_ok-require.ensures.so
 
 pub returns-clause-judged : goal.returns-clause-judged
-returns-clause-judged g c =
-    let at = goal.at.returns-clause-judged g c in
-    judged_new c.facts.ensures c.args.self.now.rules
-    (g.M.ReplayMemory.has c.args.memory.now) (g.M.ReplayMemory.newest c.args.memory.now) c.args.bytes.now (ap_req_of c.in_ok-request.request) (enc_ticket_part_of c.in_ok-part.part) (authenticator_of c.in_ok-auth.auth)
-    (record { authenticated = authenticated g at.In_ok-auth (ticketed g at.In_ok-part); same_client = is_so _ _ c.is_same_client.ensures c.in_ok-require-3.ensures.so }) c.args.now
-    (is_so _ _ c.is_near.ensures c.in_ok-require-4.ensures.so) c.in_ok-tuple.tuple (rw c.in_ok-server.ensures at c.in_ok-tuple.ensures) (c.is_new.ensures.new c.in_ok-require-5.ensures.so)
-    c.judge_new.result c.judge_new.ensures.tuple c.judge_new.ensures.answer c.judge_new.ensures.memory
+returns-clause-judged g c = c.judge_decrypted.ensures.judged c.args.bytes.now (record {
+  ticketed = ticketed g (goal.at.returns-clause-judged g c).In_ok-part;
+  usable = is_so _ _ c.is_usable.ensures c.in_ok-require.ensures.so;
+  same_type = is_so _ _ c.is_of_type.ensures c.in_ok-require-2.ensures.so;
+  opens = rw (sym c.as_slice.ensures.value) at c.in_ok-plain.ensures.opened;
+}) c.in_ok-server.ensures
+
+pub returns-clause-placed : goal.returns-clause-placed
+returns-clause-placed g c = c.judge_decrypted.ensures.placed c.args.bytes.now
 
 pub returns-clause-asks : goal.returns-clause-asks
-returns-clause-asks g c = if_ok c.judge_new.result (asks_within g (goal.at.returns-clause-asks g c).In_ok-check_size)
+returns-clause-asks g c = if_ok c.judge_decrypted.result (asks_within g (goal.at.returns-clause-asks g c).In_ok-check_size)
 
 pub returns-clause-service : goal.returns-clause-service
-returns-clause-service g c = serves c.args.self.now.rules c.args.bytes.now (ap_req_of c.in_ok-request.request) (enc_ticket_part_of c.in_ok-part.part) (authenticator_of c.in_ok-auth.auth)
-    c.args.now c.in_ok-request.ensures.read c.judge_new.result c.judge_new.ensures.answer
+returns-clause-service g c = c.judge_decrypted.ensures.service c.args.bytes.now c.in_ok-request.ensures.read
