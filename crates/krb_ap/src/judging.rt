@@ -130,6 +130,7 @@ impl Judge {
 impl Rules {
     /// Refuses a ticket for a service whose name is larger than each of the keytab. It allocates no
     /// memory.
+    #[inline(never)]
     fn check_size(&self, ticket: &TicketRef) -> Result<(), Refusal>
         ensures size { OnOk result (IsNoLarger self.now.entries (ticket_service (ticket_of ticket.now))) }
         ensures wanting { IfErr result (Wants self.now.entries (ticket_service (ticket_of ticket.now)) (encrypted_of ticket.now.enc_part)) }
@@ -142,6 +143,7 @@ impl Rules {
     }
 
     /// The entry of the keytab whose key is used for a service's ticket. It allocates no memory.
+    #[inline(never)]
     fn chosen_entry(&self, service: &Principal, sealed: &EncryptedRef) -> Result<&Entry, Refusal>
         ensures chosen { IfOk result (λ entry. IsChoice self.now.entries service.now
             (encrypted_fields (encrypted_of sealed.now)).etype (encrypted_fields (encrypted_of sealed.now)).kvno (chosen entry.now)) }

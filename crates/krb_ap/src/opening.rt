@@ -26,6 +26,7 @@ pub(crate) fn require(holds: bool, refusal: Refusal) -> Result<(), Refusal>
 }
 
 /// Reads a request of the ordinary kind (not user-to-user). It allocates no memory.
+#[inline(never)]
 pub(crate) fn read_request<'a>(bytes: &'a [u8]) -> Result<ApReqRef<'a>, Refusal>
     ensures read { IfOk result (λ request. Asks bytes.entry.now (ap_req_of request)) }
     ensures refused { IfErr result (IsCauseOfBytes bytes.entry.now) }
