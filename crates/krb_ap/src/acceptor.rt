@@ -240,22 +240,21 @@ impl<M: ReplayMemory> Acceptor<M> {
     {
         facts();
         let now = self.effective(now);
-        let judged = match self.judge(alloc, bytes, now) {
-            Ok(judged) => judged,
+        match self.judge(alloc, bytes, now) {
+            Ok(judged) => match self.remember(judged.tuple, now) {
+                Ok(()) => {
+                    self.advance(now);
+                    judged.answer
+                }
+                Err(_) => Err(Refusal::OutOfMemory),
+            },
             Err(refusal) => {
                 if is_memory(&refusal) {
                     return Err(refusal);
                 }
                 self.advance(now);
-                return Err(refusal);
+                Err(refusal)
             }
-        };
-        match self.remember(judged.tuple, now) {
-            Ok(()) => {
-                self.advance(now);
-                judged.answer
-            }
-            Err(_) => Err(Refusal::OutOfMemory),
         }
     }
 

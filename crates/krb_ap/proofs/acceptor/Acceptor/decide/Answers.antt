@@ -25,33 +25,33 @@ returns-then-is_memory-clause-goes_on g c = rw c.judge.ensures.same (λ history 
     (ap (after_refusal history (arrival c.args.bytes.now c.args.now)) (sym is))
     (record { stands = stands; keeps = λ keeping exact. exact; forgets = λ forgetting named. absurd (named (ap Err is)) }))
 
-pub returns-in-Err-clause-goes_on : goal.returns-in-Err-clause-goes_on
-returns-in-Err-clause-goes_on g c = λ history stands.
+pub returns-else-is_memory-clause-goes_on : goal.returns-else-is_memory-clause-goes_on
+returns-else-is_memory-clause-goes_on g c = λ history stands.
     let named : _ = is_not _ _ c.is_memory.ensures c.if-is_memory.false in
     let eff : c.effective-now.result ≡ effective history c.args.now = c.effective-now.ensures ∙ ap (λ l. later_of l c.args.now) stands.latest_is in
     let turned : IsTurnedAway c.args.self.now.setup history (arrival c.args.bytes.now c.args.now) (g.M.ReplayMemory.has c.args.self.now.memory) c.in-Err.refusal =
     c.in-Err.ensures.judged history c.args.now stands eff named in
-    after_advance _ _ c.args.self.now.setup c.advance.new.self.setup history _ c.args.bytes.now c.args.now c.effective-now.result
-    (g.M.ReplayMemory.has c.args.self.now.memory) (g.M.ReplayMemory.has c.args.self.now.memory) (g.M.ReplayMemory.has c.advance.new.self.memory)
-    (g.M.ReplayMemory.newest c.args.self.now.memory) (g.M.ReplayMemory.newest c.args.self.now.memory) (g.M.ReplayMemory.newest c.advance.new.self.memory) _
-    (after_named history (arrival c.args.bytes.now c.args.now) c.in-Err.refusal named) stands c.effective-now.ensures refl (rw c.judge.ensures.same at c.advance.ensures.newest) (rw c.judge.ensures.same at c.advance.ensures.setup)
+    after_advance _ _ c.args.self.now.setup c.advance-in-Err.new.self.setup history _ c.args.bytes.now c.args.now c.effective-now.result
+    (g.M.ReplayMemory.has c.args.self.now.memory) (g.M.ReplayMemory.has c.args.self.now.memory) (g.M.ReplayMemory.has c.advance-in-Err.new.self.memory)
+    (g.M.ReplayMemory.newest c.args.self.now.memory) (g.M.ReplayMemory.newest c.args.self.now.memory) (g.M.ReplayMemory.newest c.advance-in-Err.new.self.memory) _
+    (after_named history (arrival c.args.bytes.now c.args.now) c.in-Err.refusal named) stands c.effective-now.ensures refl (rw c.judge.ensures.same at c.advance-in-Err.ensures.newest) (rw c.judge.ensures.same at c.advance-in-Err.ensures.setup)
     (λ stamp had. inl had) (λ stamp either. elim either [ inl had ↦ had | inr shows ↦ turned.had stamp shows ])
-    (rw c.judge.ensures.same at c.advance.ensures.none_added) (rw c.judge.ensures.same at c.advance.ensures.kept)
-    (rw c.judge.ensures.same at c.advance.ensures.keeps) (rw c.judge.ensures.same at c.advance.ensures.forgets)
+    (rw c.judge.ensures.same at c.advance-in-Err.ensures.none_added) (rw c.judge.ensures.same at c.advance-in-Err.ensures.kept)
+    (rw c.judge.ensures.same at c.advance-in-Err.ensures.keeps) (rw c.judge.ensures.same at c.advance-in-Err.ensures.forgets)
 
-pub returns-in-Err-clause-unchanged : goal.returns-in-Err-clause-unchanged
-returns-in-Err-clause-unchanged g c = λ memory. absurd (is_not _ _ c.is_memory.ensures c.if-is_memory.false (refusal_of _ _ memory))
+pub returns-else-is_memory-clause-unchanged : goal.returns-else-is_memory-clause-unchanged
+returns-else-is_memory-clause-unchanged g c = λ memory. absurd (is_not _ _ c.is_memory.ensures c.if-is_memory.false (refusal_of _ _ memory))
 
 pub returns-then-is_memory-clause-moves : goal.returns-then-is_memory-clause-moves
 returns-then-is_memory-clause-moves g c = λ named. absurd (named (ap Err (is_so _ _ c.is_memory.ensures c.if-is_memory.true)))
 
-pub returns-in-Err-clause-moves : goal.returns-in-Err-clause-moves
-returns-in-Err-clause-moves g c = λ named.
-    moved_on _ _ _ c.args.now c.effective-now.result c.effective-now.ensures refl (rw c.judge.ensures.same at c.advance.ensures.newest)
+pub returns-else-is_memory-clause-moves : goal.returns-else-is_memory-clause-moves
+returns-else-is_memory-clause-moves g c = λ named.
+    moved_on _ _ _ c.args.now c.effective-now.result c.effective-now.ensures refl (rw c.judge.ensures.same at c.advance-in-Err.ensures.newest)
 
 pub returns-in-Ok-remember-clause-moves : goal.returns-in-Ok-remember-clause-moves
 returns-in-Ok-remember-clause-moves g c = λ named.
-    moved_on _ _ _ c.args.now c.effective-now.result c.effective-now.ensures (rw c.judge.ensures.same at c.in-Ok-remember.ensures.newest) c.advance-in-Ok-remember.ensures.newest
+    moved_on _ _ _ c.args.now c.effective-now.result c.effective-now.ensures (rw c.judge.ensures.same at c.in-Ok-remember.ensures.newest) c.advance.ensures.newest
 
 pub returns-in-Ok-remember-clause-goes_on : goal.returns-in-Ok-remember-clause-goes_on
 returns-in-Ok-remember-clause-goes_on g c = λ history stands.
@@ -60,11 +60,11 @@ returns-in-Ok-remember-clause-goes_on g c = λ history stands.
     c.in-Ok.ensures.judged history c.args.now stands eff in
     let same : c.remember.new.self.setup ≡ c.args.self.now.setup = rw c.judge.ensures.same at c.in-Ok-remember.ensures.setup in
     let IsRecentBy : Stamp → Setup → Type 0 = λ stamp s. IsRecent (later_of (g.M.ReplayMemory.newest c.remember.new.self.memory) c.effective-now.result) s.skew stamp in
-    after_advance _ _ c.args.self.now.setup c.advance-in-Ok-remember.new.self.setup history _ c.args.bytes.now c.args.now c.effective-now.result
-    (g.M.ReplayMemory.has c.args.self.now.memory) (g.M.ReplayMemory.has c.remember.new.self.memory) (g.M.ReplayMemory.has c.advance-in-Ok-remember.new.self.memory)
-    (g.M.ReplayMemory.newest c.args.self.now.memory) (g.M.ReplayMemory.newest c.remember.new.self.memory) (g.M.ReplayMemory.newest c.advance-in-Ok-remember.new.self.memory) _
-    (after_answer history (arrival c.args.bytes.now c.args.now) c.in-Ok.judged.answer c.in-Ok.ensures.named) stands c.effective-now.ensures (rw c.judge.ensures.same at c.in-Ok-remember.ensures.newest) c.advance-in-Ok-remember.ensures.newest
-    (c.advance-in-Ok-remember.ensures.setup ∙ same)
+    after_advance _ _ c.args.self.now.setup c.advance.new.self.setup history _ c.args.bytes.now c.args.now c.effective-now.result
+    (g.M.ReplayMemory.has c.args.self.now.memory) (g.M.ReplayMemory.has c.remember.new.self.memory) (g.M.ReplayMemory.has c.advance.new.self.memory)
+    (g.M.ReplayMemory.newest c.args.self.now.memory) (g.M.ReplayMemory.newest c.remember.new.self.memory) (g.M.ReplayMemory.newest c.advance.new.self.memory) _
+    (after_answer history (arrival c.args.bytes.now c.args.now) c.in-Ok.judged.answer c.in-Ok.ensures.named) stands c.effective-now.ensures (rw c.judge.ensures.same at c.in-Ok-remember.ensures.newest) c.advance.ensures.newest
+    (c.advance.ensures.setup ∙ same)
     (λ stamp had. elim (((rw c.judge.ensures.same at c.in-Ok-remember.ensures.ok) stamp).0 had) [
       | inl made ↦ inr (subst (λ (s : Stamp). Shows c.args.self.now.setup (effective history c.args.now) c.args.bytes.now s) (sym made) judged.shows)
       | inr had ↦ inl had
@@ -73,9 +73,9 @@ returns-in-Ok-remember-clause-goes_on g c = λ history stands.
       | inl had ↦ inr had
       | inr shows ↦ inl (one_stamp c.facts.ensures c.args.self.now.setup history c.args.bytes.now c.args.now (effective history c.args.now) c.in-Ok.judged.tuple stamp judged.shows shows)
     ]))
-    c.advance-in-Ok-remember.ensures.none_added
-    (λ stamp had r. c.advance-in-Ok-remember.ensures.kept stamp had (subst (IsRecentBy stamp) (sym same) r)) c.advance-in-Ok-remember.ensures.keeps
-    (λ forgetting stamp new. subst (IsRecentBy stamp) same (c.advance-in-Ok-remember.ensures.forgets forgetting stamp new))
+    c.advance.ensures.none_added
+    (λ stamp had r. c.advance.ensures.kept stamp had (subst (IsRecentBy stamp) (sym same) r)) c.advance.ensures.keeps
+    (λ forgetting stamp new. subst (IsRecentBy stamp) same (c.advance.ensures.forgets forgetting stamp new))
 
 pub returns-in-Ok-remember-clause-memory : goal.returns-in-Ok-remember-clause-memory
 returns-in-Ok-remember-clause-memory g c = λ memory. c.in-Ok.ensures.asks
@@ -101,15 +101,15 @@ returns-then-is_memory-clause-limit g c = rw c.judge.ensures.same (λ history st
   counted = inl refl;
 })
 
-pub returns-in-Err-clause-limit : goal.returns-in-Err-clause-limit
-returns-in-Err-clause-limit g c = λ history stands.
+pub returns-else-is_memory-clause-limit : goal.returns-else-is_memory-clause-limit
+returns-else-is_memory-clause-limit g c = λ history stands.
     let named : _ = is_not _ _ c.is_memory.ensures c.if-is_memory.false in
     let eff : c.effective-now.result ≡ effective history c.args.now = c.effective-now.ensures ∙ ap (λ l. later_of l c.args.now) stands.latest_is in
     let turned : IsTurnedAway c.args.self.now.setup history (arrival c.args.bytes.now c.args.now) (g.M.ReplayMemory.has c.args.self.now.memory) c.in-Err.refusal =
     c.in-Err.ensures.judged history c.args.now stands eff named in
     record {
       full = λ stamp past. absurd (past.1.0 (turned.had stamp past.0));
-      counted = inl (rw c.judge.ensures.same at c.advance.ensures.refusals);
+      counted = inl (rw c.judge.ensures.same at c.advance-in-Err.ensures.refusals);
     }
 
 -- the moment that counts, as the memory has it
@@ -134,7 +134,7 @@ returns-in-Ok-remember-clause-limit g c = λ history stands.
           (subst (IsPast (effective history c.args.now)) same past.1))).0 in
           absurd (cc);
       counted = elim (rw c.judge.ensures.same at c.in-Ok-remember.ensures.refused) [
-        | inl e ↦ inl (c.advance-in-Ok-remember.ensures.refusals ∙ e)
+        | inl e ↦ inl (c.advance.ensures.refusals ∙ e)
         | inr h ↦ (let failed = h.1.0 in absurd (cc))
       ];
     }
