@@ -1,8 +1,9 @@
 -- When a service accepts the request that a client built, and what both then agree on (RFC 4120,
 -- sections 3.2.2 and 3.2.3).
-use Rattle.std.specs.Prelude.{◌≡◌, ◌⊎◌, ℤ, List}
+use Rattle.std.specs.Prelude.{◌≡◌, ◌⊎◌, ℕ, ℤ, List}
 use Rattle.std.specs.Option.{option_map}
 use Rattle.krb_name.specs.Name.{SameName}
+use Rattle.krb_name.specs.declared.principal.Principal.{Principal}
 use Rattle.krb_der.specs.Kind.{ValueOf}
 use Rattle.krb_der.specs.Spells.{IsMessage}
 use Rattle.krb_der.specs.Flags.{HasBit}
@@ -12,7 +13,9 @@ use Rattle.krb_msg.specs.Fields.{ticket_service, ticket_fields, encrypted_fields
 use Rattle.krb_time.specs.Moments.{micros_of}
 use Rattle.krb_keytab.specs.Entry.{KeytabEntry}
 use Rattle.krb_keytab.specs.Pick.{chosen, IsChoice}
+use Rattle.krb_ccache.specs.Value.{Cache}
 use Rattle.krb_ccache.specs.declared.credential.Credential.{Credential}
+use Rattle.krb_replay.specs.Stamp.{Stamp}
 use Rattle.krb_ap.specs.Setup.{Setup, Arrival}
 use Rattle.krb_ap.specs.Opened.{OpensAs, entry_key, session_key, stamp_at, ticket_usage}
 use Rattle.krb_ap.specs.Times.{Near, Alive, IsEarly, IsLate, MayBeIgnored}
@@ -21,7 +24,8 @@ use Rattle.krb_ap.specs.History.{effective, IsShown}
 use Rattle.krb_ap.specs.Taken.{Taken}
 use Rattle.krb_ap.specs.Written.{key_value}
 use Rattle.krb_ap.specs.Credentials.{credential_key}
-use Rattle.krb_ap.specs.Request.{Awaited}
+use Rattle.krb_ap.specs.Request.{Awaited, IsRequest}
+use Rattle.krb_ap.specs.declared.request.RequestOptions.{RequestOptions}
 use Rattle.krb_ap.specs.declared.refusal.Refusal.{Refusal}
 use Rattle.krb_ap.specs.declared.refusal.Refusal.TheVariants.{Skew, JustStarted, Repeat, NotYetValid, Expired, Transited, Authorization}
 
@@ -34,6 +38,24 @@ pub record HasTicket (setup : Setup) (credential : Credential) (ticket : ValueOf
   pub opens : OpensAs (entry_key entry) ticket_usage (encrypted_fields (ticket_fields ticket).enc_part).cipher enc_ticket_part part
   pub client : SameName (part_client part) credential.client
   pub key : session_key part ≡ credential_key credential
+
+-- bytes that a client built as a request, with a ticket of which the service's keytab has the key
+pub record Built (setup : Setup) (bytes : List ℕ) : Type 0 where
+  pub cache : Cache
+  pub service : Principal
+  pub at : ℤ
+  pub confounder : List ℕ
+  pub options : RequestOptions
+  pub awaited : Awaited
+  pub request : IsRequest cache service at confounder options bytes awaited
+  pub ticket : ValueOf ticket_kind
+  pub part : ValueOf enc_ticket_part
+  pub has_ticket : HasTicket setup request.credential ticket part
+
+-- what such a request is remembered by: the names of the ticket's service and client, and the
+-- client's moment
+abbrev pub built_stamp : {setup : Setup} {bytes : List ℕ} → Built setup bytes → Stamp
+built_stamp built = stamp_at (ticket_service built.ticket) (part_client built.part) built.at
 
 -- after a history the request's moment and the ticket's times are good, nothing else is asked of
 -- the ticket, no request of these names and this moment was shown, and the quiet start is over

@@ -20,5 +20,6 @@ pub mod Headline
 pub mod Reply
 pub mod Finish
 pub mod ErrorReply
+pub mod Words
 pub mod Inner
 pub mod Quiet

@@ -1,17 +1,14 @@
 //! The service's side.
 
-ghost use Rattle.std.specs.Prelude.{◌≡◌, ◌↔◌, ◌⊎◌, List, None, Some, [], IsErr, IsErrAnd, IfOk, IfErr, IsErrOf, IsTrue, map, MatchResult, OnOk, OnErr};
-ghost use Rattle.krb_replay.specs.Limit.{CountsOne};
-ghost use Rattle.krb_replay.specs.Memory.{later_of, AddsStamp, IsRecent, SameStamps};
-ghost use Rattle.krb_replay.specs.Stamp.{Stamp};
-ghost use Rattle.krb_ap.specs.Setup.{Arrival, arrival};
+ghost use Rattle.std.specs.Prelude.{◌≡◌, ◌≢◌, ◌↔◌, ◌⊎◌, ℕ, ℤ, List, None, Some, [], Err, IsErr, IsErrAnd, IfOk, IfErr, IsErrOf, IsTrue, map, MatchResult, OnOk, OnErr};
+ghost use Rattle.krb_ap.specs.Words.{AddsStamp, Arrival, CountsOne, IsRecent, SameStamps, Stamp, arrival, later_of};
 ghost use Rattle.krb_ap.specs.Opened.{AsksFor, AsksWithin, IsOrdinary};
 ghost use Rattle.krb_ap.specs.History.{IsShown, IsShownLately};
 ghost use Rattle.krb_ap.specs.Service.{HeedsLimits, IsPastLimit, SameMemory, Stands};
 ghost use Rattle.krb_ap.specs.Taken.{Accept, Taken};
 ghost use Rattle.krb_ap.specs.Causes.{Cause, IsRemembered, TellsPlaceWithin, place};
 ghost use Rattle.krb_ap.specs.Inner.GoingOn.{GoesOn};
-ghost use Rattle.krb_ap.specs.Inner.Judging.{IsNamed, IsPlacedWithin, JudgedBy};
+ghost use Rattle.krb_ap.specs.Inner.Judging.{IsJudged, IsNamed, IsPlacedWithin, JudgedBy};
 ghost use Rattle.krb_ap.specs.Answer.{Answers, MemoryWantedByRequests, Served, TellsPlacesWithin, after, arrival_of, taken_of};
 ghost use Rattle.krb_ap.specs.Once.{TakesAmong, TakesOnce};
 ghost use Rattle.krb_ap.specs.declared.refusal.Refusal.TheVariants.{OutOfMemory};
@@ -136,30 +133,24 @@ impl<M: ReplayMemory> Acceptor<M> {
         ensures setup { self.new.setup ≡ self.old.setup }
 
         // For each history that the memory stands for: accepted as defined, or the first cause; and what it stands for afterwards.
-        ensures answer { (history : List Arrival)
-            → Stands M.has M.newest self.old history
+        ensures answer { (history : List Arrival) → Stands M.has M.newest self.old history
             → Answers self.old.setup history (arrival bytes.now now) result }
-        ensures goes_on { (history : List Arrival)
-            → Stands M.has M.newest self.old history
+        ensures goes_on { (history : List Arrival) → Stands M.has M.newest self.old history
             → Stands M.has M.newest self.new (after history (arrival bytes.now now) result) }
 
         // What is accepted by the definition is accepted with just that, and what has a cause is refused for it, memory aside.
-        ensures taken { (history : List Arrival) (taken : Taken)
-            → Stands M.has M.newest self.old history
+        ensures taken { (history : List Arrival) (taken : Taken) → Stands M.has M.newest self.old history
             → Accept self.old.setup history (arrival bytes.now now) taken
             → MatchResult result (λ x. taken_of x ≡ taken) (λ r. r ≡ OutOfMemory) }
-        ensures refused { (history : List Arrival) (cause : Refusal)
-            → Stands M.has M.newest self.old history
+        ensures refused { (history : List Arrival) (cause : Refusal) → Stands M.has M.newest self.old history
             → Cause self.old.setup history (arrival bytes.now now) cause
             → IsErrAnd result (λ r. (place r ≡ place cause) ⊎ (r ≡ OutOfMemory)) }
 
         // A memory that keeps all has exactly what was shown, and one that forgets exactly what of that is recent.
-        ensures keeps { IsTrue M.KEEPS → (history : List Arrival)
-            → Stands M.has M.newest self.old history
+        ensures keeps { IsTrue M.KEEPS → (history : List Arrival) → Stands M.has M.newest self.old history
             → SameStamps (IsShown self.old.setup history) (M.has self.old.memory)
             → SameStamps (IsShown self.old.setup (after history (arrival bytes.now now) result)) (M.has self.new.memory) }
-        ensures forgets { IsTrue M.FORGETS → (history : List Arrival)
-            → Stands M.has M.newest self.old history
+        ensures forgets { IsTrue M.FORGETS → (history : List Arrival) → Stands M.has M.newest self.old history
             → (IsErrOf result OutOfMemory → ⊥)
             → SameStamps (IsShownLately self.old.setup (after history (arrival bytes.now now) result)) (M.has self.new.memory) }
 
@@ -175,12 +166,10 @@ impl<M: ReplayMemory> Acceptor<M> {
 
         // A request that the memory hasn't yet is answered with out of memory if it is past a limit, and no other is counted
         // as refused for a limit. So one that has a cause before it is remembered, as a repeat, isn't counted.
-        ensures limit { (history : List Arrival)
-            → Stands M.has M.newest self.old history
+        ensures limit { (history : List Arrival) → Stands M.has M.newest self.old history
             → HeedsLimits (M.has self.old.memory) (M.limits self.old.memory) (M.refusals self.old.memory) (M.refusals self.new.memory)
             self.old.setup history (arrival bytes.now now) (IsErrOf result OutOfMemory) }
-        ensures uncounted { (history : List Arrival) (cause : Refusal)
-            → Stands M.has M.newest self.old history
+        ensures uncounted { (history : List Arrival) (cause : Refusal) → Stands M.has M.newest self.old history
             → Cause self.old.setup history (arrival bytes.now now) cause
             → ¬ IsRemembered cause
             → M.refusals self.new.memory ≡ M.refusals self.old.memory }
@@ -207,17 +196,14 @@ impl<M: ReplayMemory> Acceptor<M> {
         ensures setup { self.new.setup ≡ self.old.setup }
 
         // Each outcome is right after the calls before it, for each history that the memory stands for; and what it stands for then.
-        ensures served { (history : List Arrival)
-            → Stands M.has M.newest self.old history
+        ensures served { (history : List Arrival) → Stands M.has M.newest self.old history
             → IfOk result (λ outcomes. Served M.KEEPS M.FORGETS self.old.setup history (map arrival_of calls.now) outcomes.items
             (M.has self.old.memory) (M.has self.new.memory) (M.newest self.new.memory)) }
         // No two requests of one stamp (names of service and client, and the client's time) are accepted.
-        ensures once { (history : List Arrival)
-            → Stands M.has M.newest self.old history
+        ensures once { (history : List Arrival) → Stands M.has M.newest self.old history
             → IfOk result (λ outcomes. TakesOnce self.old.setup (map arrival_of calls.now) outcomes.items) }
         // Nor is one of a stamp that was shown before.
-        ensures before { (history : List Arrival) (stamp : Stamp)
-            → Stands M.has M.newest self.old history
+        ensures before { (history : List Arrival) (stamp : Stamp) → Stands M.has M.newest self.old history
             → IsShown self.old.setup history stamp
             → IfOk result (λ outcomes. ¬ TakesAmong self.old.setup (map arrival_of calls.now) outcomes.items stamp) }
         ensures offset { IfOk result (λ outcomes. TellsPlacesWithin (map arrival_of calls.now) outcomes.items) }
@@ -236,11 +222,9 @@ impl<M: ReplayMemory> Acceptor<M> {
 
     fn decide(&mut self, alloc: Global, bytes: &[u8], now: Moment) -> Result<Accepted, Refusal>
         ensures setup { self.new.setup ≡ self.old.setup }
-        ensures answer { (history : List Arrival)
-            → Stands M.has M.newest self.old history
+        ensures answer { (history : List Arrival) → Stands M.has M.newest self.old history
             → Answers self.old.setup history (arrival bytes.now now) result }
-        ensures goes_on { (history : List Arrival)
-            → Stands M.has M.newest self.old history
+        ensures goes_on { (history : List Arrival) → Stands M.has M.newest self.old history
             → GoesOn M.KEEPS M.FORGETS self.old.setup self.new.setup history (after history (arrival bytes.now now) result)
             (M.has self.old.memory) (M.has self.new.memory) (M.newest self.new.memory) (IsErrOf result OutOfMemory) }
         ensures moves { (IsErrOf result OutOfMemory → ⊥)
@@ -248,8 +232,7 @@ impl<M: ReplayMemory> Acceptor<M> {
         ensures offset { IfErr result (TellsPlaceWithin bytes.now) }
         ensures memory { IsErrOf result OutOfMemory → AsksWithin self.old.setup bytes.now }
         ensures service { IfOk result (λ accepted. AsksFor bytes.now accepted.service) }
-        ensures limit { (history : List Arrival)
-            → Stands M.has M.newest self.old history
+        ensures limit { (history : List Arrival) → Stands M.has M.newest self.old history
             → HeedsLimits (M.has self.old.memory) (M.limits self.old.memory) (M.refusals self.old.memory) (M.refusals self.new.memory)
             self.old.setup history (arrival bytes.now now) (IsErrOf result OutOfMemory) }
         ensures limits { M.limits self.new.memory ≡ M.limits self.old.memory }
@@ -257,22 +240,15 @@ impl<M: ReplayMemory> Acceptor<M> {
     {
         facts();
         let now = self.effective(now);
-        let judged = match self.judge(alloc, bytes, now) {
-            Ok(judged) => judged,
+        match self.judge(alloc, bytes, now) {
+            Ok(judged) => self.keep(judged, now),
             Err(refusal) => {
                 if is_memory(&refusal) {
                     return Err(refusal);
                 }
                 self.advance(now);
-                return Err(refusal);
+                Err(refusal)
             }
-        };
-        match self.remember(judged.tuple, now) {
-            Ok(()) => {
-                self.advance(now);
-                judged.answer
-            }
-            Err(_) => Err(Refusal::OutOfMemory),
         }
     }
 
@@ -286,6 +262,38 @@ impl<M: ReplayMemory> Acceptor<M> {
         ensures service { IfOk result (λ j. IfOk j.answer (λ x. AsksFor bytes.now x.service)) }
     {
         self.judge.judge(alloc, bytes, now, &self.memory)
+    }
+
+    // Remembers what is judged at the moment that counts, and returns the answer. Its stack frame isn't
+    // there while a request is judged.
+    #[inline(never)]
+    fn keep(&mut self, judged: Judged, now: Moment) -> Result<Accepted, Refusal>
+        ensures setup { self.new.setup ≡ self.old.setup }
+        ensures answer { (result ≡ judged.answer) ⊎ (result ≡ Err OutOfMemory) }
+        ensures goes_on { (history : List Arrival) (bytes : List ℕ) (moment : ℤ) → Stands M.has M.newest self.old history
+            → now ≡ later_of (M.newest self.old.memory) moment
+            → IsJudged self.old.setup history (arrival bytes moment) judged.tuple judged.answer
+            → GoesOn M.KEEPS M.FORGETS self.old.setup self.new.setup history (after history (arrival bytes moment) result)
+            (M.has self.old.memory) (M.has self.new.memory) (M.newest self.new.memory) (IsErrOf result OutOfMemory) }
+        ensures limit { (history : List Arrival) (bytes : List ℕ) (moment : ℤ) → Stands M.has M.newest self.old history
+            → now ≡ later_of (M.newest self.old.memory) moment
+            → IsJudged self.old.setup history (arrival bytes moment) judged.tuple judged.answer
+            → HeedsLimits (M.has self.old.memory) (M.limits self.old.memory) (M.refusals self.old.memory) (M.refusals self.new.memory)
+            self.old.setup history (arrival bytes moment) (IsErrOf result OutOfMemory) }
+        ensures moves { (IsErrOf result OutOfMemory → ⊥)
+            → M.newest self.new.memory ≡ Some (later_of (M.newest self.old.memory) now) }
+        ensures limits { M.limits self.new.memory ≡ M.limits self.old.memory }
+        ensures unchanged { IfErr judged.answer (λ refusal. refusal ≢ OutOfMemory) → IsErrOf result OutOfMemory
+            → SameMemory M.has M.newest self.old.memory self.new.memory }
+    {
+        facts();
+        match self.remember(judged.tuple, now) {
+            Ok(()) => {
+                self.advance(now);
+                judged.answer
+            }
+            Err(_) => Err(Refusal::OutOfMemory),
+        }
     }
 
     // The moment that counts.

@@ -1,13 +1,7 @@
 //! The client's side: reading a reply.
 
 ghost use Rattle.std.specs.Prelude.{◌≡◌, ◌≢◌, ◌≤◌, ◌↔◌, IfOk, IfErr, IfSome, IsTrue, OnOk, length, IsErrOf};
-ghost use Rattle.krb_der.specs.Kind.{ValueOf};
-ghost use Rattle.krb_der.specs.Spells.{IsMessage};
-ghost use Rattle.krb_enc.specs.Key.{profile_of};
-ghost use Rattle.krb_enc.specs.Opens.{Opens};
-ghost use Rattle.krb_msg.specs.Borrowed.{ap_rep_of, enc_ap_rep_part_of};
-ghost use Rattle.krb_msg.specs.Fields.{encrypted_fields, reply_enc_part};
-ghost use Rattle.krb_msg.specs.Module.{ap_rep, enc_ap_rep_part};
+ghost use Rattle.krb_ap.specs.Words.{IsMessage, Opens, ValueOf, ap_rep, ap_rep_of, enc_ap_rep_part, enc_ap_rep_part_of, encrypted_fields, profile_of, reply_enc_part};
 ghost use Rattle.krb_ap.specs.Finish.{FinishCause, IsAgreed, IsReplyOfType, OpensReply, agreement_of, finish_offset_of, repeated_at};
 ghost use Rattle.krb_ap.specs.Reply.{reply_usage};
 ghost use Rattle.krb_ap.specs.Request.{Awaited};

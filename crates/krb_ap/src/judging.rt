@@ -1,15 +1,11 @@
 //! What a service decides about a request, before it remembers or answers anything.
 
-ghost use Rattle.std.specs.Prelude.{◌≡◌, ◌↔◌, IfErr, IfOk, IsErrOf, IsFalse, IsTrue, MatchOption, OnOk};
-ghost use Rattle.krb_enc.specs.Key.{IsUsable};
-ghost use Rattle.krb_keytab.specs.Pick.{chosen, IsChoice};
-ghost use Rattle.krb_keytab.specs.Size.{IsNoLarger};
-ghost use Rattle.krb_msg.specs.Borrowed.{ap_req_of, authenticator_of, enc_ticket_part_of, encrypted_of, ticket_of};
-ghost use Rattle.krb_msg.specs.Fields.{encrypted_fields, ticket_service};
-ghost use Rattle.krb_ap.specs.Opened.{AsksFor, AsksWithin, entry_key, sent_at};
+ghost use Rattle.std.specs.Prelude.{◌≡◌, ◌↔◌, ℕ, IfErr, IfOk, IsErrOf, IsFalse, IsTrue, List, MatchOption, OnOk};
+ghost use Rattle.krb_ap.specs.Words.{IsChoice, IsNoLarger, IsUsable, ap_req_of, authenticator_of, chosen, enc_ticket_part_of, encrypted_fields, encrypted_of, ticket_of, ticket_service};
+ghost use Rattle.krb_ap.specs.Opened.{Asks, AsksFor, AsksWithin, entry_key, sent_at, service_of};
 ghost use Rattle.krb_ap.specs.Quiet.{Settled};
 ghost use Rattle.krb_ap.specs.Times.{Near};
-ghost use Rattle.krb_ap.specs.Inner.Judging.{IsNamed, IsPlacedWithin, Judges};
+ghost use Rattle.krb_ap.specs.Inner.Judging.{IsDecrypted, IsNamed, IsPlacedWithin, Judges};
 ghost use Rattle.krb_ap.specs.Inner.Stages.{AnswersNew, IsInTime, RefusesNew, Wants, key_in};
 ghost use Rattle.krb_ap.specs.declared.refusal.Refusal.TheVariants.{OutOfMemory};
 
@@ -26,7 +22,7 @@ use crate::session_keys::SessionKeys;
 use crate::ticket_keys::TicketKeys;
 use crate::times::{is_near, is_past, refusal_of_times};
 use krb_keytab::{Entry, Keytab, Picked};
-use krb_msg::{EncryptedRef, Moment, Principal, TicketRef};
+use krb_msg::{ApReqRef, EncTicketRef, EncryptedRef, Moment, Principal, TicketRef};
 use krb_replay::{ReplayMemory, Skew, Tuple};
 use std::alloc::Global;
 use std::marker::Model;
@@ -36,6 +32,15 @@ use std::marker::Model;
 pub(crate) struct Judged {
     pub(crate) tuple: Tuple,
     pub(crate) answer: Result<Accepted, Refusal>,
+}
+
+/// A request whose authenticator is decrypted, at the moment that counts.
+#[derive(Drop)]
+struct Decrypted<'a> {
+    request: &'a ApReqRef<'a>,
+    part: &'a EncTicketRef<'a>,
+    plain: &'a [u8],
+    at: Moment,
 }
 
 /// What a service decides by.
@@ -96,13 +101,21 @@ impl Judge {
     {
         facts();
         krb_der::laws::within();
-        let request = read_request(bytes)?;
+        let read = read_request(bytes);
+        let request = match &read {
+            Ok(request) => request,
+            Err(refusal) => return Err(*refusal),
+        };
         self.rules.check_size(&request.ticket)?;
         let server = service(alloc, &request.ticket)?;
         let entry = self.rules.chosen_entry(&server, &request.ticket.enc_part)?;
         self.tickets
             .open(alloc, entry, request.ticket.enc_part.cipher)?;
-        let part = read_ticket(self.tickets.plain())?;
+        let read = read_ticket(self.tickets.plain());
+        let part = match &read {
+            Ok(part) => part,
+            Err(refusal) => return Err(*refusal),
+        };
         require(is_usable(&part.key), Refusal::SessionKey)?;
         require(
             is_of_type(&request.authenticator, &part.key),
@@ -111,23 +124,21 @@ impl Judge {
         let plain = self
             .session
             .open(alloc, &part.key, request.authenticator.cipher)?;
-        let auth = read_authenticator(plain.as_slice())?;
-        require(is_same_client(&part, &auth), Refusal::BadMatch)?;
-        let opened = Opened {
-            request: &request,
-            part: &part,
-            auth: &auth,
+        let decrypted = Decrypted {
+            request,
+            part,
+            plain: plain.as_slice(),
+            at: now,
         };
-        require(self.rules.is_near(&opened, now), Refusal::Skew)?;
-        let tuple = opened.tuple(alloc, server)?;
-        require(self.rules.is_new(&tuple, now, memory), Refusal::Repeat)?;
-        self.rules.judge_new(alloc, &opened, tuple, now)
+        self.rules
+            .judge_decrypted(alloc, &decrypted, server, memory)
     }
 }
 
 impl Rules {
     /// Refuses a ticket for a service whose name is larger than each of the keytab. It allocates no
     /// memory.
+    #[inline(never)]
     fn check_size(&self, ticket: &TicketRef) -> Result<(), Refusal>
         ensures size { OnOk result (IsNoLarger self.now.entries (ticket_service (ticket_of ticket.now))) }
         ensures wanting { IfErr result (Wants self.now.entries (ticket_service (ticket_of ticket.now)) (encrypted_of ticket.now.enc_part)) }
@@ -140,6 +151,7 @@ impl Rules {
     }
 
     /// The entry of the keytab whose key is used for a service's ticket. It allocates no memory.
+    #[inline(never)]
     fn chosen_entry(&self, service: &Principal, sealed: &EncryptedRef) -> Result<&Entry, Refusal>
         ensures chosen { IfOk result (λ entry. IsChoice self.now.entries service.now
             (encrypted_fields (encrypted_of sealed.now)).etype (encrypted_fields (encrypted_of sealed.now)).kvno (chosen entry.now)) }
@@ -152,6 +164,41 @@ impl Rules {
             Picked::NoKey => Err(Refusal::NoKey),
             Picked::NoVersion => Err(Refusal::BadKeyVersion),
         }
+    }
+
+    // What to remember of a request that is decrypted, and the answer to it; or why it is refused
+    // without being remembered. Its stack frame isn't there while keys are derived and texts opened.
+    #[inline(never)]
+    fn judge_decrypted<M: ReplayMemory>(
+        &self,
+        alloc: Global,
+        decrypted: &Decrypted,
+        server: Principal,
+        memory: &M,
+    ) -> Result<Judged, Refusal>
+        requires { IsUsable (key_in decrypted.now.part.now.key) }
+        ensures judged { (bytes : List ℕ)
+            → IsDecrypted self.now bytes (ap_req_of decrypted.now.request.now) (enc_ticket_part_of decrypted.now.part.now) decrypted.now.plain.now
+            → server ≡ service_of (ap_req_of decrypted.now.request.now)
+            → Judges self.now (M.has memory.now) (M.newest memory.now) bytes decrypted.now.at result }
+        ensures named { IsNamed result }
+        ensures placed { (bytes : List ℕ) → IsPlacedWithin bytes result }
+        ensures service { (bytes : List ℕ) → Asks bytes (ap_req_of decrypted.now.request.now)
+            → IfOk result (λ j. IfOk j.answer (λ x. AsksFor bytes x.service)) }
+    {
+        facts();
+        let now = decrypted.at;
+        let auth = read_authenticator(decrypted.plain)?;
+        require(is_same_client(decrypted.part, &auth), Refusal::BadMatch)?;
+        let opened = Opened {
+            request: decrypted.request,
+            part: decrypted.part,
+            auth: &auth,
+        };
+        require(self.is_near(&opened, now), Refusal::Skew)?;
+        let tuple = opened.tuple(alloc, server)?;
+        require(self.is_new(&tuple, now, memory), Refusal::Repeat)?;
+        self.judge_new(alloc, &opened, tuple, now)
     }
 
     // Whether the client's time is near.

@@ -1,11 +1,7 @@
 //! Copies of keys, and sealing under a key.
 
 ghost use Rattle.std.specs.Prelude.{◌≡◌, ◌↔◌, ◌≤◌, ◌+◌, None, IfOk, IfSome, IsTrue, OnOk, length};
-ghost use Rattle.krb_enc.specs.Key.{IsUsable};
-ghost use Rattle.krb_msg.specs.Borrowed.{key_of};
-ghost use Rattle.std.specs.Option.{option_map};
-ghost use Rattle.krb_msg.specs.Fields.{encrypted_value};
-ghost use Rattle.krb_msg.specs.Owned.{owned_encrypted_of, owned_key_of};
+ghost use Rattle.krb_ap.specs.Words.{IsUsable, encrypted_value, key_of, option_map, owned_encrypted_of, owned_key_of};
 ghost use Rattle.krb_ap.specs.Inner.Stages.{key_in};
 ghost use Rattle.krb_ap.specs.Written.{IsSealed, key_value};
 

@@ -2,33 +2,20 @@
 //! the law.
 
 ghost use Rattle.std.specs.Prelude.{◌≡◌, ◌≢◌, ◌⊎◌, ℕ, ℤ, Bool, IsTrue, List, Result};
-ghost use Rattle.krb_name.specs.declared.principal.Principal.{Principal};
-ghost use Rattle.krb_der.specs.Kind.{ValueOf};
-ghost use Rattle.krb_msg.specs.Module.{enc_ticket_part, ticket as ticket_kind};
-ghost use Rattle.krb_msg.specs.Fields.{part_client, ticket_service};
-ghost use Rattle.krb_ccache.specs.Value.{Cache};
-ghost use Rattle.krb_replay.specs.Stamp.{Stamp};
-ghost use Rattle.krb_ap.specs.Setup.{Setup, Arrival, arrival};
+ghost use Rattle.krb_ap.specs.Words.{Accepted, Arrival, Cache, Credential, FinishFault, Principal, Refusal, RequestFault, RequestOptions, Setup, Stamp, ValueOf, arrival, enc_ticket_part, part_client, ticket_kind, ticket_service};
 ghost use Rattle.krb_ap.specs.History.{IsShown, Shows, effective};
 ghost use Rattle.krb_ap.specs.Request.{Awaited, IsRequest, Prevents};
 ghost use Rattle.krb_ap.specs.Finish.{Agreement, FinishCause, IsAgreed, finish_place};
-ghost use Rattle.krb_ap.specs.declared.finish_fault.FinishFault.{FinishFault};
-ghost use Rattle.krb_ap.specs.declared.request_fault.RequestFault.{RequestFault};
-ghost use Rattle.krb_ap.specs.Headline.{Agrees, HasTicket, MayBeRefused, MayBeTaken};
-ghost use Rattle.krb_ap.specs.declared.request.RequestOptions.{RequestOptions};
+ghost use Rattle.krb_ap.specs.Headline.{Agrees, Built, HasTicket, MayBeRefused, MayBeTaken, built_stamp};
 ghost use Rattle.krb_ap.specs.Taken.{Accept, Taken, taken_stamp};
 ghost use Rattle.krb_ap.specs.Causes.{Cause, IsRemembered, place};
 ghost use Rattle.krb_ap.specs.Answer.{Run};
 ghost use Rattle.krb_ap.specs.Living.{Lives, Step, TakesInLife, TakesOnceInLife};
 ghost use Rattle.krb_ap.specs.Once.{HasStamp, TakesAmong, TakesOnce};
-ghost use Rattle.krb_ap.specs.Opened.{stamp_at};
 ghost use Rattle.krb_ap.specs.Sharing.{Asked, AskedAmong, ClocksAgree, Has, InTime, IsLetInNext, LetsInAmong, LetsInOnce, SaysNew, Share, StoreEvent, asked_by, asked_stamp, forgets};
 ghost use Rattle.krb_ap.specs.Undecided.{AreDecided, SayTheSame, decided_answers, decided_calls};
 ghost use Rattle.krb_ap.specs.UndecidedLife.{DecidesEach, SayTheSameInLife, decided_steps};
 ghost use Rattle.krb_ap.specs.World.{BothAgree, Comes, Event, IsHeldInEachWorld, IsHeldOnce, IsOf, World, nothing_yet};
-ghost use Rattle.krb_ccache.specs.declared.credential.Credential.{Credential};
-ghost use Rattle.krb_ap.specs.declared.accepted.Accepted.{Accepted};
-ghost use Rattle.krb_ap.specs.declared.refusal.Refusal.{Refusal};
 ghost use Rattle.krb_ap.specs.declared.refusal.Refusal.TheVariants.{JustStarted};
 
 use crate::inner_laws::{decisions, facts, writing};
@@ -73,14 +60,11 @@ pub fn refused_is_remembered()
 /// `make_request` returns such a request. `accept` then accepts it or answers `OutOfMemory`, by its
 /// clause `taken`.
 pub fn built_is_accepted()
-    ensures { (setup : Setup) (history : List Arrival) (moment : ℤ) (cache : Cache) (service : Principal) (at : ℤ) (confounder : List ℕ)
-        (options : RequestOptions) (bytes : List ℕ) (awaited : Awaited) (ticket : ValueOf ticket_kind) (part : ValueOf enc_ticket_part)
-        → (request : IsRequest cache service at confounder options bytes awaited)
-        → HasTicket setup request.credential ticket part
-        → MayBeTaken setup history moment at ticket part
-        → (taken : Taken) × Accept setup history (arrival bytes moment) taken × (taken.client ≡ part_client part)
-        × (taken.service ≡ ticket_service ticket)
-        × (taken.wants_reply ≡ options.mutual) × Agrees taken awaited }
+    ensures { (setup : Setup) (history : List Arrival) (moment : ℤ) (bytes : List ℕ) (built : Built setup bytes)
+        → MayBeTaken setup history moment built.at built.ticket built.part
+        → (taken : Taken) × Accept setup history (arrival bytes moment) taken × (taken.client ≡ part_client built.part)
+        × (taken.service ≡ ticket_service built.ticket)
+        × (taken.wants_reply ≡ built.options.mutual) × Agrees taken built.awaited }
 {
     facts();
 }
@@ -89,11 +73,8 @@ pub fn built_is_accepted()
 /// the ticket opens the ticket to the credential's client and key: for a time, as a repeat, or for
 /// what is asked of the ticket. It is never malformed, and everything in it opens and matches.
 pub fn built_may_be_refused()
-    ensures { (setup : Setup) (history : List Arrival) (moment : ℤ) (cache : Cache) (service : Principal) (at : ℤ) (confounder : List ℕ)
-        (options : RequestOptions) (bytes : List ℕ) (awaited : Awaited) (ticket : ValueOf ticket_kind) (part : ValueOf enc_ticket_part)
-        (cause : Refusal) → (request : IsRequest cache service at confounder options bytes awaited)
-        → HasTicket setup request.credential ticket part
-        → Cause setup history (arrival bytes moment) cause → MayBeRefused setup history moment at ticket part cause }
+    ensures { (setup : Setup) (history : List Arrival) (moment : ℤ) (bytes : List ℕ) (built : Built setup bytes) (cause : Refusal)
+        → Cause setup history (arrival bytes moment) cause → MayBeRefused setup history moment built.at built.ticket built.part cause }
 {
     facts();
 }
@@ -245,26 +226,17 @@ pub fn a_store_lets_in_once()
 /// first, then the service may ask next, and lets the request in unless its clock shows after the
 /// answer that it is too late. The store's clock doesn't matter for this.
 pub fn built_is_let_in()
-    ensures new { (setup : Setup) (history : List Arrival) (moment : ℤ) (cache : Cache) (service : Principal) (at : ℤ) (confounder : List ℕ)
-        (options : RequestOptions) (bytes : List ℕ) (awaited : Awaited) (ticket : ValueOf ticket_kind) (part : ValueOf enc_ticket_part)
+    ensures new { (setup : Setup) (history : List Arrival) (moment : ℤ) (bytes : List ℕ) (built : Built setup bytes)
         (store : List Stamp) (events : List StoreEvent)
-        → (request : IsRequest cache service at confounder options bytes awaited)
-        → HasTicket setup request.credential ticket part
-        → MayBeTaken setup history moment at ticket part
-        → ¬ Has store events (stamp_at (ticket_service ticket) (part_client part) at)
-        → (taken : Taken) × Accept setup history (arrival bytes moment) taken × Agrees taken awaited
+        → MayBeTaken setup history moment built.at built.ticket built.part → ¬ Has store events (built_stamp built)
+        → (taken : Taken) × Accept setup history (arrival bytes moment) taken × Agrees taken built.awaited
         × ((is_new : Bool) → SaysNew store events (taken_stamp taken) is_new → IsTrue is_new) }
-    ensures let_in { (setup : Setup) (history : List Arrival) (moment : ℤ) (cache : Cache) (service : Principal) (at : ℤ) (confounder : List ℕ)
-        (options : RequestOptions) (bytes : List ℕ) (awaited : Awaited) (ticket : ValueOf ticket_kind) (part : ValueOf enc_ticket_part)
+    ensures let_in { (setup : Setup) (history : List Arrival) (moment : ℤ) (bytes : List ℕ) (built : Built setup bytes)
         (skew : ℕ) (store : List Stamp) (events : List StoreEvent)
-        → (request : IsRequest cache service at confounder options bytes awaited)
-        → HasTicket setup request.credential ticket part
-        → MayBeTaken setup history moment at ticket part
-        → Share skew store events
-        → ¬ IsOf store (stamp_at (ticket_service ticket) (part_client part) at)
-        → ¬ AskedAmong events (stamp_at (ticket_service ticket) (part_client part) at)
-        → (taken : Taken) × Agrees taken awaited
-        × IsLetInNext skew store events (asked_by setup history (arrival bytes moment) taken) (stamp_at (ticket_service ticket) (part_client part) at) }
+        → MayBeTaken setup history moment built.at built.ticket built.part → Share skew store events
+        → ¬ IsOf store (built_stamp built) → ¬ AskedAmong events (built_stamp built)
+        → (taken : Taken) × Agrees taken built.awaited
+        × IsLetInNext skew store events (asked_by setup history (arrival bytes moment) taken) (built_stamp built) }
 {
     facts();
 }

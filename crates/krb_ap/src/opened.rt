@@ -1,11 +1,7 @@
 //! Opened requests: what is remembered of them, and what is known of them if they are accepted.
 
 ghost use Rattle.std.specs.Prelude.{◌≡◌, IfOk};
-ghost use Rattle.std.specs.Option.{option_map};
-ghost use Rattle.krb_enc.specs.Key.{IsUsable};
-ghost use Rattle.krb_msg.specs.Borrowed.{ap_req_of, authenticator_of, enc_ticket_part_of, typed_of};
-ghost use Rattle.krb_msg.specs.Fields.{part_client};
-ghost use Rattle.krb_msg.specs.Owned.{owned_list_of, owned_typed_of};
+ghost use Rattle.krb_ap.specs.Words.{IsUsable, ap_req_of, authenticator_of, enc_ticket_part_of, option_map, owned_list_of, owned_typed_of, part_client, typed_of};
 ghost use Rattle.krb_ap.specs.Answer.{taken_of};
 ghost use Rattle.krb_ap.specs.Opened.{sent_at, service_of, stamp_at};
 ghost use Rattle.krb_ap.specs.Taken.{IsTakenFrom};

@@ -1,13 +1,7 @@
 //! The steps of opening a request, which `judging` puts in order.
 
 ghost use Rattle.std.specs.Prelude.{◌≡◌, ◌≢◌, ◌<◌, ◌↔◌, false, IfOk, IfErr, IsTrue, OnOk};
-ghost use Rattle.krb_der.specs.Spells.{IsMessage};
-ghost use Rattle.krb_enc.specs.Key.{IsKnown, profile_of};
-ghost use Rattle.krb_enc.specs.Opens.{Opens};
-ghost use Rattle.krb_msg.specs.Borrowed.{ap_req_of, authenticator_of, enc_ticket_part_of, ticket_of};
-ghost use Rattle.krb_msg.specs.Fields.{ticket_service};
-ghost use Rattle.krb_keytab.specs.Size.{name_size};
-ghost use Rattle.krb_msg.specs.Module.{authenticator, enc_ticket_part};
+ghost use Rattle.krb_ap.specs.Words.{IsKnown, IsMessage, Opens, ap_req_of, authenticator, authenticator_of, enc_ticket_part, enc_ticket_part_of, name_size, profile_of, ticket_of, ticket_service};
 ghost use Rattle.krb_ap.specs.Causes.{BeginsOtherwise, place};
 ghost use Rattle.krb_ap.specs.Opened.{Asks, SameClient};
 ghost use Rattle.krb_ap.specs.Inner.Stages.{IsCauseOfBytes, IsNone, IsShut};
@@ -32,6 +26,7 @@ pub(crate) fn require(holds: bool, refusal: Refusal) -> Result<(), Refusal>
 }
 
 /// Reads a request of the ordinary kind (not user-to-user). It allocates no memory.
+#[inline(never)]
 pub(crate) fn read_request<'a>(bytes: &'a [u8]) -> Result<ApReqRef<'a>, Refusal>
     ensures read { IfOk result (λ request. Asks bytes.entry.now (ap_req_of request)) }
     ensures refused { IfErr result (IsCauseOfBytes bytes.entry.now) }

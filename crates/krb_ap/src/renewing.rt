@@ -1,8 +1,7 @@
 //! A new keytab for a living service.
 
 ghost use Rattle.std.specs.Prelude.{◌≡◌, None, List};
-ghost use Rattle.krb_replay.specs.Memory.{SameStamps};
-ghost use Rattle.krb_ap.specs.Setup.{Arrival, as_decided, with_entries};
+ghost use Rattle.krb_ap.specs.Words.{Arrival, SameStamps, as_decided, with_entries};
 ghost use Rattle.krb_ap.specs.History.{IsShown};
 ghost use Rattle.krb_ap.specs.Service.{Stands};
 
@@ -25,8 +24,7 @@ impl<M: ReplayMemory> Acceptor<M> {
         ensures old { result ≡ self.old.setup.entries }
 
         // For each history that the memory stands for, it stands for the same one, decided by the old keytab; and that shows the same.
-        ensures stands { (history : List Arrival)
-            → Stands M.has M.newest self.old history
+        ensures stands { (history : List Arrival) → Stands M.has M.newest self.old history
             → Stands M.has M.newest self.new (as_decided self.old.setup history) }
         ensures shown { (history : List Arrival)
             → SameStamps (IsShown self.old.setup history) (IsShown self.new.setup (as_decided self.old.setup history)) }

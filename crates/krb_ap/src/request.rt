@@ -1,8 +1,7 @@
 //! The client's side: building a request.
 
 ghost use Rattle.std.specs.Prelude.{◌≡◌, ◌≢◌, ℕ, List, IfOk, IfErr, IsErrOf};
-ghost use Rattle.std.specs.Option.{option_map};
-ghost use Rattle.krb_msg.specs.Owned.{owned_typed_of};
+ghost use Rattle.krb_ap.specs.Words.{option_map, owned_typed_of};
 ghost use Rattle.krb_ap.specs.Request.{HasGoodTicket, IsAuthenticator, IsBuilt, IsPlain, IsRequest, Prevents, awaited_for, context_checksum, context_flags, options_for};
 ghost use Rattle.krb_ap.specs.Inner.Requests.{HasTicket, IsUnbuilt};
 ghost use Rattle.krb_ap.specs.declared.request_fault.RequestFault.TheVariants.{TooLong, OutOfMemory};

@@ -1,9 +1,7 @@
 //! A service key with the keys that are derived from it, and the ticket that was opened last.
 
 ghost use Rattle.std.specs.Prelude.{◌≡◌, ◌≢◌, ◌↔◌, IfErr, IsTrue, OnOk};
-ghost use Rattle.std.specs.Option.{MatchOption};
-ghost use Rattle.krb_enc.specs.Key.{profile_of};
-ghost use Rattle.krb_enc.specs.Opens.{Opens};
+ghost use Rattle.krb_ap.specs.Words.{MatchOption, Opens, profile_of};
 ghost use Rattle.krb_ap.specs.Inner.Stages.{IsShut, ready_key};
 ghost use Rattle.krb_ap.specs.declared.refusal.Refusal.TheVariants.{OutOfMemory, TicketIntegrity};
 
@@ -29,8 +27,7 @@ pub(crate) struct ServiceKey {
 
 impl Model for ServiceKey {
     ghost use Rattle.std.specs.Prelude.{IfSome};
-    ghost use Rattle.krb_enc.specs.Key.{profile_of};
-    ghost use Rattle.krb_enc.specs.Opens.{Opens};
+    ghost use Rattle.krb_ap.specs.Words.{Opens, profile_of};
     ghost use Rattle.krb_ap.specs.Inner.ServiceKeys.{ServiceKeyValue};
 
     ghost Value = { ServiceKeyValue };

@@ -2,8 +2,7 @@
 //! requests with the same one.
 
 ghost use Rattle.std.specs.Prelude.{◌≡◌, ◌≢◌, None, Some, IfErr, IfOk};
-ghost use Rattle.krb_enc.specs.Key.{IsUsable, profile_of};
-ghost use Rattle.krb_enc.specs.Opens.{Opens};
+ghost use Rattle.krb_ap.specs.Words.{IsUsable, Opens, profile_of};
 ghost use Rattle.krb_ap.specs.Opened.{authenticator_usage};
 ghost use Rattle.krb_ap.specs.Inner.Stages.{IsShut, key_in};
 ghost use Rattle.krb_ap.specs.declared.refusal.Refusal.TheVariants.{AuthenticatorIntegrity, OutOfMemory};

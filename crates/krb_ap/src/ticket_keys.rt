@@ -2,9 +2,7 @@
 //! later tickets, with the plain text of the last one.
 
 ghost use Rattle.std.specs.Prelude.{◌≡◌, ◌≢◌, None, IfErr, OnOk};
-ghost use Rattle.std.specs.Option.{MatchOption};
-ghost use Rattle.krb_enc.specs.Key.{IsUsable, profile_of};
-ghost use Rattle.krb_enc.specs.Opens.{Opens};
+ghost use Rattle.krb_ap.specs.Words.{IsUsable, MatchOption, Opens, profile_of};
 ghost use Rattle.krb_ap.specs.Opened.{entry_key, ticket_usage};
 ghost use Rattle.krb_ap.specs.Inner.ServiceKeys.{plain_of};
 ghost use Rattle.krb_ap.specs.Inner.Stages.{IsShut, ready_key};
@@ -52,6 +50,7 @@ impl TicketKeys {
     }
 
     // Caches the keys of an entry's key, unless they are cached.
+    #[inline(never)]
     fn cache(&mut self, alloc: Global, entry: &Entry)
         requires { IsUsable (entry_key entry.now) }
         ensures { MatchOption self.new.cached ⊥ (λ keys. keys.keys ≡ ready_key (entry_key entry.now)) }

@@ -1,8 +1,7 @@
 //! Times of a request and its ticket, and what else is asked of a ticket.
 
 ghost use Rattle.std.specs.Prelude.{◌≡◌, ◌↔◌, ◌≤ℤ◌, ◌<ℤ◌, ◌+ℤ◌, All, IfSome, IsTrue, MatchOption, pos};
-ghost use Rattle.krb_msg.specs.Fields.{type_of};
-ghost use Rattle.krb_msg.specs.Borrowed.{ap_req_of, authenticator_of, enc_ticket_part_of};
+ghost use Rattle.krb_ap.specs.Words.{ap_req_of, authenticator_of, enc_ticket_part_of, type_of};
 ghost use Rattle.krb_ap.specs.Times.{Near, second_at, IsEarly, IsLate, IsPathTrusted, MayBeIgnored};
 ghost use Rattle.krb_ap.specs.Inner.Stages.{IsOfTimes, TimesRefuse};
 

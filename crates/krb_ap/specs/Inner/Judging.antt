@@ -1,7 +1,13 @@
 -- What is decided of a request before it is remembered or answered, as words of private contracts.
 use Rattle.std.specs.Prelude.{◌≡◌, ◌≢◌, ℕ, ℤ, List, Option, Result, Ok, Err, IfErr, IfOk}
+use Rattle.krb_der.specs.Kind.{ValueOf}
+use Rattle.krb_enc.specs.Key.{IsUsable, profile_of}
+use Rattle.krb_enc.specs.Opens.{Opens}
+use Rattle.krb_msg.specs.Module.{ap_req, enc_ticket_part}
+use Rattle.krb_msg.specs.Fields.{encrypted_fields, request_fields}
 use Rattle.krb_replay.specs.Stamp.{Stamp}
 use Rattle.krb_ap.specs.Setup.{Setup, Arrival, arrival}
+use Rattle.krb_ap.specs.Opened.{Ticketed, authenticator_usage, session_key}
 use Rattle.krb_ap.specs.History.{effective, Shows, StandsFor}
 use Rattle.krb_ap.specs.Causes.{Cause, TellsPlaceWithin}
 use Rattle.krb_ap.specs.Answer.{Answers}
@@ -10,6 +16,15 @@ use Rattle.krb_ap.specs.declared.accepted.Accepted.{Accepted}
 use Rattle.krb_ap.specs.declared.judging.Judged.{Judged}
 use Rattle.krb_ap.specs.declared.refusal.Refusal.{Refusal}
 use Rattle.krb_ap.specs.declared.refusal.Refusal.TheVariants.{OutOfMemory}
+
+-- a request whose ticket is opened, and whose authenticator is decrypted to this text under a usable
+-- session key
+pub record IsDecrypted (setup : Setup) (bytes : List ℕ) (request : ValueOf ap_req) (part : ValueOf enc_ticket_part) (plain : List ℕ) : Type 0 where
+  pub ticketed : Ticketed setup bytes request part
+  pub usable : IsUsable (session_key part)
+  pub same_type : (encrypted_fields (request_fields request).authenticator).etype ≡ (session_key part).etype
+  pub opens : Opens (profile_of (session_key part)) (session_key part).bytes authenticator_usage
+      (encrypted_fields (request_fields request).authenticator).cipher plain
 
 -- a request that is to be remembered, with its stamp and its answer
 pub record IsJudged (setup : Setup) (history : List Arrival) (call : Arrival) (stamp : Stamp) (answer : Result Accepted Refusal) : Type 0 where
