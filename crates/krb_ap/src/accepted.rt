@@ -60,12 +60,10 @@ impl Accepted {
     /// client's time (RFC 4120, section 3.2.3). The names are copied.
     ///
     /// # Errors
-    /// `AllocError`: there is no memory for the copies.
+    /// `AllocError`: there is no memory for the copies, or the service's name takes 4 GiB or more.
     pub fn tuple(&self, alloc: Global) -> Result<Tuple, AllocError>
         ensures { IfOk result (λ tuple. tuple ≡ taken_stamp (taken_of self.now)) }
     {
-        let service = self.service.clone()?;
-        let client = self.client.clone()?;
-        Tuple::new(alloc, service, client, self.ctime, self.cusec)
+        Tuple::of(alloc, &self.service, &self.client, self.ctime, self.cusec)
     }
 }
