@@ -1,5 +1,5 @@
 -- The history after an answer.
-use Rattle.std.proofs.Common.{◌≡◌, ◌≢◌, List, ◌∷◌, refl, sym, subst, inl, inr, arith, ◌⊎◌, Ok, Err, Result}
+use Rattle.std.proofs.Common.{◌≡◌, ◌≢◌, List, ◌∷◌, refl, arith, ◌⊎◌, Ok, Err, Result}
 use Rattle.std.specs.Prelude.{IfErr, IsErrOf}
 use Rattle.krb_ap.specs.Setup.{Arrival, decided_now}
 use Rattle.krb_ap.specs.Answer.{after, after_refusal}
@@ -28,9 +28,3 @@ accepted_is_none x r e = cc
 pub not_memory : (answer : Result Accepted Refusal) → IfErr answer (λ r. r ≢ OutOfMemory) → IsErrOf answer OutOfMemory → ⊥
 not_memory (Ok accepted) named memory = accepted_is_none accepted OutOfMemory memory
 not_memory (Err refusal) named memory = named (refusal_of refusal OutOfMemory memory)
-
--- what is kept is answered, unless memory ran out
-pub kept_or : (P : Result Accepted Refusal → Type 0) (answer result : Result Accepted Refusal) → (result ≡ answer) ⊎ (result ≡ Err OutOfMemory)
-    → P answer → P (Err OutOfMemory) → P result
-kept_or P answer result (inl same) p q = subst P (sym same) p
-kept_or P answer result (inr memory) p q = subst P (sym memory) q

@@ -1,6 +1,6 @@
 //! The service's side.
 
-ghost use Rattle.std.specs.Prelude.{◌≡◌, ◌≢◌, ◌↔◌, ◌⊎◌, ℕ, ℤ, List, None, Some, [], Err, IsErr, IsErrAnd, IfOk, IfErr, IsErrOf, IsTrue, map, MatchResult, OnOk, OnErr};
+ghost use Rattle.std.specs.Prelude.{◌≡◌, ◌↔◌, ◌⊎◌, List, None, Some, [], IsErr, IsErrAnd, IfOk, IfErr, IsErrOf, IsTrue, map, MatchResult, OnOk, OnErr};
 ghost use Rattle.krb_ap.specs.Words.{AddsStamp, Arrival, CountsOne, IsRecent, SameStamps, Stamp, arrival, later_of};
 ghost use Rattle.krb_ap.specs.Opened.{AsksFor, AsksWithin, IsOrdinary};
 ghost use Rattle.krb_ap.specs.History.{IsShown, IsShownLately};
@@ -8,7 +8,7 @@ ghost use Rattle.krb_ap.specs.Service.{HeedsLimits, IsPastLimit, SameMemory, Sta
 ghost use Rattle.krb_ap.specs.Taken.{Accept, Taken};
 ghost use Rattle.krb_ap.specs.Causes.{Cause, IsRemembered, TellsPlaceWithin, place};
 ghost use Rattle.krb_ap.specs.Inner.GoingOn.{GoesOn};
-ghost use Rattle.krb_ap.specs.Inner.Judging.{IsJudged, IsNamed, IsPlacedWithin, JudgedBy};
+ghost use Rattle.krb_ap.specs.Inner.Judging.{IsNamed, IsPlacedWithin, JudgedBy};
 ghost use Rattle.krb_ap.specs.Answer.{Answers, MemoryWantedByRequests, Served, TellsPlacesWithin, after, arrival_of, taken_of};
 ghost use Rattle.krb_ap.specs.Once.{TakesAmong, TakesOnce};
 ghost use Rattle.krb_ap.specs.declared.refusal.Refusal.TheVariants.{OutOfMemory};
@@ -240,15 +240,22 @@ impl<M: ReplayMemory> Acceptor<M> {
     {
         facts();
         let now = self.effective(now);
-        match self.judge(alloc, bytes, now) {
-            Ok(judged) => self.keep(judged, now),
+        let judged = match self.judge(alloc, bytes, now) {
+            Ok(judged) => judged,
             Err(refusal) => {
                 if is_memory(&refusal) {
                     return Err(refusal);
                 }
                 self.advance(now);
-                Err(refusal)
+                return Err(refusal);
             }
+        };
+        match self.remember(judged.tuple, now) {
+            Ok(()) => {
+                self.advance(now);
+                judged.answer
+            }
+            Err(_) => Err(Refusal::OutOfMemory),
         }
     }
 
@@ -262,38 +269,6 @@ impl<M: ReplayMemory> Acceptor<M> {
         ensures service { IfOk result (λ j. IfOk j.answer (λ x. AsksFor bytes.now x.service)) }
     {
         self.judge.judge(alloc, bytes, now, &self.memory)
-    }
-
-    // Remembers what is judged at the moment that counts, and returns the answer. Its stack frame isn't
-    // there while a request is judged.
-    #[inline(never)]
-    fn keep(&mut self, judged: Judged, now: Moment) -> Result<Accepted, Refusal>
-        ensures setup { self.new.setup ≡ self.old.setup }
-        ensures answer { (result ≡ judged.answer) ⊎ (result ≡ Err OutOfMemory) }
-        ensures goes_on { (history : List Arrival) (bytes : List ℕ) (moment : ℤ) → Stands M.has M.newest self.old history
-            → now ≡ later_of (M.newest self.old.memory) moment
-            → IsJudged self.old.setup history (arrival bytes moment) judged.tuple judged.answer
-            → GoesOn M.KEEPS M.FORGETS self.old.setup self.new.setup history (after history (arrival bytes moment) result)
-            (M.has self.old.memory) (M.has self.new.memory) (M.newest self.new.memory) (IsErrOf result OutOfMemory) }
-        ensures limit { (history : List Arrival) (bytes : List ℕ) (moment : ℤ) → Stands M.has M.newest self.old history
-            → now ≡ later_of (M.newest self.old.memory) moment
-            → IsJudged self.old.setup history (arrival bytes moment) judged.tuple judged.answer
-            → HeedsLimits (M.has self.old.memory) (M.limits self.old.memory) (M.refusals self.old.memory) (M.refusals self.new.memory)
-            self.old.setup history (arrival bytes moment) (IsErrOf result OutOfMemory) }
-        ensures moves { (IsErrOf result OutOfMemory → ⊥)
-            → M.newest self.new.memory ≡ Some (later_of (M.newest self.old.memory) now) }
-        ensures limits { M.limits self.new.memory ≡ M.limits self.old.memory }
-        ensures unchanged { IfErr judged.answer (λ refusal. refusal ≢ OutOfMemory) → IsErrOf result OutOfMemory
-            → SameMemory M.has M.newest self.old.memory self.new.memory }
-    {
-        facts();
-        match self.remember(judged.tuple, now) {
-            Ok(()) => {
-                self.advance(now);
-                judged.answer
-            }
-            Err(_) => Err(Refusal::OutOfMemory),
-        }
     }
 
     // The moment that counts.

@@ -101,21 +101,13 @@ impl Judge {
     {
         facts();
         krb_der::laws::within();
-        let read = read_request(bytes);
-        let request = match &read {
-            Ok(request) => request,
-            Err(refusal) => return Err(*refusal),
-        };
+        let request = read_request(bytes)?;
         self.rules.check_size(&request.ticket)?;
         let server = service(alloc, &request.ticket)?;
         let entry = self.rules.chosen_entry(&server, &request.ticket.enc_part)?;
         self.tickets
             .open(alloc, entry, request.ticket.enc_part.cipher)?;
-        let read = read_ticket(self.tickets.plain());
-        let part = match &read {
-            Ok(part) => part,
-            Err(refusal) => return Err(*refusal),
-        };
+        let part = read_ticket(self.tickets.plain())?;
         require(is_usable(&part.key), Refusal::SessionKey)?;
         require(
             is_of_type(&request.authenticator, &part.key),
@@ -125,8 +117,8 @@ impl Judge {
             .session
             .open(alloc, &part.key, request.authenticator.cipher)?;
         let decrypted = Decrypted {
-            request,
-            part,
+            request: &request,
+            part: &part,
             plain: plain.as_slice(),
             at: now,
         };

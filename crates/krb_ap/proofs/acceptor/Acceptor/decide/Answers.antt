@@ -1,5 +1,5 @@
 use Rattle.std.proofs.Common.{◌≡◌, ℤ, List, Option, ap, sym, ◌∙◌, subst, refl, inl, inr, Err}
-use Rattle.std.specs.Prelude.{IfErr, IfOk, IsErrOf}
+use Rattle.std.specs.Prelude.{IsErrOf}
 use Rattle.krb_replay.specs.Memory.{later_of, IsRecent}
 use Rattle.krb_replay.specs.Stamp.{Stamp}
 use Rattle.krb_ap.specs.Setup.{Setup, Arrival, arrival}
@@ -7,13 +7,11 @@ use Rattle.krb_ap.specs.Inner.GoingOn.{GoesOn}
 use Rattle.krb_ap.specs.declared.accepted.Accepted.{Accepted}
 use Rattle.krb_ap.specs.declared.refusal.Refusal.TheVariants.{OutOfMemory}
 use Rattle.krb_ap.specs.History.{StandsFor, Shows, effective, greatest}
-use Rattle.krb_ap.specs.Answer.{Answers, after_refusal}
-use Rattle.krb_ap.specs.Causes.{TellsPlaceWithin}
-use Rattle.krb_ap.specs.Opened.{AsksFor}
+use Rattle.krb_ap.specs.Answer.{after_refusal}
 use Rattle.krb_ap.specs.Inner.Judging.{IsJudged, IsTurnedAway}
 use Rattle.krb_ap.specs.declared.refusal.Refusal.{Refusal}
 use Rattle.krb_ap.proofs.Truth.{is_so, is_not}
-use Rattle.krb_ap.proofs.Afterwards.{after_named, kept_or, refusal_of}
+use Rattle.krb_ap.proofs.Afterwards.{after_named, after_answer, not_memory, refusal_of}
 use Rattle.krb_ap.specs.Service.{IsPastLimit}
 use Rattle.krb_ap.proofs.Standing.{after_advance, counts_once, moved_on, one_stamp, stands_still}
 use Rattle.krb_ap.proofs.acceptor.Acceptor.decide.Goals as goal
@@ -27,8 +25,8 @@ returns-then-is_memory-clause-goes_on g c = rw c.judge.ensures.same (λ history 
     (ap (after_refusal history (arrival c.args.bytes.now c.args.now)) (sym is))
     (record { stands = stands; keeps = λ keeping exact. exact; forgets = λ forgetting named. absurd (named (ap Err is)) }))
 
-pub returns-else-is_memory-clause-goes_on : goal.returns-else-is_memory-clause-goes_on
-returns-else-is_memory-clause-goes_on g c = λ history stands.
+pub returns-in-Err-clause-goes_on : goal.returns-in-Err-clause-goes_on
+returns-in-Err-clause-goes_on g c = λ history stands.
     let named : _ = is_not _ _ c.is_memory.ensures c.if-is_memory.false in
     let eff : c.effective-now.result ≡ effective history c.args.now = c.effective-now.ensures ∙ ap (λ l. later_of l c.args.now) stands.latest_is in
     let turned : IsTurnedAway c.args.self.now.setup history (arrival c.args.bytes.now c.args.now) (g.M.ReplayMemory.has c.args.self.now.memory) c.in-Err.refusal =
@@ -41,15 +39,61 @@ returns-else-is_memory-clause-goes_on g c = λ history stands.
     (rw c.judge.ensures.same at c.advance.ensures.none_added) (rw c.judge.ensures.same at c.advance.ensures.kept)
     (rw c.judge.ensures.same at c.advance.ensures.keeps) (rw c.judge.ensures.same at c.advance.ensures.forgets)
 
-pub returns-else-is_memory-clause-unchanged : goal.returns-else-is_memory-clause-unchanged
-returns-else-is_memory-clause-unchanged g c = λ memory. absurd (is_not _ _ c.is_memory.ensures c.if-is_memory.false (refusal_of _ _ memory))
+pub returns-in-Err-clause-unchanged : goal.returns-in-Err-clause-unchanged
+returns-in-Err-clause-unchanged g c = λ memory. absurd (is_not _ _ c.is_memory.ensures c.if-is_memory.false (refusal_of _ _ memory))
 
 pub returns-then-is_memory-clause-moves : goal.returns-then-is_memory-clause-moves
 returns-then-is_memory-clause-moves g c = λ named. absurd (named (ap Err (is_so _ _ c.is_memory.ensures c.if-is_memory.true)))
 
-pub returns-else-is_memory-clause-moves : goal.returns-else-is_memory-clause-moves
-returns-else-is_memory-clause-moves g c = λ named.
+pub returns-in-Err-clause-moves : goal.returns-in-Err-clause-moves
+returns-in-Err-clause-moves g c = λ named.
     moved_on _ _ _ c.args.now c.effective-now.result c.effective-now.ensures refl (rw c.judge.ensures.same at c.advance.ensures.newest)
+
+pub returns-in-Ok-remember-clause-moves : goal.returns-in-Ok-remember-clause-moves
+returns-in-Ok-remember-clause-moves g c = λ named.
+    moved_on _ _ _ c.args.now c.effective-now.result c.effective-now.ensures (rw c.judge.ensures.same at c.in-Ok-remember.ensures.newest) c.advance-in-Ok-remember.ensures.newest
+
+pub returns-in-Ok-remember-clause-goes_on : goal.returns-in-Ok-remember-clause-goes_on
+returns-in-Ok-remember-clause-goes_on g c = λ history stands.
+    let eff : c.effective-now.result ≡ effective history c.args.now = c.effective-now.ensures ∙ ap (λ l. later_of l c.args.now) stands.latest_is in
+    let judged : IsJudged c.args.self.now.setup history (arrival c.args.bytes.now c.args.now) c.in-Ok.judged.tuple c.in-Ok.judged.answer =
+    c.in-Ok.ensures.judged history c.args.now stands eff in
+    let same : c.remember.new.self.setup ≡ c.args.self.now.setup = rw c.judge.ensures.same at c.in-Ok-remember.ensures.setup in
+    let IsRecentBy : Stamp → Setup → Type 0 = λ stamp s. IsRecent (later_of (g.M.ReplayMemory.newest c.remember.new.self.memory) c.effective-now.result) s.skew stamp in
+    after_advance _ _ c.args.self.now.setup c.advance-in-Ok-remember.new.self.setup history _ c.args.bytes.now c.args.now c.effective-now.result
+    (g.M.ReplayMemory.has c.args.self.now.memory) (g.M.ReplayMemory.has c.remember.new.self.memory) (g.M.ReplayMemory.has c.advance-in-Ok-remember.new.self.memory)
+    (g.M.ReplayMemory.newest c.args.self.now.memory) (g.M.ReplayMemory.newest c.remember.new.self.memory) (g.M.ReplayMemory.newest c.advance-in-Ok-remember.new.self.memory) _
+    (after_answer history (arrival c.args.bytes.now c.args.now) c.in-Ok.judged.answer c.in-Ok.ensures.named) stands c.effective-now.ensures (rw c.judge.ensures.same at c.in-Ok-remember.ensures.newest) c.advance-in-Ok-remember.ensures.newest
+    (c.advance-in-Ok-remember.ensures.setup ∙ same)
+    (λ stamp had. elim (((rw c.judge.ensures.same at c.in-Ok-remember.ensures.ok) stamp).0 had) [
+      | inl made ↦ inr (subst (λ (s : Stamp). Shows c.args.self.now.setup (effective history c.args.now) c.args.bytes.now s) (sym made) judged.shows)
+      | inr had ↦ inl had
+    ])
+    (λ stamp either. ((rw c.judge.ensures.same at c.in-Ok-remember.ensures.ok) stamp).1 (elim either [
+      | inl had ↦ inr had
+      | inr shows ↦ inl (one_stamp c.facts.ensures c.args.self.now.setup history c.args.bytes.now c.args.now (effective history c.args.now) c.in-Ok.judged.tuple stamp judged.shows shows)
+    ]))
+    c.advance-in-Ok-remember.ensures.none_added
+    (λ stamp had r. c.advance-in-Ok-remember.ensures.kept stamp had (subst (IsRecentBy stamp) (sym same) r)) c.advance-in-Ok-remember.ensures.keeps
+    (λ forgetting stamp new. subst (IsRecentBy stamp) same (c.advance-in-Ok-remember.ensures.forgets forgetting stamp new))
+
+pub returns-in-Ok-remember-clause-memory : goal.returns-in-Ok-remember-clause-memory
+returns-in-Ok-remember-clause-memory g c = λ memory. c.in-Ok.ensures.asks
+
+pub returns-in-Ok-remember-clause-unchanged : goal.returns-in-Ok-remember-clause-unchanged
+returns-in-Ok-remember-clause-unchanged g c = λ memory. absurd (not_memory c.in-Ok.judged.answer c.in-Ok.ensures.named memory)
+
+pub returns-in-Err-remember-clause-memory : goal.returns-in-Err-remember-clause-memory
+returns-in-Err-remember-clause-memory g c = λ memory. c.in-Ok.ensures.asks
+
+pub returns-in-Err-remember-clause-goes_on : goal.returns-in-Err-remember-clause-goes_on
+returns-in-Err-remember-clause-goes_on g c = λ history stands. record {
+  stands = subst (λ (s : Setup). StandsFor s (g.M.ReplayMemory.has c.remember.new.self.memory) (g.M.ReplayMemory.newest c.remember.new.self.memory) history)
+      (sym (rw c.judge.ensures.same at c.in-Err-remember.ensures.setup))
+      (stands_still c.args.self.now.setup history _ _ _ _ stands (rw c.judge.ensures.same at c.in-Err-remember.ensures.err) (rw c.judge.ensures.same at c.in-Err-remember.ensures.newest));
+  keeps = λ keeping exact stamp. (λ new. (exact stamp).0 (((rw c.judge.ensures.same at c.in-Err-remember.ensures.err) stamp).0 new), λ shown. ((rw c.judge.ensures.same at c.in-Err-remember.ensures.err) stamp).1 ((exact stamp).1 shown));
+  forgets = λ forgetting named. absurd (named refl);
+}
 
 pub returns-then-is_memory-clause-limit : goal.returns-then-is_memory-clause-limit
 returns-then-is_memory-clause-limit g c = rw c.judge.ensures.same (λ history stands. record {
@@ -57,8 +101,8 @@ returns-then-is_memory-clause-limit g c = rw c.judge.ensures.same (λ history st
   counted = inl refl;
 })
 
-pub returns-else-is_memory-clause-limit : goal.returns-else-is_memory-clause-limit
-returns-else-is_memory-clause-limit g c = λ history stands.
+pub returns-in-Err-clause-limit : goal.returns-in-Err-clause-limit
+returns-in-Err-clause-limit g c = λ history stands.
     let named : _ = is_not _ _ c.is_memory.ensures c.if-is_memory.false in
     let eff : c.effective-now.result ≡ effective history c.args.now = c.effective-now.ensures ∙ ap (λ l. later_of l c.args.now) stands.latest_is in
     let turned : IsTurnedAway c.args.self.now.setup history (arrival c.args.bytes.now c.args.now) (g.M.ReplayMemory.has c.args.self.now.memory) c.in-Err.refusal =
@@ -68,37 +112,53 @@ returns-else-is_memory-clause-limit g c = λ history stands.
       counted = inl (rw c.judge.ensures.same at c.advance.ensures.refusals);
     }
 
--- ---- what is judged
+-- the moment that counts, as the memory has it
+counted_at : (latest : Option ℤ) (history : List Arrival) (moment now : ℤ) → now ≡ later_of latest moment → latest ≡ greatest history
+    → later_of latest now ≡ effective history moment
+counted_at latest history moment now is same =
+    ap (later_of latest) is ∙ (counts_once latest moment ∙ ap (λ (l : Option ℤ). later_of l moment) same)
 
-pub returns-in-Ok-clause-answer : goal.returns-in-Ok-clause-answer
-returns-in-Ok-clause-answer g c = λ history stands. kept_or (Answers c.args.self.now.setup history (arrival c.args.bytes.now c.args.now)) _ _ c.keep.ensures.answer
-    (c.in-Ok.ensures.judged history c.args.now stands (c.effective-now.ensures ∙ ap (λ l. later_of l c.args.now) stands.latest_is)).answers
-    (λ named. absurd (named refl))
-
-pub returns-in-Ok-clause-goes_on : goal.returns-in-Ok-clause-goes_on
-returns-in-Ok-clause-goes_on g c = λ history stands.
+pub returns-in-Ok-remember-clause-limit : goal.returns-in-Ok-remember-clause-limit
+returns-in-Ok-remember-clause-limit g c = λ history stands.
+    let eff : c.effective-now.result ≡ effective history c.args.now = c.effective-now.ensures ∙ ap (λ l. later_of l c.args.now) stands.latest_is in
     let judged : IsJudged c.args.self.now.setup history (arrival c.args.bytes.now c.args.now) c.in-Ok.judged.tuple c.in-Ok.judged.answer =
-    c.in-Ok.ensures.judged history c.args.now stands (c.effective-now.ensures ∙ ap (λ l. later_of l c.args.now) stands.latest_is) in
-    (rw c.judge.ensures.same at c.keep.ensures.goes_on) history c.args.bytes.now c.args.now stands c.effective-now.ensures judged
+    c.in-Ok.ensures.judged history c.args.now stands eff in
+    let IsPast : ℤ → Stamp → Type 0 = λ at one.
+    IsPastLimit (g.M.ReplayMemory.has c.args.self.now.memory) (g.M.ReplayMemory.limits c.args.self.now.memory) c.args.self.now.setup at one in
+    record {
+      full = λ stamp past.
+          let same : stamp ≡ c.in-Ok.judged.tuple =
+          one_stamp c.facts.ensures c.args.self.now.setup history c.args.bytes.now c.args.now (effective history c.args.now) c.in-Ok.judged.tuple stamp judged.shows past.0 in
+          let failed = ((rw c.judge.ensures.same at c.in-Ok-remember.ensures.full)
+          (subst (λ (at : ℤ). IsPast at c.in-Ok.judged.tuple) (sym (counted_at _ history c.args.now c.effective-now.result c.effective-now.ensures stands.latest_is))
+          (subst (IsPast (effective history c.args.now)) same past.1))).0 in
+          absurd (cc);
+      counted = elim (rw c.judge.ensures.same at c.in-Ok-remember.ensures.refused) [
+        | inl e ↦ inl (c.advance-in-Ok-remember.ensures.refusals ∙ e)
+        | inr h ↦ (let failed = h.1.0 in absurd (cc))
+      ];
+    }
 
-pub returns-in-Ok-clause-limit : goal.returns-in-Ok-clause-limit
-returns-in-Ok-clause-limit g c = λ history stands.
+pub returns-in-Err-remember-clause-limit : goal.returns-in-Err-remember-clause-limit
+returns-in-Err-remember-clause-limit g c = λ history stands.
+    let eff : c.effective-now.result ≡ effective history c.args.now = c.effective-now.ensures ∙ ap (λ l. later_of l c.args.now) stands.latest_is in
     let judged : IsJudged c.args.self.now.setup history (arrival c.args.bytes.now c.args.now) c.in-Ok.judged.tuple c.in-Ok.judged.answer =
-    c.in-Ok.ensures.judged history c.args.now stands (c.effective-now.ensures ∙ ap (λ l. later_of l c.args.now) stands.latest_is) in
-    (rw c.judge.ensures.same at c.keep.ensures.limit) history c.args.bytes.now c.args.now stands c.effective-now.ensures judged
-
-pub returns-in-Ok-clause-moves : goal.returns-in-Ok-clause-moves
-returns-in-Ok-clause-moves g c = λ named.
-    moved_on _ _ _ c.args.now c.effective-now.result c.effective-now.ensures refl ((rw c.judge.ensures.same at c.keep.ensures.moves) named)
-
-pub returns-in-Ok-clause-memory : goal.returns-in-Ok-clause-memory
-returns-in-Ok-clause-memory g c = λ memory. c.in-Ok.ensures.asks
-
-pub returns-in-Ok-clause-offset : goal.returns-in-Ok-clause-offset
-returns-in-Ok-clause-offset g c = kept_or (λ result. IfErr result (TellsPlaceWithin c.args.bytes.now)) _ _ c.keep.ensures.answer c.in-Ok.ensures.placed tt
-
-pub returns-in-Ok-clause-service : goal.returns-in-Ok-clause-service
-returns-in-Ok-clause-service g c = kept_or (λ result. IfOk result (λ accepted. AsksFor c.args.bytes.now accepted.service)) _ _ c.keep.ensures.answer c.in-Ok.ensures.service tt
-
-pub returns-in-Ok-clause-unchanged : goal.returns-in-Ok-clause-unchanged
-returns-in-Ok-clause-unchanged g c = λ memory. (rw c.judge.ensures.same at c.keep.ensures.unchanged) c.in-Ok.ensures.named memory
+    c.in-Ok.ensures.judged history c.args.now stands eff in
+    let IsPast : ℤ → Stamp → Type 0 = λ at one.
+    IsPastLimit (g.M.ReplayMemory.has c.args.self.now.memory) (g.M.ReplayMemory.limits c.args.self.now.memory) c.args.self.now.setup at one in
+    record {
+      full = λ stamp past. refl;
+      counted = elim (rw c.judge.ensures.same at c.in-Err-remember.ensures.refused) [
+        | inl e ↦ inl e
+        | inr h ↦ inr (
+          h.0,
+          (
+            refl,
+            (
+              c.in-Ok.judged.tuple,
+              (judged.shows, subst (λ (at : ℤ). IsPast at c.in-Ok.judged.tuple) (counted_at _ history c.args.now c.effective-now.result c.effective-now.ensures stands.latest_is) h.1.1),
+            ),
+          ),
+        )
+      ];
+    }

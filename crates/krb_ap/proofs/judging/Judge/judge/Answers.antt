@@ -7,69 +7,69 @@ use Rattle.krb_ap.proofs.Truth.{err_is, if_ok, is_not, is_so}
 use Rattle.krb_ap.proofs.TurnedAway.{authenticator_shut, key_unusable, opens_nothing, opens_to_none, ticket_shut, turned_away, wanted, wants_by}
 use Rattle.krb_ap.proofs.Offsets.{cause_within}
 use Rattle.krb_ap.proofs.judging.Judge.judge.Goals as goal
-use Rattle.krb_ap.proofs.judging.Judge.judge.Goals.{In_ok-check_size, In_ok-entry, In-Ok-read}
+use Rattle.krb_ap.proofs.judging.Judge.judge.Goals.{In_ok-check_size, In_ok-entry, In_ok-part}
 
 -- ---- what the steps so far have found
 
 asks_within : (g : _) (c : In_ok-check_size g) → AsksWithin c.args.self.now.rules c.args.bytes.now
-asks_within g c = (ap_req_of c.in-Ok.request, ((rw c.in-Ok.is at c.read_request-read.ensures.read), c.in_ok-check_size.ensures.size))
+asks_within g c = (ap_req_of c.in_ok-request.request, (c.in_ok-request.ensures.read, c.in_ok-check_size.ensures.size))
 
-keyed : (g : _) (c : In_ok-entry g) → Keyed c.args.self.now.rules c.args.bytes.now (ap_req_of c.in-Ok.request) c.in_ok-entry.entry.now
-keyed g c = record { asks = (rw c.in-Ok.is at c.read_request-read.ensures.read); chosen_is = rw c.in_ok-server.ensures at c.in_ok-entry.ensures.chosen }
+keyed : (g : _) (c : In_ok-entry g) → Keyed c.args.self.now.rules c.args.bytes.now (ap_req_of c.in_ok-request.request) c.in_ok-entry.entry.now
+keyed g c = record { asks = c.in_ok-request.ensures.read; chosen_is = rw c.in_ok-server.ensures at c.in_ok-entry.ensures.chosen }
 
-ticketed : (g : _) (c : In-Ok-read g) → Ticketed c.args.self.now.rules c.args.bytes.now (ap_req_of c.in-Ok.request) (enc_ticket_part_of c.in-Ok-read.part)
+ticketed : (g : _) (c : In_ok-part g) → Ticketed c.args.self.now.rules c.args.bytes.now (ap_req_of c.in_ok-request.request) (enc_ticket_part_of c.in_ok-part.part)
 ticketed g c = record {
   entry = c.in_ok-entry.entry.now;
-  keyed = record { asks = (rw c.in-Ok.is at c.read_request-read.ensures.read); chosen_is = rw c.in_ok-server.ensures at c.in_ok-entry.ensures.chosen };
-  opens = record { plain = _; opens = c.in_ok-open.ensures.opened; message = rw c.plain.ensures at (rw c.in-Ok-read.is at c.read_ticket-read.ensures.found) };
+  keyed = record { asks = c.in_ok-request.ensures.read; chosen_is = rw c.in_ok-server.ensures at c.in_ok-entry.ensures.chosen };
+  opens = record { plain = _; opens = c.in_ok-open.ensures.opened; message = rw c.plain.ensures at c.in_ok-part.ensures.found };
 }
 
 -- ---- what it asks for, and the key
 
-pub returns-in-Err-clause-judged : goal.returns-in-Err-clause-judged
-returns-in-Err-clause-judged g c = λ history moment stands eff named.
-    turned_away c.facts.ensures _ history _ moment _ _ (rw c.in-Err.is at c.read_request-read.ensures.early) ((rw c.in-Err.is at c.read_request-read.ensures.refused) _ history moment)
+pub returns-in_err-request-clause-judged : goal.returns-in_err-request-clause-judged
+returns-in_err-request-clause-judged g c = rw (err_is _ c.from_residual.ensures) (λ history moment stands eff named.
+    turned_away c.facts.ensures _ history _ moment _ _ c.in_err-request.ensures.early (c.in_err-request.ensures.refused _ history moment))
 
-pub returns-in-Err-clause-placed : goal.returns-in-Err-clause-placed
-returns-in-Err-clause-placed g c =
-    cause_within c.within.ensures c.args.self.now.rules [] (arrival c.args.bytes.now c.args.now) c.in-Err.refusal ((rw c.in-Err.is at c.read_request-read.ensures.refused) _ [] c.args.now)
+pub returns-in_err-request-clause-placed : goal.returns-in_err-request-clause-placed
+returns-in_err-request-clause-placed g c = rw (err_is _ c.from_residual.ensures)
+    (cause_within c.within.ensures c.args.self.now.rules [] (arrival c.args.bytes.now c.args.now) c.in_err-request.field-0.0 (c.in_err-request.ensures.refused _ [] c.args.now))
 
 pub returns-in_err-check_size-clause-judged : goal.returns-in_err-check_size-clause-judged
-returns-in_err-check_size-clause-judged g c = rw (err_is _ c.from_residual.ensures) (λ history moment stands eff named.
-    wanted c.facts.ensures c.args.self.now.rules history c.args.bytes.now moment _ (ap_req_of c.in-Ok.request) (rw c.in-Ok.is at c.read_request-read.ensures.read) c.in_err-check_size.field-0.0
+returns-in_err-check_size-clause-judged g c = rw (err_is _ c.from_residual-in_err-check_size.ensures) (λ history moment stands eff named.
+    wanted c.facts.ensures c.args.self.now.rules history c.args.bytes.now moment _ (ap_req_of c.in_ok-request.request) c.in_ok-request.ensures.read c.in_err-check_size.field-0.0
     c.in_err-check_size.ensures.wanting)
 
 pub returns-in_err-entry-clause-judged : goal.returns-in_err-entry-clause-judged
 returns-in_err-entry-clause-judged g c = rw (err_is _ c.from_residual-in_err-entry.ensures) (λ history moment stands eff named.
-    wanted c.facts.ensures c.args.self.now.rules history c.args.bytes.now moment _ (ap_req_of c.in-Ok.request) (rw c.in-Ok.is at c.read_request-read.ensures.read) c.in_err-entry.field-0.0
-    (wants_by c.args.self.now.rules (ap_req_of c.in-Ok.request) _ _ c.in_ok-server.ensures c.in_err-entry.ensures.wanting))
+    wanted c.facts.ensures c.args.self.now.rules history c.args.bytes.now moment _ (ap_req_of c.in_ok-request.request) c.in_ok-request.ensures.read c.in_err-entry.field-0.0
+    (wants_by c.args.self.now.rules (ap_req_of c.in_ok-request.request) _ _ c.in_ok-server.ensures c.in_err-entry.ensures.wanting))
 
 -- ---- the ticket
 
 pub returns-in_err-open-clause-judged : goal.returns-in_err-open-clause-judged
 returns-in_err-open-clause-judged g c = rw (err_is _ c.from_residual-in_err-open.ensures) (λ history moment stands eff named.
-    rw (c.in_err-open.ensures.refused named) (ticket_shut c.facts.ensures c.args.self.now.rules history c.args.bytes.now moment _ (ap_req_of c.in-Ok.request) c.in_ok-entry.entry.now
+    rw (c.in_err-open.ensures.refused named) (ticket_shut c.facts.ensures c.args.self.now.rules history c.args.bytes.now moment _ (ap_req_of c.in_ok-request.request) c.in_ok-entry.entry.now
     (keyed g (goal.at.returns-in_err-open-clause-judged g c).In_ok-entry)
     (opens_nothing (entry_key c.in_ok-entry.entry.now) ticket_usage _ enc_ticket_part (c.in_err-open.ensures.nothing named))))
 
-pub returns-in-Err-read-clause-judged : goal.returns-in-Err-read-clause-judged
-returns-in-Err-read-clause-judged g c = λ history moment stands eff named.
-    rw (rw c.in-Err-read.is at c.read_ticket-read.ensures.refused) (ticket_shut c.facts.ensures c.args.self.now.rules history c.args.bytes.now moment _ (ap_req_of c.in-Ok.request) c.in_ok-entry.entry.now
-    (keyed g (goal.at.returns-in-Err-read-clause-judged g c).In_ok-entry)
+pub returns-in_err-part-clause-judged : goal.returns-in_err-part-clause-judged
+returns-in_err-part-clause-judged g c = rw (err_is _ c.from_residual-in_err-part.ensures) (λ history moment stands eff named.
+    rw c.in_err-part.ensures.refused (ticket_shut c.facts.ensures c.args.self.now.rules history c.args.bytes.now moment _ (ap_req_of c.in_ok-request.request) c.in_ok-entry.entry.now
+    (keyed g (goal.at.returns-in_err-part-clause-judged g c).In_ok-entry)
     (opens_to_none c.facts.ensures (entry_key c.in_ok-entry.entry.now) ticket_usage _ _ enc_ticket_part c.in_ok-open.ensures.opened
-    (rw c.plain.ensures at (rw c.in-Err-read.is at c.read_ticket-read.ensures.none))))
+    (rw c.plain.ensures at c.in_err-part.ensures.none))))
 
 pub returns-in_err-require-clause-judged : goal.returns-in_err-require-clause-judged
 returns-in_err-require-clause-judged g c = rw (err_is _ c.from_residual-in_err-require.ensures) (λ history moment stands eff named.
-    rw c.in_err-require.ensures.not_so.0 (key_unusable c.facts.ensures c.args.self.now.rules history c.args.bytes.now moment _ (ap_req_of c.in-Ok.request) (enc_ticket_part_of c.in-Ok-read.part)
-    (ticketed g (goal.at.returns-in_err-require-clause-judged g c).In-Ok-read) (is_not _ _ c.is_usable.ensures c.in_err-require.ensures.not_so.1)))
+    rw c.in_err-require.ensures.not_so.0 (key_unusable c.facts.ensures c.args.self.now.rules history c.args.bytes.now moment _ (ap_req_of c.in_ok-request.request) (enc_ticket_part_of c.in_ok-part.part)
+    (ticketed g (goal.at.returns-in_err-require-clause-judged g c).In_ok-part) (is_not _ _ c.is_usable.ensures c.in_err-require.ensures.not_so.1)))
 
 -- ---- the authenticator
 
 pub returns-in_err-require-2-clause-judged : goal.returns-in_err-require-2-clause-judged
 returns-in_err-require-2-clause-judged g c = rw (err_is _ c.from_residual-in_err-require-2.ensures) (λ history moment stands eff named.
-    rw c.in_err-require-2.ensures.not_so.0 (authenticator_shut c.facts.ensures c.args.self.now.rules history c.args.bytes.now moment _ (ap_req_of c.in-Ok.request) (enc_ticket_part_of c.in-Ok-read.part)
-    (ticketed g (goal.at.returns-in_err-require-2-clause-judged g c).In-Ok-read)
+    rw c.in_err-require-2.ensures.not_so.0 (authenticator_shut c.facts.ensures c.args.self.now.rules history c.args.bytes.now moment _ (ap_req_of c.in_ok-request.request) (enc_ticket_part_of c.in_ok-part.part)
+    (ticketed g (goal.at.returns-in_err-require-2-clause-judged g c).In_ok-part)
     (is_so _ _ c.is_usable.ensures c.in_ok-require.ensures.so) (λ auth opens. is_not _ _ c.is_of_type.ensures c.in_err-require-2.ensures.not_so.1 opens.same_type)))
 
 pub open-requires-2 : goal.open-requires-2
@@ -77,9 +77,9 @@ open-requires-2 g c = is_so _ _ c.is_usable.ensures c.in_ok-require.ensures.so
 
 pub returns-in_err-plain-clause-judged : goal.returns-in_err-plain-clause-judged
 returns-in_err-plain-clause-judged g c = rw (err_is _ c.from_residual-in_err-plain.ensures) (λ history moment stands eff named.
-    rw (c.in_err-plain.ensures.refused named) (authenticator_shut c.facts.ensures c.args.self.now.rules history c.args.bytes.now moment _ (ap_req_of c.in-Ok.request) (enc_ticket_part_of c.in-Ok-read.part)
-    (ticketed g (goal.at.returns-in_err-plain-clause-judged g c).In-Ok-read)
-    (is_so _ _ c.is_usable.ensures c.in_ok-require.ensures.so) (λ auth opens. opens_nothing (session_key (enc_ticket_part_of c.in-Ok-read.part)) authenticator_usage _ authenticator
+    rw (c.in_err-plain.ensures.refused named) (authenticator_shut c.facts.ensures c.args.self.now.rules history c.args.bytes.now moment _ (ap_req_of c.in_ok-request.request) (enc_ticket_part_of c.in_ok-part.part)
+    (ticketed g (goal.at.returns-in_err-plain-clause-judged g c).In_ok-part)
+    (is_so _ _ c.is_usable.ensures c.in_ok-require.ensures.so) (λ auth opens. opens_nothing (session_key (enc_ticket_part_of c.in_ok-part.part)) authenticator_usage _ authenticator
     (c.in_err-plain.ensures.nothing named) auth opens.opens)))
 
 pub returns-in_err-plain-clause-memory : goal.returns-in_err-plain-clause-memory
@@ -92,7 +92,7 @@ judge_decrypted-requires g c = is_so _ _ c.is_usable.ensures c.in_ok-require.ens
 
 pub returns-clause-judged : goal.returns-clause-judged
 returns-clause-judged g c = c.judge_decrypted.ensures.judged c.args.bytes.now (record {
-  ticketed = ticketed g (goal.at.returns-clause-judged g c).In-Ok-read;
+  ticketed = ticketed g (goal.at.returns-clause-judged g c).In_ok-part;
   usable = is_so _ _ c.is_usable.ensures c.in_ok-require.ensures.so;
   same_type = is_so _ _ c.is_of_type.ensures c.in_ok-require-2.ensures.so;
   opens = rw (sym c.as_slice.ensures.value) at c.in_ok-plain.ensures.opened;
@@ -105,4 +105,4 @@ pub returns-clause-asks : goal.returns-clause-asks
 returns-clause-asks g c = if_ok c.judge_decrypted.result (asks_within g (goal.at.returns-clause-asks g c).In_ok-check_size)
 
 pub returns-clause-service : goal.returns-clause-service
-returns-clause-service g c = c.judge_decrypted.ensures.service c.args.bytes.now (rw c.in-Ok.is at c.read_request-read.ensures.read)
+returns-clause-service g c = c.judge_decrypted.ensures.service c.args.bytes.now c.in_ok-request.ensures.read
