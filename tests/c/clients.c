@@ -1,4 +1,4 @@
-/* What a service holds for clients that send one request each, by the order in which they come. The arguments are the files of the keytab and of
+/* What a service holds for clients that send one request each, and then one more, by the order in which they come. The arguments are the files of the keytab and of
  * alice's cache, and how many clients there are. It is linked as held.h says. Each line of output that begins with `wrong` is one. */
 #include "asked.h"
 #include "checks.h"
@@ -52,37 +52,48 @@ static unsigned sent_by(struct client *client, const char *name, long at)
     return code;
 }
 
-/* The names in some order are numbers with five digits. */
-static void in_order(const char *order, const uint32_t *numbers, long count)
+/* Each client sends a request, in some order of their names, which are numbers with five digits. Returns how many bytes more are held for each. */
+static double held_for_each(const char *order, struct client *client, const uint32_t *numbers, long count, long start)
 {
     static const char digits[] = "0123456789abcdefghijklmnopqrstuvwxyz";
-    fevstunik_acceptor_options options = {.size = sizeof options, .skew = 300, .restarts = FEVSTUNIK_RESTART_FIRST_LIFE,
-                                          .limit = (size_t)count + 1, .limit_for_client = (size_t)count + 1};
-    struct client client = {.confounder = {1}};
-    size_t before;
+    const size_t before = held;
     long at;
 
-    is("service", fevstunik_acceptor_new(&service, keytab.at, keytab.size, WEB, &options).code, FEVSTUNIK_OK);
-    (void)fevstunik_accepted_new(&client.accepted);
-    is("the first", sent_by(&client, "alice", 0), FEVSTUNIK_OK);
-    before = held;
     for (at = 0; at < count; at++) {
         char name[5];
         uint32_t left = numbers[at];
 
         for (int digit = 4; digit >= 0; digit--, left /= 36)
             name[digit] = digits[left % 36];
-        if (sent_by(&client, name, at) != FEVSTUNIK_OK)
+        if (sent_by(client, name, start + at) != FEVSTUNIK_OK)
             is(order, at, -1);
     }
-    if (held - before > 240 * (size_t)count)
-        printf("wrong: bytes for each client, %s: %.1f\n", order, (double)(held - before) / (double)count);
-    is(order, held - before <= 240 * (size_t)count, 1);
+    return (double)(held - before) / (double)count;
+}
+
+static void is_at_most(const char *order, double bytes, double most)
+{
+    if (bytes > most)
+        printf("wrong: bytes for each client, %s: %.1f\n", order, bytes);
+    is(order, bytes <= most, 1);
+}
+
+/* At most 240 bytes for a client's first request, and 40 for its second. */
+static void in_order(const char *order, const uint32_t *numbers, long count)
+{
+    fevstunik_acceptor_options options = {.size = sizeof options, .skew = 300, .restarts = FEVSTUNIK_RESTART_FIRST_LIFE,
+                                          .limit = 2 * (size_t)count + 1, .limit_for_client = 2 * (size_t)count + 1};
+    struct client client = {.confounder = {1}};
+
+    is("service", fevstunik_acceptor_new(&service, keytab.at, keytab.size, WEB, &options).code, FEVSTUNIK_OK);
+    (void)fevstunik_accepted_new(&client.accepted);
+    is("the first", sent_by(&client, "alice", 0), FEVSTUNIK_OK);
+    is_at_most(order, held_for_each(order, &client, numbers, count, 0), 240);
+    is_at_most(order, held_for_each(order, &client, numbers, count, count), 40);
     fevstunik_accepted_free(&client.accepted);
     fevstunik_acceptor_free(&service);
 }
 
-/* At most 240 bytes for a client's first request. */
 static void orders(long count)
 {
     uint32_t *numbers = malloc((size_t)count * sizeof *numbers);

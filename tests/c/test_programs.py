@@ -120,8 +120,8 @@ def test_what_requests_take(archive, tmp_path, checks):
 
 
 def test_what_clients_take(archive, tmp_path, checks):
-    """100,000 clients send a request each, in the order of their names, backwards, and at random: at most 240 bytes
-    for each."""
+    """100,000 clients send a request each, in the order of their names, backwards, and at random, and then one more: at
+    most 240 bytes for the first, and 40 for the second."""
     program = linked(archive, tmp_path / "clients", of_tests("clients"), *COUNTED)
     c_programs.counted(checks, run(program, KEYTAB, CACHE, 100_000))
 
