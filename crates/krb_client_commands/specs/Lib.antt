@@ -3,3 +3,4 @@ pub mod FaultText
 pub mod Requesting
 pub mod Finishing
 pub mod Words
+pub mod Inner
