@@ -31,8 +31,10 @@ FOLDERS = $(NEWER:%=$(TO_LIB)/glibc-hwcaps/%) $(TO_LIB)/glibc-hwcaps $(TO_LIB)/p
 # The loader finds a new library when its cache has it. (A library that is staged for packing isn't in use yet.)
 RUN_LDCONFIG = [ -n "$(DESTDIR)" ] || [ "$$(id -u)" != 0 ] || ldconfig
 BUILD := build
-# krbtool and the libraries of the first kind run on every x86-64. The loader takes a shared library for a newer processor by itself.
+# The libraries of the first kind run on every x86-64. The loader takes a shared library for a newer processor by itself.
 NEWER := x86-64-v2 x86-64-v3
+# krbtool has the proved code in these builds, and picks one when it starts.
+PROGRAMS := $(BUILD)/x86-64/krbtool.o $(BUILD)/x86-64-v2/krbtool.o
 SOURCES := $(shell find crates -path '*/out' -prune -o -type f \( -name '*.rt' -o -name '*.antt' \) -print) crates.txt
 # What overwrites keys, around the proved code.
 WIPING := $(wildcard packaging/wiping/*)
@@ -55,13 +57,13 @@ $(BUILD)/proved-krbtool $(BUILD)/proved-krb_c: $(BUILD)/proved-%: $(SOURCES) pac
 	packaging/prove --below $*
 	mkdir -p $(BUILD) && touch $@
 
-$(BUILD)/krbtool.o: $(BUILD)/proved-krbtool packaging/program.py packaging/archive.py
-	packaging/program.py x86-64 $@
-
-$(BUILD)/krbtool: $(BUILD)/krbtool.o packaging/link-program $(WIPING)
-	packaging/link-program x86-64 $< $@
-
 # (a crate's out/ has what was proved for one kind, and the next goes on from that)
+$(PROGRAMS): $(BUILD)/%/krbtool.o: $(BUILD)/proved-krbtool packaging/program.py packaging/archive.py
+	flock $(BUILD)/.building-krbtool packaging/program.py $* $@
+
+$(BUILD)/krbtool: $(PROGRAMS) packaging/link-program $(WIPING)
+	packaging/link-program $@ $(PROGRAMS)
+
 $(LIBRARIES:%/libfevstunik.a=%/libkrb_c.a): $(BUILD)/%/libkrb_c.a: $(BUILD)/proved-krb_c packaging/archive.py
 	flock $(BUILD)/.building packaging/archive.py $* $@
 

@@ -9,6 +9,8 @@ TOP = HERE.parent
 # The builds for each kind of processor, the newest last.
 KINDS = ("x86-64", "x86-64-v2", "x86-64-v3")
 LOADER = "/lib64/ld-linux-x86-64.so.2"
+# The variables with which krbtool takes its build for every x86-64: the C library then says that the processor lacks an extension.
+OLDEST = {"GLIBC_TUNABLES": "glibc.cpu.hwcaps=-SSSE3"}
 
 
 def said(*command, **more):

@@ -6,7 +6,7 @@
                               bench/rattle.py, which rt builds: rattle, memory, greatest
       --no-time               leaves out the times
       --cpu KIND              the build for this kind of processor (x86-64, x86-64-v2 ..); else the one that the
-                              loader takes here
+                              loader takes here (krbtool has those for x86-64 and x86-64-v2)
       --json FILE             writes the numbers, too
       --write                 writes the tables into bench/README.md, and the sentence on speed into README.md
 
@@ -60,7 +60,8 @@ class Bench:
             flags = said("pkg-config", "--cflags", "--libs", "krb5", package).split()
             said("cc", "-O2", f"-I{top / 'include'}", HERE / f"{name}.c", archive, *flags, "-o", self.programs[name])
         self.env = {**os.environ, "PYTHONPATH": str(top / "python"), "FEVSTUNIK_LIBRARY": str(library),
-                    "PYTHONHASHSEED": "0", "PYTHONDONTWRITEBYTECODE": "1", "DEBUGINFOD_URLS": "", "LC_ALL": "C"}
+                    "PYTHONHASHSEED": "0", "PYTHONDONTWRITEBYTECODE": "1", "DEBUGINFOD_URLS": "", "LC_ALL": "C",
+                    **(builds.OLDEST if cpu == builds.KINDS[0] else {})}
 
     def words(self, text, at, count=0):
         return text.format(at=at, count=count, now=int(time.time()), **self.programs).split()

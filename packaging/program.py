@@ -1,5 +1,5 @@
 #!/usr/bin/env python3
-"""Builds the object file of krbtool for one processor. packaging/link-program makes the program of it.
+"""Builds the object file of krbtool for one processor. packaging/link-program makes the program of several.
 
     packaging/program.py CPU OUT     CPU is x86-64, x86-64-v2 or x86-64-v3; OUT is the object file
 

@@ -153,15 +153,27 @@ def program():
     pytest.fail("krbtool isn't built: run `make`")
 
 
+def made(target):
+    """The path of what `make` builds, which it builds again if a source is newer."""
+    with locked():
+        ran = subprocess.run(["make", "-s", target], cwd=TOP, capture_output=True, text=True)
+    if ran.returncode:
+        pytest.fail(f"make {target}: {(ran.stdout + ran.stderr)[-2000:]}")
+    return TOP / target
+
+
+@pytest.fixture(scope="session")
+def installed_program():
+    """krbtool as it is installed: it has several builds of the proved code, and picks one."""
+    return made("build/krbtool")
+
+
 @pytest.fixture(scope="session")
 def library():
     """The built shared library for C and Python."""
-    with locked():
-        ran = subprocess.run(["make", "-s", TARGET], cwd=TOP, capture_output=True, text=True)
-    if ran.returncode:
-        pytest.fail(f"make {TARGET}: {(ran.stdout + ran.stderr)[-2000:]}")
+    archive = made(TARGET)
     version = subprocess.run([TOP / "packaging/version"], capture_output=True, text=True).stdout.strip()
-    return TOP / TARGET.replace(".a", f".so.{version}")
+    return archive.with_suffix(f".so.{version}")
 
 
 @pytest.fixture(scope="session")

@@ -5,6 +5,7 @@ import shutil
 from pathlib import Path
 
 import pytest
+from support import program_builds
 from support.packing import ANSWERS, BUILDS, KEYTAB, LIBDIR, REQUEST, ROOT, run, well, wrong
 
 pytestmark = pytest.mark.packages
@@ -119,12 +120,41 @@ def test_instructions_of_a_build(staged, build):
     assert build not in found or found[build]
 
 
-def test_instructions_of_the_static_library_and_of_krbtool(staged):
+def test_instructions_of_the_static_library(staged):
     """None that not every x86-64 has."""
-    for path in (staged.root / LIBDIR / "libfevstunik.a", staged.root / "usr/bin/krbtool"):
-        code = code_of(path)
-        assert code.count("\n") > 10_000
-        assert {it for added in ADDED.values() for it in added.findall(code)} == set(), path
+    code = code_of(staged.root / LIBDIR / "libfevstunik.a")
+    assert code.count("\n") > 10_000
+    assert {it for added in ADDED.values() for it in added.findall(code)} == set()
+
+
+def functions_of_krbtool(staged):
+    """The functions: the build that each is of, or None, the name and the machine code."""
+    code = code_of(staged.root / "usr/bin/krbtool") + "\n\n"
+    found = re.findall(r"^[0-9a-f]+ <(.*?)>:\n(.*?)\n\n", code, re.S | re.M)
+    return [(program_builds.build_of(name), name, function) for name, function in found]
+
+
+def test_instructions_of_krbtool(staged):
+    """Each build of the proved code has none that only a newer processor has, and what picks a build has none that not every x86-64 has."""
+    builds = {it: "" for it in (None, *program_builds.BUILDS)}
+    for build, _, function in functions_of_krbtool(staged):
+        builds[build] += function
+    found = {it: [cpu for cpu, added in ADDED.items() if added.search(code)] for it, code in builds.items()}
+    assert found == {None: [], "x86-64": [], "x86-64-v2": ["x86-64-v2"]}
+    assert min(code.count("\n") for build, code in builds.items() if build) > 10_000
+
+
+# A small read at a computed place, as in a table.
+LOOK_UP = re.compile(r"\t(?:movz[bw]\w|mov[bwl]?) +[^(\s]*\([^)]*,")
+
+
+def test_tables_of_krbtool(staged):
+    """The build for x86-64-v2 encrypts and decrypts blocks without looking up tables, which the other build does."""
+    found = {it: set() for it in program_builds.BUILDS}
+    for build, name, function in functions_of_krbtool(staged):
+        if build and re.search(r"krb_aes::\S*::(en|de)crypt_\w*blocks?$", name):
+            found[build].add(LOOK_UP.search(function) is not None)
+    assert found == {"x86-64": {True}, "x86-64-v2": {False}}
 
 
 # ---------------------------------------------------------------- speed

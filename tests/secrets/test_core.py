@@ -6,10 +6,11 @@ import subprocess
 
 import pytest
 
-from support import TOP
+from support import program_builds
 from support.builds import CPUS
 from support.c_programs import run, well
 from support.key_material import NOW, PIECE
+from support.program_builds import BUILDS
 
 
 @contextlib.contextmanager
@@ -61,11 +62,12 @@ def test_what_is_left_without_wiping_is_found(built, room, material):
 # ---------------------------------------------------------------- krbtool
 
 
-@pytest.fixture(scope="session")
-def krbtool(lock):
-    with lock:
-        well(run("make", "-s", "build/krbtool"))
-    return TOP / "build/krbtool"
+@pytest.fixture(params=BUILDS)
+def krbtool(request, installed_program, monkeypatch):
+    """krbtool, which takes this build of the proved code."""
+    for name, value in program_builds.environment(request.param).items():
+        monkeypatch.setenv(name, value)
+    return installed_program
 
 
 def left_by(krbtool, room, material, stop, *words, given=""):

@@ -4,7 +4,6 @@ import re
 
 import pytest
 
-from support import TOP
 from support.builds import CPUS
 from support.c_header import header_functions
 from support.c_programs import run, well
@@ -24,11 +23,9 @@ def segments(path, kind):
 
 
 @pytest.fixture(scope="session")
-def linked(built, lock):
+def linked(built, installed_program):
     """The shared libraries and the program, by their names."""
-    with lock:
-        well(run("make", "-s", "build/krbtool"))
-    return {"krbtool": TOP / "build/krbtool"} | {cpu: built[cpu].shared for cpu in CPUS}
+    return {"krbtool": installed_program} | {cpu: built[cpu].shared for cpu in CPUS}
 
 
 LINKED = ("krbtool", *CPUS)
