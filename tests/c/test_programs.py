@@ -127,7 +127,7 @@ def test_what_clients_take(archive, tmp_path, checks):
 
 
 def test_what_large_requests_take(archive, tmp_path, checks):
-    """Requests of 1 MiB for a service whose name is larger than each of the keytab take no memory, and few instructions.
+    """Requests of 1 MiB for a service whose name is larger than each of the keytab take no memory, few instructions.
     One whose ticket doesn't open takes no piece of memory above 64 KiB."""
     web = (b"EX", [b"host", b"web"])
     parts = {"components": ((b"EX", [b""] * 523_000), 200), "component": ((b"EX", [b"host", b"a" * 1_046_000]), 200),
