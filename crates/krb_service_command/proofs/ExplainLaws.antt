@@ -77,20 +77,34 @@ unread_message from to before after items fault status is reads = λ known.
     if_some_map {P = λ text. IsUnexplained text fault} {Q = λ text. (met : ExplainFault) × (IsUnexplained text met × (status ≡ explain_status met))} from
     (λ text has. (fault, (has, is))) (reads.fault (λ three. known (is ∙ three)))
 
--- it is explained
-pub explained : (from to : Option (List ℕ)) (before after : ℕ) (made text bytes : List ℕ) → IfSome from (λ whole. IsWholeText whole text)
-    → read_of text ≡ Ok bytes → IsExplanation bytes made → {X : Type 0} (it : X) (items : X → List ℕ) → items it ≡ made
-    → after ≡ counted before 0 → TakesFile from to
-    → Makes (λ (x : X). IfSome from (λ whole. IsExplainedText whole (items x))) IsUnexplained (λ _. ⊤) explain_status explain_reads from to before after (Ok it)
-explained from to before after made text bytes whole spelled explains it items is reads taken = record {
-  made = if_some_map {P = λ whole. IsWholeText whole text} {Q = λ whole. IsExplainedText whole (items it)} from (λ whole w. record {
-    bytes = bytes;
-    spelled = subst (λ (t : List ℕ). read_of t ≡ Ok bytes) (sym w.0) spelled;
-    explains = subst (λ (t : List ℕ). IsExplanation bytes t) (sym is) explains;
-  }) whole;
-  fault = tt;
-  faulty = λ given fault tells has. none_met from text bytes whole spelled given fault tells has;
-  allowed = tt;
-  reads = reads;
-  taken = taken;
-}
+-- ---- what is made of a message
+
+module _ {X Y : Type 0} (from to : Option (List ℕ)) (before after : ℕ) (items : X → List ℕ) where
+  -- nothing, if it couldn't be read
+  pub unread_made : (Holds : Y → Type 0) (fault : ExplainFault) → ReadsMessage from to before after items (Err fault) → Made Holds from to before after (Err fault)
+  unread_made Holds fault reads = record {
+    made = tt;
+    fault = reads.fault;
+    faulty = λ given e tells has. tt;
+    allowed = tt;
+    reads = reads.reads;
+    taken = reads.taken;
+  }
+
+  -- nothing, if there is no memory for its page
+  pub no_page : (Holds : Y → Type 0) (message : X) → ReadsMessage from to before after items (Ok message) → Made Holds from to before after (Err (Text OutOfMemory))
+  no_page Holds message reads =
+      lacking Holds IsUnexplained (λ _. ⊤) explain_status explain_reads from to before after (Text OutOfMemory) refl tt reads.reads reads.taken
+
+  -- a page that explains it
+  pub explained : (message : X) (page : Y) (text_of : Y → List ℕ) → IsExplanation (items message) (text_of page) → ReadsMessage from to before after items (Ok message)
+      → Made (λ (y : Y). IfSome from (λ text. IsExplainedText text (text_of y))) from to before after (Ok page)
+  explained message page text_of explains reads = record {
+    made = if_some_map {P = λ text. read_of text ≡ Ok (items message)} {Q = λ text. IsExplainedText text (text_of page)} from
+        (λ text spelled. record { bytes = items message; spelled = spelled; explains = explains }) reads.made;
+    fault = tt;
+    faulty = reads.faulty;
+    allowed = tt;
+    reads = reads.reads;
+    taken = reads.taken;
+  }

@@ -110,6 +110,7 @@ stays_on first second = record {
   setup = second.setup ∙ first.setup;
   options = second.options ∙ first.options;
   known = λ before. second.known (first.known before);
+  ran = λ before. second.ran (first.ran before);
 }
 
 module _ {M : Type 0} {has : M → Stamp → Type 0} {newest : M → Option ℤ} where

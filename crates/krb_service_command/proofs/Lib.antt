@@ -3,3 +3,4 @@ pub mod GoingLaws
 pub mod EndLaws
 pub mod ExplainLaws
 pub mod TaskLaws
+pub mod WordLaws

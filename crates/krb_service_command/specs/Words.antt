@@ -1,5 +1,5 @@
 -- What words of the command line ask of `accept` and of `explain`.
-use Rattle.std.specs.Prelude.{◌≡◌, ◌≤◌, ◌*◌, ℕ, ℤ, pos, List, Option, Some, None, Ok, Err}
+use Rattle.std.specs.Prelude.{◌≡◌, ◌≤◌, ◌*◌, ◌⊎◌, ℕ, ℤ, pos, List, Option, Some, None, Ok, Err}
 use Rattle.std.specs.Borrow.{Bor}
 use Rattle.krb_time.specs.Moments.{micros_of}
 use Rattle.krb_time.specs.Time.{IsSeconds}
@@ -7,6 +7,7 @@ use Rattle.krb_name.specs.Reading.{IsReadAs}
 use Rattle.krb_name.specs.declared.principal.Principal.{Principal}
 use Rattle.krb_name.specs.declared.text_fault.TextFault.{TextFault}
 use Rattle.krb_command_line.specs.declared.command_line.AcceptWords.{AcceptWords}
+use Rattle.krb_command_line.specs.declared.command_line.ExplainWords.{ExplainWords}
 use Rattle.krb_file_commands.specs.Status.{service_status}
 use Rattle.krb_file_commands.specs.Words.{Asks, IsNumber, WritesInteger}
 
@@ -36,7 +37,15 @@ abbrev pub IsUnreadName : Option (Bor (List ℕ)) → ℕ → Type 0
 IsUnreadName None status = ⊥
 IsUnreadName (Some text) status = (fault : TextFault) × (IsReadAs text.now (Err fault) × (status ≡ service_status fault))
 
--- ---- what the words of `accept` don't ask for
+-- ---- what the words don't ask for
+
+-- a second
+abbrev pub LacksSecond : List ℕ → Type 0
+LacksSecond text = (second : ℤ) → ¬ IsSecond text second
+
+-- how many seconds clocks may differ
+abbrev pub LacksSkew : List ℕ → Type 0
+LacksSkew text = (skew : ℕ) → ¬ IsSkew text skew
 
 -- a skew and a start
 abbrev pub LacksTimes : AcceptWords → Type 0
@@ -45,3 +54,17 @@ LacksTimes words = (skew : ℕ) (start : Option ℤ) → IsSkew words.skew.now s
 -- a name, or none
 abbrev pub LacksName : Option (Bor (List ℕ)) → Type 0
 LacksName text = (name : Option Principal) → ¬ Asks IsServiceName text name
+
+-- ---- why a command ends before it opens a file, with this exit status
+
+-- a second is asked for by a word that writes none; or it is left to the machine's clock, which can't be read
+abbrev pub IsUnreadSecond : Option (Bor (List ℕ)) → ℕ → Type 0
+IsUnreadSecond None status = status ≡ 3
+IsUnreadSecond (Some text) status = LacksSecond text.now × (status ≡ 2)
+
+abbrev pub IsUnreadAccept : AcceptWords → ℕ → Type 0
+IsUnreadAccept words status = (LacksTimes words × (status ≡ 2)) ⊎ (IsUnreadName words.service status ⊎ IsUnreadName words.only status)
+
+-- `explain` with a keytab
+abbrev pub IsUnreadExplain : ExplainWords → ℕ → Type 0
+IsUnreadExplain words status = (LacksSkew words.skew.now × (status ≡ 2)) ⊎ (IsUnreadSecond words.at status ⊎ IsUnreadName words.only status)

@@ -282,8 +282,9 @@ pub fn accept_lines<M: ReplayMemory, S: Source, K: Sink>(
     ensures taken { TakesAtMost (S.remaining source.old) (S.remaining source.new) input_limit }
     ensures writes { K.failure_count sink.new ≡ counted (K.failure_count sink.old) (failed_writes result) }
 
-    // Nor is there a greater exit status, whatever is known of the source.
+    // Nor is there another exit status than 0, 1 and 3, whatever is known of the source.
     ensures known { IfOk result (λ status. status ≤ 3) }
+    ensures ran { IfOk result (λ status. status ≢ 2) }
 {
     let mut piece = vec![in alloc; 0u8; PIECE]?;
     let mut session = Session {

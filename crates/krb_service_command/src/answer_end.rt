@@ -1,6 +1,6 @@
 //! What follows an answer of `accept` on its line.
 
-ghost use Rattle.std.specs.Prelude.{◌≡◌, ◌≤◌, ◌++◌, ◌∷◌, [], IfOk, IsErrOf, OnOk, string_bytes};
+ghost use Rattle.std.specs.Prelude.{◌≡◌, ◌≢◌, ◌≤◌, ◌++◌, ◌∷◌, [], IfOk, IsErrOf, OnOk, string_bytes};
 ghost use Rattle.krb_gss.specs.Answer.{message_of};
 ghost use Rattle.krb_call_lines.specs.Forms.{IsSentTooLong, TellsAnswer};
 ghost use Rattle.krb_service_command.specs.AnswerEnd.{IsErrorEnd, IsReplyEnd, IsAnswerEnd, named, end_status, end_text};
@@ -148,6 +148,7 @@ pub(crate) fn write_end(end: &AnswerEnd, line: &mut String) -> Result<(), AllocE
 pub(crate) fn status_of_end(end: &AnswerEnd) -> u8
     ensures status { result ≡ end_status end.now }
     ensures known { result ≤ 3 }
+    ensures ran { result ≢ 2 }
 {
     match end {
         AnswerEnd::OutOfMemory => FAILED,

@@ -1,6 +1,6 @@
 //! What `accept` prints for a line.
 
-ghost use Rattle.std.specs.Prelude.{◌≡◌, ◌≤◌, ◌⊎◌, ◌++◌, ◌∷◌, IfOk, IfErr, OnOk, OnErr, codes, string_bytes};
+ghost use Rattle.std.specs.Prelude.{◌≡◌, ◌≢◌, ◌≤◌, ◌⊎◌, ◌++◌, ◌∷◌, IfOk, IfErr, OnOk, OnErr, codes, string_bytes};
 ghost use Rattle.std.specs.Fmt.{decimal, signed_decimal};
 ghost use Rattle.std.specs.Io.KnownBytes.{Appends};
 ghost use Rattle.krb_name.specs.Flow.{counted, AppendsBeginning};
@@ -118,6 +118,7 @@ fn refused_text(alloc: Global, refusal: &Refusal, end: &AnswerEnd) -> Result<Str
 pub(crate) fn status_of_outcome(outcome: &LineOutcome) -> u8
     ensures status { result ≡ outcome_status outcome.now }
     ensures known { result ≤ 3 }
+    ensures ran { result ≢ 2 }
 {
     match outcome {
         LineOutcome::BadLine | LineOutcome::BadToken(_) => REFUSED,
@@ -130,6 +131,7 @@ pub(crate) fn status_of_outcome(outcome: &LineOutcome) -> u8
 fn status_of_call(outcome: &Outcome) -> u8
     ensures status { result ≡ call_status outcome.now }
     ensures known { result ≤ 3 }
+    ensures ran { result ≢ 2 }
 {
     match outcome {
         Ok(_) => 0,

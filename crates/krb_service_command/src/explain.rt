@@ -4,8 +4,8 @@ ghost use Rattle.std.specs.Prelude.{IfSome};
 ghost use Rattle.krb_service_command.specs.Explaining.{IsExplainedText, IsUnexplained, explain_reads};
 
 use crate::explain_fault::ExplainFault;
-use crate::text::read_text;
-use krb_explain::{explain, message_bytes};
+use crate::text::read_message;
+use krb_explain::explain;
 use krb_file_commands::Product;
 use krb_name::Source;
 use std::alloc::Global;
@@ -24,8 +24,7 @@ impl Product for Explain {
     ghost failed_reads = { explain_reads };
 
     fn make<S: Source>(&self, alloc: Global, source: &mut S) -> Result<Vec<u8>, ExplainFault> {
-        let text = read_text(alloc, source)?;
-        let bytes = message_bytes(alloc, &text)?;
+        let bytes = read_message(alloc, source)?;
         let page = explain(alloc, &bytes)?;
         Ok(page.into_bytes())
     }

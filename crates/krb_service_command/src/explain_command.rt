@@ -1,18 +1,19 @@
 //! `explain`, by the words of the command line.
 
-ghost use Rattle.std.specs.Prelude.{◌≡◌, ◌⊎◌, ◌≤◌, ℤ, IfErr, IfOk, IfSome, Ok, OnErr, Some};
+ghost use Rattle.std.specs.Prelude.{◌≡◌, ◌≢◌, ◌⊎◌, ◌≤◌, IfErr, IfOk, IfSome, IsSome, Ok, Err, Some};
 ghost use Rattle.krb_explain.specs.Input.{read_of};
 ghost use Rattle.krb_service_command.specs.Inner.Message.{IsUnreadMessage};
-ghost use Rattle.krb_service_command.specs.Words.{IsSecond};
+ghost use Rattle.krb_service_command.specs.Inner.Task.{AsksExplain};
+ghost use Rattle.krb_service_command.specs.Words.{IsSecond, IsUnreadExplain, IsUnreadSecond, LacksName, LacksSkew};
 
 use crate::explain::Explain;
 use crate::explain_keys::ExplainWithKeys;
+use crate::opening::opened_source;
 use crate::task::{name_of, second_in, skew_of};
 use crate::text::read_message;
 use krb_command_line::ExplainWords;
 use krb_file_commands::{
-    FAILED, WRONG_WORDS, complain, complain_of, file_line, open_file, produce, run_product,
-    source_of,
+    FAILED, WRONG_WORDS, complain, complain_of, file_line, produce, run_product,
 };
 use krb_msg::Seconds;
 use krb_name::{ReadSource, SliceSource, Source, WriteSink};
@@ -30,11 +31,21 @@ const MESSAGE: &str = "message";
 const CLOCK: &str = "clock";
 
 /// Explains the message of the command line, of a file or of standard input, and returns the exit status.
+///
+/// - 0: the explanation was printed;
+/// - 1: the text doesn't spell bytes or is too long, or the keytab's content is refused;
+/// - 2: a keytab is named, and the skew or the second isn't one, or the name isn't a name. This comes before a file is opened;
+/// - 3: a file, standard input, the output or the clock failed, or memory ran out.
+///
+/// Except for 0, and for a wrong skew or second, what is wrong is printed on standard error.
 pub fn run_explain<R: AllocGlobal + Files + Clock + Input + Print + Eprint>(
     rt: &R,
     words: ExplainWords<'_>,
 ) -> u8
-    ensures { result ≤ 3 }
+    ensures known { result ≤ 3 }
+    ensures words { result ≡ 2 → IsSome words.entry.keytab × IsUnreadExplain words.entry 2 }
+    ensures skew { IsSome words.entry.keytab → LacksSkew words.entry.skew.now → result ≡ 2 }
+    ensures others { IsSome words.entry.keytab → IsUnreadSecond words.entry.at 2 ⊎ LacksName words.entry.only → (result ≡ 2) ⊎ (result ≡ 3) }
 {
     match words.keytab {
         Some(path) => explain_by(rt, words, path),
@@ -47,7 +58,8 @@ fn explain_alone<R: AllocGlobal + Files + Input + Print + Eprint>(
     rt: &R,
     words: ExplainWords<'_>,
 ) -> u8
-    ensures { result ≤ 3 }
+    ensures known { result ≤ 3 }
+    ensures ran { result ≢ 2 }
 {
     match (words.message, words.file) {
         (Some(text), _) => explain_source(rt, SliceSource::new(text.as_bytes()), MESSAGE),
@@ -62,7 +74,8 @@ fn explain_source<R: AllocGlobal + Print + Eprint, S: Source + Drop>(
     source: S,
     name: &str,
 ) -> u8
-    ensures { result ≤ 3 }
+    ensures known { result ≤ 3 }
+    ensures ran { result ≢ 2 }
 {
     let mut source = source;
     let mut sink = WriteSink::new(io::writer(rt));
@@ -78,38 +91,47 @@ fn explain_by<R: AllocGlobal + Files + Clock + Input + Print + Eprint>(
     words: ExplainWords<'_>,
     keytab: &str,
 ) -> u8
-    ensures { result ≤ 3 }
+    ensures known { result ≤ 3 }
+    ensures words { result ≡ 2 → IsUnreadExplain words.entry 2 }
+    ensures skew { LacksSkew words.entry.skew.now → result ≡ 2 }
+    ensures others { IsUnreadSecond words.entry.at 2 ⊎ LacksName words.entry.only → (result ≡ 2) ⊎ (result ≡ 3) }
+{
+    match wanted_of(rt, words) {
+        Ok(wanted) => run_product(rt, &wanted, "explain", keytab, None),
+        Err(status) => status,
+    }
+}
+
+// What is asked for with a keytab. If it can't be read, that is printed, and the exit status is the error.
+fn wanted_of<R: AllocGlobal + Files + Clock + Input + Eprint>(
+    rt: &R,
+    words: ExplainWords<'_>,
+) -> Result<ExplainWithKeys, u8>
+    ensures asked { IfOk result (AsksExplain words.entry) }
+    ensures skew { LacksSkew words.entry.skew.now → result ≡ Err 2 }
+    ensures known { IfErr result (λ status. status ≤ 3) }
+    ensures words { IfErr result (λ status. status ≡ 2 → IsUnreadExplain words.entry status) }
+    ensures others { IsUnreadSecond words.entry.at 2 ⊎ LacksName words.entry.only → IfErr result (λ status. (status ≡ 2) ⊎ (status ≡ 3)) }
 {
     let Some(skew) = skew_of(words.skew) else {
-        return WRONG_WORDS;
+        return Err(WRONG_WORDS);
     };
-    let second = match second_of(rt, words.at) {
-        Ok(second) => second,
-        Err(status) => return status,
-    };
-    let only = match name_of(rt, "only", words.only) {
-        Ok(only) => only,
-        Err(status) => return status,
-    };
-    let bytes = match message_of(rt, words) {
-        Ok(bytes) => bytes,
-        Err(status) => return status,
-    };
-    let wanted = ExplainWithKeys {
+    let second = second_of(rt, words.at)?;
+    let only = name_of(rt, "only", words.only)?;
+    let bytes = message_of(rt, words)?;
+    Ok(ExplainWithKeys {
         bytes,
         second,
         skew,
         only,
-    };
-    run_product(rt, &wanted, "explain", keytab, None)
+    })
 }
 
 // The second that is asked for, or that of the machine's clock. If the clock can't be read, that is printed, and the exit status is the
 // error.
 fn second_of<R: Clock + Eprint>(rt: &R, text: Option<&str>) -> Result<Seconds, u8>
     ensures asked { IfOk result (λ second. IfSome text.entry (λ word. IsSecond word.now second)) }
-    ensures unread { OnErr result (IfSome text.entry (λ word. (second : ℤ) → ¬ IsSecond word.now second)) }
-    ensures status { IfErr result (λ status. (status ≡ 2) ⊎ (status ≡ 3)) }
+    ensures unread { IfErr result (IsUnreadSecond text.entry) }
 {
     match text {
         Some(text) => match second_in(text) {
@@ -137,14 +159,12 @@ fn message_of<R: AllocGlobal + Files + Input + Eprint>(
 ) -> Result<Vec<u8>, u8>
     ensures bytes { IfSome words.entry.message (λ text. IfOk result (λ bytes. read_of text.now ≡ Ok bytes.items)) }
     ensures fault { IfSome words.entry.message (λ text. IfErr result (IsUnreadMessage (Some text.now))) }
-    ensures status { IfErr result (λ status. status ≤ 3) }
+    ensures known { IfErr result (λ status. status ≤ 3) }
+    ensures ran { IfErr result (λ status. status ≢ 2) }
 {
     match (words.message, words.file) {
         (Some(text), _) => message_from(rt, SliceSource::new(text.as_bytes()), MESSAGE),
-        (None, Some(path)) => {
-            let opened = open_file(rt, path)?;
-            message_from(rt, source_of(rt, opened, "explain")?, path)
-        }
+        (None, Some(path)) => message_from(rt, opened_source(rt, path, "explain")?, path),
         (None, None) => message_from(rt, ReadSource::new(rt.reader()), INPUT),
     }
 }
@@ -157,7 +177,8 @@ fn message_from<R: AllocGlobal + Eprint, S: Source + Drop>(
 ) -> Result<Vec<u8>, u8>
     ensures bytes { IfOk result (λ bytes. IfSome (S.remaining source) (λ text. read_of text ≡ Ok bytes.items)) }
     ensures fault { IfErr result (IsUnreadMessage (S.remaining source)) }
-    ensures status { IfErr result (λ status. status ≤ 3) }
+    ensures known { IfErr result (λ status. status ≤ 3) }
+    ensures ran { IfErr result (λ status. status ≢ 2) }
 {
     let mut source = source;
     match read_message(rt.alloc(), &mut source) {

@@ -17,6 +17,7 @@ mod explain_command;
 mod explain_fault;
 mod explain_keys;
 mod fault;
+mod opening;
 mod task;
 mod text;
 

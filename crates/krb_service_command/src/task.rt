@@ -5,7 +5,7 @@ ghost use Rattle.krb_call_lines.specs.declared.form.Form.TheVariants.{Message, T
 ghost use Rattle.krb_file_commands.specs.Words.{Asks};
 ghost use Rattle.krb_service_command.specs.AnswerEnd.{named};
 ghost use Rattle.krb_service_command.specs.Inner.Task.{AsksAccept};
-ghost use Rattle.krb_service_command.specs.Words.{IsSecond, IsServiceName, IsSkew, IsStart, IsUnreadName, LacksTimes};
+ghost use Rattle.krb_service_command.specs.Words.{IsSecond, IsServiceName, IsSkew, IsStart, IsUnreadAccept, IsUnreadName, LacksTimes};
 
 use crate::accept::AnswerOptions;
 use krb_call_lines::Form;
@@ -44,8 +44,7 @@ pub(crate) fn accept_task_of<'a, R: AllocGlobal + Eprint>(
     ensures asked { IfOk result (AsksAccept words.entry) }
     ensures times { LacksTimes words.entry → result ≡ Err 2 }
     ensures status { IfErr result (λ status. (status ≡ 2) ⊎ (status ≡ 3)) }
-    ensures fault { IfErr result (λ status. LacksTimes words.entry
-        ⊎ (IsUnreadName words.entry.service status ⊎ IsUnreadName words.entry.only status)) }
+    ensures fault { IfErr result (IsUnreadAccept words.entry) }
 {
     let Some(times) = times_of(words.skew, words.started) else {
         return Err(WRONG_WORDS);

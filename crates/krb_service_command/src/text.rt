@@ -15,7 +15,9 @@ use std::alloc::Global;
 /// Reads a text from a source, and returns the bytes that it spells.
 ///
 /// # Errors
-/// Those of `read_text` and of `message_bytes`.
+/// - `TooLong`: the text has more than 16,777,216 bytes.
+/// - `Read`: a read of the source failed.
+/// - `Text`: that of `message_bytes`, or there is no memory for the text.
 pub(crate) fn read_message<S: Source>(
     alloc: Global,
     source: &mut S,
@@ -28,13 +30,8 @@ pub(crate) fn read_message<S: Source>(
     Ok(bytes)
 }
 
-/// Reads a text from a source, to its end or to one byte past 16,777,216.
-///
-/// # Errors
-/// - `TooLong`: there is such a byte.
-/// - `Read`: a read of the source failed.
-/// - `Text(OutOfMemory)`: there is no memory for the text.
-pub(crate) fn read_text<S: Source>(alloc: Global, source: &mut S) -> Result<Vec<u8>, ExplainFault>
+// Reads a text from a source, to its end or to one byte past 16,777,216.
+fn read_text<S: Source>(alloc: Global, source: &mut S) -> Result<Vec<u8>, ExplainFault>
     ensures text { IfOk result (λ text. IfSome (S.remaining source.old) (λ whole. IsWholeText whole text.items)) }
     ensures unread { IfErr result (IsUnread (S.remaining source.old)) }
     ensures taken { TakesFile (S.remaining source.old) (S.remaining source.new) }

@@ -1,5 +1,5 @@
 -- How far `accept` is with its input. A replay memory is read by two words: which stamps it has, and its latest moment.
-use Rattle.std.specs.Prelude.{◌≡◌, ◌⊎◌, ◌<◌, ◌≤◌, max, ℕ, ℤ, List, [], ◌∷◌, ◌++◌, Option, length}
+use Rattle.std.specs.Prelude.{◌≡◌, ◌≢◌, ◌⊎◌, ◌<◌, ◌≤◌, max, ℕ, ℤ, List, [], ◌∷◌, ◌++◌, Option, length}
 use Rattle.std.specs.Io.KnownBytes.{Appends, Consumes, IsAtEnd}
 use Rattle.krb_name.specs.Flow.{counted}
 use Rattle.krb_replay.specs.Stamp.{Stamp}
@@ -23,6 +23,7 @@ pub record Stays {M : Type 0} (old new : Session) (service next : Service M) : T
   pub setup : next.setup ≡ service.setup
   pub options : new.options ≡ old.options
   pub known : old.status ≤ 3 → new.status ≤ 3
+  pub ran : old.status ≢ 2 → new.status ≢ 2
 
 -- after a history this became of a line, and the service stands for the history then
 pub record BecomesOf {M : Type 0} (has : M → Stamp → Type 0) (newest : M → Option ℤ) (options : AnswerOptions) (service next : Service M)

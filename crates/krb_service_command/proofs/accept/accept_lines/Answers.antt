@@ -93,3 +93,9 @@ returns-then-is_empty-clause-known g c = c.answer_source.ensures.stays.known (om
 
 pub returns-clause-known : goal.returns-clause-known
 returns-clause-known g c = c.answer_line.ensures.stays.known (c.answer_source.ensures.stays.known (omega arith))
+
+pub returns-then-is_empty-clause-ran : goal.returns-then-is_empty-clause-ran
+returns-then-is_empty-clause-ran g c = c.answer_source.ensures.stays.ran (λ two. omega (arith, two))
+
+pub returns-clause-ran : goal.returns-clause-ran
+returns-clause-ran g c = c.answer_line.ensures.stays.ran (c.answer_source.ensures.stays.ran (λ two. omega (arith, two)))

@@ -13,3 +13,6 @@ returns-in-Ok-clause-names g c = λ lacks.
 
 pub returns-in-Err-clause-times : goal.returns-in-Err-clause-times
 returns-in-Err-clause-times g c = λ lacks. let two = c.in-Err.ensures.times lacks in cc
+
+pub returns-in-Err-clause-words : goal.returns-in-Err-clause-words
+returns-in-Err-clause-words g c = λ two. rw two at c.in-Err.ensures.fault

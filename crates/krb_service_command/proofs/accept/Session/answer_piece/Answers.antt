@@ -9,7 +9,7 @@ lines-init g c = (
   record {
     parts = refl;
     going = λ start came going. rw (append-nil came) going;
-    stays = record { setup = refl; options = refl; known = λ before. before };
+    stays = record { setup = refl; options = refl; known = λ before. before; ran = λ before. before };
     counted = refl;
   },
 )

@@ -10,7 +10,7 @@ loop-came-init g c = record {
   room = c.requires.piece;
   reached = λ start going. record { came = []; consumed = Consumes-nil (g.S.Source.remaining c.args.source.now); counted = refl; going = going };
   came = record { bytes = []; consumed = Consumes-nil (g.S.Source.remaining c.args.source.now); counted = refl };
-  stays = record { setup = refl; options = refl; known = λ before. before };
+  stays = record { setup = refl; options = refl; known = λ before. before; ran = λ before. before };
   reads = refl;
   writes = refl;
 }
