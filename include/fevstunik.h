@@ -25,7 +25,7 @@
  *    the call is given.
  *  - A bool is 0 or 1. Sizes are at most PTRDIFF_MAX.
  *  - malloc and free belong to one allocator, which aligns memory as C requires.
- *  - A call has 24 KiB of stack. The library uses at most 17 KiB of it, and malloc and free the
+ *  - A call has 24 KiB of stack. The library uses at most 16 KiB of it, and malloc and free the
  *    rest.
  * Never call a function of this library from a signal handler, or in the child of a process that
  * forked while it had several threads.

@@ -97,18 +97,13 @@ def test_the_archive_asks_for_no_executable_stack(built, cpu):
     assert "X" not in flags
 
 
-# The call that decides on a login by one function after another. Each other call uses less of the stack.
-DECIDING = "SERVICE_ANSWER"
-
-
 @pytest.mark.parametrize("cpu", CPUS)
 def test_stack_that_a_call_uses(built, cpu):
-    """No call uses more than the 17 KiB that the header says."""
+    """No call uses more than the 16 KiB that the header says."""
     text = (built[cpu].folder / "depths.h").read_text()
     depths = {name: int(it) for name, it in re.findall(r"^#define DEPTH_OF_(\w+) (\d+)$", text, re.M)}
     assert len(depths) == len(header_functions())
-    assert depths[DECIDING] <= 17 * 1024
-    assert max(depth for name, depth in depths.items() if name != DECIDING) <= 16 * 1024
+    assert max(depths.values()) <= 16 * 1024
 
 
 # The bytes of an array in a function, flags of the compiler, and whether the function's frame is too large.
