@@ -25,10 +25,9 @@ TABLES = {
     "krb_aes::expansion::sub_word",
     "krb_aes::lanes::decrypt_four_blocks",
     "krb_aes::lanes::decrypt_two_blocks",
+    "krb_aes::prepared_keys::prepared_keys",
     "krb_aes::schedule::KeySchedule::decrypt_block",
     "krb_aes::schedule::KeySchedule::encrypt_block",
-    "krb_enc::profiles::Sha256Aes128Enctype::schedule",
-    "krb_enc::profiles::Sha384Aes256Enctype::schedule",
 }
 STEPS = 62
 
