@@ -1,12 +1,16 @@
 """No jump and no address depends on a key or on a plain text, except those below. valgrind looks at the machine code of
-each build, while it takes keys and plain texts for memory that was never written (timed.c)."""
+each build, while it takes keys and plain texts for memory that was never written (timed.c, hidden.c)."""
+import os
 import xml.etree.ElementTree as ElementTree
 from collections import Counter
 
 import pytest
 
+from support import TESTS, program_builds
 from support.builds import CPUS
-from support.c_programs import run
+from support.c_programs import STRICT, run, well
+from support.key_material import NOW
+from support.program_builds import BUILDS
 
 JUMP, ADDRESS = "UninitCondition", "UninitValue"
 # The jumps: how often the run makes each. What it decides is the answer, or which keys are derived again.
@@ -33,16 +37,23 @@ TABLES = {
 STEPS = 62
 
 
-def dependences(build, room, over=None):
-    """How often a jump or an address depends on a secret, by its kind and by the function that it is in."""
-    program, report = build.linked("timed", room / "timed", over=over), room / "report.xml"
-    ran = run("valgrind", "-q", "--error-limit=no", "--xml=yes", f"--xml-file={report}", program, room)
-    assert ran.returncode == 0 and len(ran.stdout.splitlines()) == STEPS, ran.stdout + ran.stderr
+def watched(room, *words, **more):
+    """What a program writes, and how often a jump or an address in it depends on a secret, by its kind and by the
+    function that it is in."""
+    report = room / "report.xml"
+    ran = well(run("valgrind", "-q", "--error-limit=no", "--xml=yes", f"--xml-file={report}", *words, **more))
     report = ElementTree.parse(report)
     counts = {it.findtext("unique"): int(it.findtext("count")) for it in report.iterfind("errorcounts/pair")}
     found = Counter()
     for it in report.iterfind("error"):
         found[it.findtext("kind"), it.find("stack/frame").findtext("fn")] += counts[it.findtext("unique")]
+    return ran.stdout, found
+
+
+def dependences(build, room, over=None):
+    """What is found of the library's calls."""
+    wrote, found = watched(room, build.linked("timed", room / "timed", over=over), room)
+    assert len(wrote.splitlines()) == STEPS, wrote
     return found
 
 
@@ -77,3 +88,30 @@ ENDS_EARLY = """    uint8_t sum[24];
 def test_a_dependence_is_noticed(built, room, old, new, function):
     build = built["x86-64-v2"]
     assert dependences(build, room, build.planted(room, "calls.c", old, new))[JUMP, function] > 0
+
+
+# ---------------------------------------------------------------- krbtool
+
+
+@pytest.fixture
+def hiding(room, material):
+    """The variables with which krbtool doesn't know its keys."""
+    library = room / "hidden.so"
+    well(run("gcc", "-std=gnu99", "-O1", *STRICT[:3], "-shared", "-fPIC", TESTS / "secrets/hidden.c", "-o", library))
+    kinds = ("key-service", "key-session", "key-subkey")
+    keys = (key.hex() for name, key in material.files.items() if name.startswith(kinds))
+    return {"LD_PRELOAD": str(library), "HIDDEN": ",".join(keys)}
+
+
+@pytest.mark.parametrize("build", BUILDS)
+def test_time_of_krbtool_depends_on_no_secret(installed_program, hiding, room, material, build):
+    env = {**os.environ, **program_builds.environment(build), **hiding}
+    lines = "".join(f"{NOW} 0 {material.files[f'request-{etype}'].hex()}\n" for etype in (19, 20))
+    words = ("accept", room / "keytab", "--only", "host/web@EX")
+    wrote, found = watched(room, installed_program, *words, input=lines, env=env)
+    assert wrote.count("accepted alice@EX") == 2
+    jumps, tables = ({name.removeprefix(program_builds.prefix(build)) for kind, name in found if kind == it}
+                     for it in (JUMP, ADDRESS))
+    assert jumps and jumps <= set(JUMPS)
+    assert tables <= TABLES if build == "x86-64" else tables == set()
+    assert {kind for kind, _ in found} <= {JUMP, ADDRESS}
