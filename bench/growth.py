@@ -160,7 +160,7 @@ def accepting(folder):
         keys, tickets, now = exchange.laid_out(folder, 19, 1, size)
         keytab = fevstunik.Keytab.read(keys)
         request, _ = fevstunik.make_request(fevstunik.CredentialCache.read(tickets), "host/web0.example.test@EXAMPLE.TEST", now=int(now))
-        return of_a_call(lambda: fevstunik.Acceptor(keytab, None, first_life=True).accept(request, now=int(now)))
+        return of_a_call(lambda: fevstunik.Acceptor(keytab, None, any_name=True, first_life=True).accept(request, now=int(now)))
 
     return run_of
 
@@ -182,7 +182,7 @@ def calls(folder):
     yield "fevstunik_keytab_add, entries", 10_000, lambda size: of_a_call(lambda: keytab(size).added(entry))
     yield "fevstunik_keytab_remove, entries", 10_000, lambda size: of_a_call(lambda: keytab(size).removed(size - 1))
     yield "fevstunik_keytab_write, entries", 10_000, lambda size: of_a_call(keytab(size).compacted)
-    yield "fevstunik_acceptor_new, entries", 10_000, lambda size: of_a_call(lambda: fevstunik.Acceptor(keytab(size), None, first_life=True))
+    yield "fevstunik_acceptor_new, entries", 10_000, lambda size: of_a_call(lambda: fevstunik.Acceptor(keytab(size), None, any_name=True, first_life=True))
     yield "fevstunik_acceptor_accept, bytes of a ticket's authorization data", 1 << 15, accepting(folder)
     yield "fevstunik_cache_new, credentials", 1_500, lambda size: of_a_call(
         lambda data=files.cache(size): fevstunik.CredentialCache(data))

@@ -925,8 +925,8 @@ fevstunik_answer fevstunik_keytab_write(const uint8_t *keytab, size_t keytab_siz
  * backslash, and a byte that isn't a visible ASCII character is written as `\x` and two hexadecimal
  * digits in lower case. `size` is the number of components. A name has only one text.
  *
- * Returns FEVSTUNIK_OK, FEVSTUNIK_NOT_UTF8, FEVSTUNIK_BAD_TEXT with the offset in `at`,
- * FEVSTUNIK_NO_REALM or FEVSTUNIK_OUT_OF_MEMORY.
+ * Returns FEVSTUNIK_OK, FEVSTUNIK_NOT_UTF8, FEVSTUNIK_BAD_TEXT with the offset in `at`, or
+ * FEVSTUNIK_NO_REALM. The call allocates no memory.
  *
  *     if (fevstunik_name_check((const uint8_t *)"host/web@EX", 11).code == FEVSTUNIK_OK) ...
  */

@@ -8,12 +8,14 @@ from types import TracebackType
 from typing import Callable
 
 from . import _interface
+from ._codes import Code
+from ._errors import Fault
 from ._files import CredentialCache
 from ._library import Bytes, Handle, Secret, filled, octets, read, text_of
 from ._messages import Messages, Side
 from ._shown import fit_for_a_line
 from ._tokens import ContextFlags, KrbError, Says, bindings_of, open_answer, read_verdict, wrap_request
-from ._values import CONFOUNDER, Key, Moment, When, chosen, clock_of_request
+from ._values import CONFOUNDER, KEY_SIZES, Key, Moment, When, chosen, clock_of_request
 
 
 @dataclass(frozen=True)
@@ -138,13 +140,24 @@ def make_request(cache: CredentialCache, service: str, *, now: When | None = Non
     name, at, confounder, choice = text_of(service), clock_of_request(now), os.urandom(CONFOUNDER), chosen(subkey, seq, wants_reply)
     call, more = ("request", ()) if context is None else ("context_request", (byref(_context(context, bindings)),))
     pending = Handle("pending")
-    request = filled(lambda *into: cache._handle.call(
-        call, pending.pointer, name, len(name), byref(at), confounder, CONFOUNDER, *choice, *more, *into))
+    try:
+        request = filled(lambda *into: cache._handle.call(
+            call, pending.pointer, name, len(name), byref(at), confounder, CONFOUNDER, *choice, *more, *into))
+    except Fault as fault:
+        fault.hint = _HINTS.get(fault.code, "").format(fit_for_a_line(service))
+        raise
     return request, Pending(pending, subkey, seq)
 
 
-# KRB_AP_ERR_SKEW (RFC 4120, section 7.5.9)
-_SKEW = 37
+# What to do about a fault of a request.
+_HINTS = {
+    Code.NO_CREDENTIAL: "get one by `kvno {0}`, or by the cache's `fetch`",
+    Code.CREDENTIAL_EXPIRED: "get a new one by `kinit` and `kvno {0}`",
+    Code.NO_REALM: "the service's name has a realm, as host/web@EX",
+    Code.BAD_TEXT: "in the service's name, a byte that isn't visible ASCII is written as \\x and two hexadecimal digits",
+}
+# KRB_AP_ERR_SKEW (RFC 4120, section 7.5.9), and by how many seconds clocks may differ, unless a service has another limit.
+_SKEW, _MOST = 37, 300
 # The first bytes of a reply and of a KRB-ERROR without a token around them.
 _REPLY, _ERROR = b"\x6f", b"\x7e"
 
@@ -173,6 +186,8 @@ class ServiceError(Exception):
         text = f"{fit_for_a_line(self.error.service)} refused the request: {self.error.name}"
         if self.error.code != _SKEW or self.clock_offset is None:
             return text
+        if abs(self.clock_offset) < _MOST:
+            return f"{text}; the clocks agree, so the service may have just started: try again in five minutes"
         return f"{text}; its clock is {abs(self.clock_offset):.0f} seconds {'ahead' if self.clock_offset > 0 else 'behind'}"
 
 
@@ -192,7 +207,8 @@ class Client(Secret):
     negotiated   whether the token is in a negotiation (SPNEGO), as web services want it
     context      what a GSS-API client asks for, as of make_request; or None for a request without a token around it
     bindings     the bindings of the channel, as tls_server_end_point returns them, or None
-    subkey       a key that the client chooses, as Key.random(20), or None
+    subkey       a key that the client chooses: by default a random one for each request, of the type of the ticket's key. So messages that
+                 were recorded in an earlier login aren't taken again
     wants_reply  whether to ask the service for a reply. Without one, nothing proves who the service is
 
     It is a context manager. At the end of the block, or by close(), the library frees what it holds.
@@ -207,6 +223,8 @@ class Client(Secret):
 
     def __init__(self, cache: CredentialCache, service: str, *, negotiated: bool = True, context: ContextFlags | None = ContextFlags(0),
                  bindings: Bytes | None = None, subkey: Key | None = None, wants_reply: bool = True) -> None:
+        if not isinstance(cache, CredentialCache):
+            raise TypeError(f"cache is a CredentialCache, as CredentialCache.read(path) returns it, not a {type(cache).__name__}")
         self._cache, self._service, self._negotiated, self._wants_reply = cache, service, negotiated, wants_reply
         self._context, self._bindings, self._subkey = context, bindings, subkey
         self._sent: tuple[Pending, Moment] | None = None
@@ -225,11 +243,18 @@ class Client(Secret):
         """
         here = clock_of_request(now)
         moment = Moment(*divmod(1_000_000 * here.seconds + here.micros + round(1_000_000 * clock_offset), 1_000_000))
-        request, pending = make_request(self._cache, self._service, now=moment, subkey=self._subkey, wants_reply=self._wants_reply,
+        subkey = self._subkey or Key.random(self._type_at(moment))
+        request, pending = make_request(self._cache, self._service, now=moment, subkey=subkey, wants_reply=self._wants_reply,
                                         context=self._context, bindings=self._bindings)
         self.close()
         self._sent = pending, moment
         return request if self._context is None else wrap_request(request, negotiated=self._negotiated)
+
+    def _type_at(self, moment: Moment) -> int:
+        """The type of the ticket's session key, which the KDC chose as one that the service has."""
+        usable = [it for it in self._cache.credentials
+                  if it.server == self._service and it.key.kind in KEY_SIZES and it.endtime > moment.seconds and not it.is_skey]
+        return max(usable, key=lambda it: it.endtime).key.kind if usable else max(KEY_SIZES)
 
     def finish(self, answer: Bytes) -> Agreed:
         """Read the service's answer: a token or a message without one. Only after this, the client knows that it talks to the service.

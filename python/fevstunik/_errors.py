@@ -26,10 +26,13 @@ class Error(Exception):
         self.name = self.code.name
         self.kerberos = kerberos
         self.offset = offset
+        # what to do, if that is known where the fault is raised
+        self.hint = ""
 
     def __str__(self) -> str:
         place = f", at {self.offset}" if self.offset else ""
-        return f"{self.name}: {self.code.text}{place}"
+        hint = f": {self.hint}" if self.hint else ""
+        return f"{self.name}: {self.code.text}{place}{hint}"
 
 
 class Fault(Error):

@@ -9,10 +9,12 @@ from typing import Callable, TypeVar
 
 from . import _interface
 from ._caches import CacheError, CacheTrouble, default_path, get_ticket
+from ._codes import Code
 from ._errors import Fault
+from ._interface import Answer
 from ._library import Bytes, Handle, Secret, done, filled, fitting, library, octets, read, text_of
 from ._shown import fit_for_a_line
-from ._values import Key, Moment, TicketFlags, When, check_name
+from ._values import KEY_SIZES, Key, Moment, TicketFlags, When, check_name
 
 # How long a file may be. One byte more is read, so that the library sees that a longer file is too long.
 LIMIT = 16_777_216
@@ -22,6 +24,20 @@ Item = TypeVar("Item")
 def content(path: str | os.PathLike[str]) -> bytes:
     with open(path, "rb") as file:
         return file.read(LIMIT + 1)
+
+
+# What a file is that begins with these two bytes.
+_KINDS = {b"\x05\x02": "a keytab", b"\x05\x01": "a keytab of an older version", b"\x05\x03": "a credential cache", b"\x05\x04": "a credential cache"}
+
+
+def _checked(answer: Answer, data: bytes) -> Answer:
+    """What a call says of a file, if that is no fault. The fault of the first two bytes says what file they are of."""
+    try:
+        return done(answer)
+    except Fault as fault:
+        if fault.code == Code.FILE_VERSION and data[:2] in _KINDS:
+            fault.hint = f"this is {_KINDS[data[:2]]}"
+        raise
 
 
 def _listed(kind: str, data: bytes, item: Callable[[Handle, int], Item]) -> tuple[Item, ...]:
@@ -67,7 +83,7 @@ class Keytab(Secret):
     def __init__(self, data: Bytes) -> None:
         self._data = octets(data)
         self._entries: tuple[KeytabEntry, ...] | None = None
-        self._count = done(library().call("keytab_check", self._data, len(self._data))).size
+        self._count = _checked(library().call("keytab_check", self._data, len(self._data)), self._data).size
 
     @classmethod
     def read(cls, path: str | os.PathLike[str]) -> Keytab:
@@ -106,6 +122,8 @@ class Keytab(Secret):
     def added(self, entry: KeytabEntry) -> Keytab:
         """Return a keytab with one more entry, in the first hole that is long enough, or at the end.
 
+        A key of type 19 has 16 bytes, and one of type 20 has 32: another length raises ValueError.
+
         >>> entry = KeytabEntry("host/web@EX", Key.random(20), 4)
         >>> Keytab(bytes.fromhex("0502")).added(entry).entries == (entry,)
         True
@@ -115,8 +133,11 @@ class Keytab(Secret):
                                   fitting(entry.key.kind, 16, signed=True))
         # A record takes at most twice its name's bytes, the key's, and 64 more.
         room = len(self._data) + 2 * len(name) + len(key) + 64
-        return Keytab(filled(lambda *into: library().call(
-            "keytab_add", self._data, len(self._data), name, len(name), key, len(key), byref(parts), *into), room))
+        data = filled(lambda *into: library().call(
+            "keytab_add", self._data, len(self._data), name, len(name), key, len(key), byref(parts), *into), room)
+        if len(key) != KEY_SIZES.get(entry.key.kind, len(key)):
+            raise ValueError(f"a key of type {entry.key.kind} has {KEY_SIZES[entry.key.kind]} bytes, not {len(key)}")
+        return Keytab(data)
 
     def removed(self, index: int) -> Keytab:
         """Return a keytab without the entry at an index. The entry's place becomes a hole of zeros.
@@ -231,7 +252,7 @@ class CredentialCache(Secret):
         self._path: str | None = None
         self._credentials: tuple[Credential, ...] | None = None
         self._handle = Handle("cache")
-        done(self._handle.call("cache_new", self._data, len(self._data)))
+        _checked(self._handle.call("cache_new", self._data, len(self._data)), self._data)
         self._owner = _owner(self._handle)
 
     @classmethod
@@ -264,6 +285,10 @@ class CredentialCache(Secret):
         path = default_path()
         try:
             return cls.read(path)
+        except Fault as fault:
+            more = f"; {fault.hint}" if fault.hint else ""
+            fault.hint = f"the credential cache is {fit_for_a_line(path)}{more}"
+            raise
         except FileNotFoundError:
             raise CacheError(CacheTrouble.NO_FILE, f"there is no credential cache at {fit_for_a_line(path)}: run `kinit`") from None
         except OSError as fault:

@@ -30,7 +30,7 @@ class Library:
         try:
             loaded = ctypes.CDLL(path)
         except OSError as fault:
-            raise LibraryError(f"the shared library {path} can't be loaded: {fault}. Install Debian's package libfevstunik0, or name the "
+            raise LibraryError(f"the shared library {path} can't be loaded: {fault}. Install this project's package libfevstunik0, or name the "
                                f"file in the environment variable {VARIABLE} or to fevstunik.load(..)") from None
         self.path = path
         self._functions: dict[str, Callable[..., Any]] = {}

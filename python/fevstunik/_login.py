@@ -21,7 +21,7 @@ from ._messages import Messages, Side
 from ._service import Refused, Serving, options_of
 from ._shown import fit_for_a_line
 from ._tokens import GoOn, bindings_of
-from ._values import CONFOUNDER, LAST_SECOND, Key, Moment, When, clock, moment_of
+from ._values import CONFOUNDER, KEY_SIZES, LAST_SECOND, Key, Moment, When, clock, moment_of
 
 if TYPE_CHECKING:
     from .stores import Store
@@ -29,8 +29,6 @@ if TYPE_CHECKING:
 _IGNORED, _IF_SENT, _REQUIRED = range(3)
 # What a store says of a stamp, as the library takes it.
 _NEW, _KNOWN, _FAILED = range(1, 4)
-# How many bytes of a key each type has.
-_KEYS = {None: 0, 19: 16, 20: 32}
 # The largest skew for which the file of a store is made, unless its service has a larger one.
 _SKEW = 300
 # (a member of an enumeration is found more slowly)
@@ -224,7 +222,8 @@ class Connection(Secret):
             return self._let_in(reply, random)
         asked, held = self._for_a_log(answer.code)
         self._handle.close()
-        return Refused(answer.code, answer.kerberos, answer.at, reply=reply, asked=asked, held=held)
+        serves = self._service._serves if code == Code.NOT_US else None
+        return Refused(answer.code, answer.kerberos, answer.at, reply=reply, asked=asked, held=held, serves=serves)
 
     def _answer(self, data: bytes, now: When | None, random: bytes) -> tuple[Answer, bytes]:
         """What the service decides, and the bytes that go back."""
@@ -359,7 +358,7 @@ class Service(Serving):
     """A service that lets clients in, or says why not. Unlike an Acceptor, it takes what a client sends as it is, and makes what goes back.
 
     keytab      its keys
-    service     the name that is served, as ``host/web@EX``, or None for each name of the keytab, as for Acceptor
+    service     the name that is served, as ``host/web@EX``, as for Acceptor
     skew        by how many seconds clocks may differ
     store       what all processes of the service share, so that no two let a client in by one request: a path, as ``"/run/web/stamps"``, for
                 the processes of one machine, or another store of fevstunik.stores. The service's start is the moment at which the store was
@@ -375,6 +374,7 @@ class Service(Serving):
     anonymous   whether anonymous clients are let in (RFC 8062)
     realms      the realms whose clients are let in, as ["EX"], or None for any: a KDC checked the realms between
     subkey      19 or 20 to send a new key of this type with each reply, or None. Those who go on to seal messages want one
+    any_name    True to serve each name of the keytab, as for Acceptor. The service is None then
 
     Pass a store, or just one of started and first_life. The skew is no larger than that of the store.
 
@@ -396,14 +396,14 @@ class Service(Serving):
     def __init__(self, keytab: Keytab, service: str | None, skew: int = 300, *, started: When | None = None, first_life: bool = False,
                  limit: int | None = None, limit_for_client: int | None = None, bindings: Bytes | None = None,
                  bindings_required: bool = False, anonymous: bool = False, realms: Iterable[str] | None = None,
-                 subkey: int | None = None, store: Store | str | os.PathLike[str] | None = None) -> None:
+                 subkey: int | None = None, store: Store | str | os.PathLike[str] | None = None, any_name: bool = False) -> None:
         asked = None if store is None else _store_of(store, fitting(skew, 32))
         if asked is not None and not first_life:
             started = _start_over(asked, skew, started)
-        options = options_of(service, skew, started, first_life, (limit, limit_for_client), asked is not None)
+        options = options_of(any_name, skew, started, first_life, (limit, limit_for_client), asked is not None)
         options.bindings, bound = _bound(bindings, _flag("bindings_required", bindings_required))
         options.bindings_hash = type(options.bindings_hash)(*bound)
-        if subkey not in _KEYS or isinstance(subkey, bool):
+        if subkey is not None and (subkey not in KEY_SIZES or isinstance(subkey, bool)):
             raise ValueError(f"subkeys are of type 19 or 20, not {subkey!r}")
         if isinstance(realms, (str, bytes)):
             raise TypeError("realms are a list of texts")
@@ -411,9 +411,9 @@ class Service(Serving):
         options.anonymous, options.only_realms = _flag("anonymous", anonymous), listed is not None
         options.subkey_type = subkey or 0
         super().__init__(keytab, service, skew, options)
-        self._subkey, self._keytab, self._store = subkey, keytab, asked
+        self._subkey, self._keytab, self._store, self._serves = subkey, keytab, asked, service
         # How many random bytes an answer takes.
-        self._random = CONFOUNDER + _KEYS[subkey]
+        self._random = CONFOUNDER + (0 if subkey is None else KEY_SIZES[subkey])
         self._kvnos: tuple[Keytab, dict[tuple[str, int], list[int]]] | None = None
         for realm in listed or []:
             done(self._handle.call("acceptor_add_realm", realm, len(realm)))
@@ -504,7 +504,7 @@ class Service(Serving):
         'alice@EX'
         """
         super().replace_keytab(keytab, service)
-        self._keytab = keytab
+        self._keytab, self._serves = keytab, service
 
     def _held(self, asked: Asked | None) -> tuple[int, ...]:
         """The version numbers of the keys that the keytab has for a ticket's service and encryption type. Nobody needs them but to find a

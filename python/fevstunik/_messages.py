@@ -9,11 +9,15 @@ from dataclasses import dataclass
 from types import TracebackType
 
 from . import _interface
+from ._codes import Code
+from ._errors import Fault
 from ._library import Bytes, Handle, Secret, Shown, done, filled, fitting, octets
 from ._values import CONFOUNDER, Key
 
 # How many bytes the token of a text has more than it, at the most.
 _MORE = 72
+# How a MIC token begins (RFC 4121, section 4.2.6.1).
+_MIC = b"\x04\x04"
 
 
 class Side(enum.IntEnum):
@@ -127,7 +131,12 @@ class Messages(Secret):
         fevstunik.Fault: MESSAGE_INTEGRITY: the message or its text was changed
         """
         text, token, received = octets(text), octets(token), _interface.Received()
-        done(self._handle.call("messages_verify", text, len(text), token, len(token), byref(received)))
+        try:
+            done(self._handle.call("messages_verify", text, len(text), token, len(token), byref(received)))
+        except Fault as fault:
+            if fault.code == Code.MESSAGE_DEFECTIVE and text.startswith(_MIC):
+                fault.hint = "the text begins as a MIC token does: the text comes first, and then the token"
+            raise
         return Order(received.order)
 
     def wrap(self, text: Bytes, *, sealed: bool = True) -> bytes:

@@ -15,6 +15,7 @@ from ._errors import Error
 from ._files import Keytab
 from ._interface import Answer
 from ._library import Bytes, Handle, Secret, done, filled, fitting, library, octets, text_of
+from ._shown import fit_for_a_line
 from ._values import Moment, When, clock
 
 if TYPE_CHECKING:
@@ -31,7 +32,7 @@ class Refused(Error):
     """A refusal of a request.
 
     cause     the first cause that applies, such as ``Code.REPEAT``; from Service.answer also a fault of a token, FULL, OUT_OF_MEMORY or
-              STORE_FAILED, whose `__cause__` says what is wrong with the store
+              STORE_FAILED, whose `__cause__` and text say what is wrong with the store
     code      the same
     kerberos  the error code of RFC 4120, section 7.5.9, that belongs to it
     offset    the place of the fault, if the cause is MALFORMED or TOKEN_MALFORMED
@@ -41,6 +42,7 @@ class Refused(Error):
     reply     the bytes to send to the client; none if they are empty
     asked     what the request asked for, or None if that isn't known
     held      if the cause is BAD_KEY_VERSION: the version numbers of the keys that the keytab has for it
+    serves    if the cause is NOT_US: the one name that the service serves, or None if it serves any
 
     Its text is fit for a line of a log.
 
@@ -54,10 +56,10 @@ class Refused(Error):
     """
 
     def __init__(self, code: int, kerberos: int = 0, offset: int = 0, *, reply: bytes = b"", asked: Asked | None = None,
-                 held: tuple[int, ...] = ()) -> None:
+                 held: tuple[int, ...] = (), serves: str | None = None) -> None:
         super().__init__(code, kerberos, offset)
         self.cause = self.code
-        self.reply, self.asked, self.held = reply, asked, held
+        self.reply, self.asked, self.held, self.serves = reply, asked, held, serves
 
     def __bool__(self) -> bool:
         """Return False: of what Service.answer returns, a Login alone is true."""
@@ -74,10 +76,12 @@ class Refused(Error):
         return self.code in (Code.JUST_STARTED, Code.FULL, Code.OUT_OF_MEMORY, Code.STORE_FAILED)
 
     def __str__(self) -> str:
+        why = "" if self.__cause__ is None else f": {fit_for_a_line(str(self.__cause__))}"
         if self.asked is None:
-            return super().__str__()
+            return f"{super().__str__()}{why}"
         if self.code != Code.BAD_KEY_VERSION:
-            return f"{super().__str__()} ({self.asked})"
+            serves = "" if self.serves is None else f"; this service is {fit_for_a_line(self.serves)}"
+            return f"{super().__str__()} ({self.asked}){serves}{why}"
         listed = ", ".join(map(str, self.held[:_LISTED])) + (", .." if len(self.held) > _LISTED else "")
         return f"{self.name}: {self.asked}; the keytab has " + (f"kvno {listed}" if listed else "no such key")
 
@@ -131,7 +135,7 @@ class Serving(Secret):
     """What remembers the requests that a service has accepted."""
 
     def __init__(self, keytab: Keytab, service: str | None, skew: int, options: _interface.AcceptorOptions) -> None:
-        name = _wanted(service)
+        name, self._any_name = _wanted(keytab, service, bool(options.any_name)), bool(options.any_name)
         self._handle, self._skew = Handle("acceptor"), skew
         done(self._handle.call("acceptor_new", keytab.data, len(keytab.data), name, len(name), byref(options)))
 
@@ -139,7 +143,7 @@ class Serving(Secret):
         """Take another keytab, for example with a changed key. What the service has seen is kept, so nothing is accepted twice.
         If it was made with first_life, each key that the new keytab adds has to be new, too.
 
-        service  the name that is served, as for Acceptor
+        service  the name that is served; None only for a service that was made with `any_name`
 
         >>> from fevstunik import Acceptor, Keytab
         >>> keytab = Keytab.read("examples/service.keytab")
@@ -150,7 +154,7 @@ class Serving(Secret):
         >>> service.remembered
         1
         """
-        name = _wanted(service)
+        name = _wanted(keytab, service, self._any_name and service is None)
         done(self._handle.call("acceptor_replace_keytab", keytab.data, len(keytab.data), name, len(name), service is None))
 
     @property
@@ -210,8 +214,8 @@ class Acceptor(Serving):
     """A service. It accepts requests, and remembers them to recognize a repeat.
 
     keytab      its keys
-    service     the name that is served, as ``host/web@EX``, or None for each name of the keytab. Name it if the keytab has keys of several
-                names: docs/OPERATING.md says why. If the keytab has no entry of this name, that is no fault: then every ticket is refused
+    service     the name that is served, as ``host/web@EX``. If the keytab has no entry of this name, that is no fault: then every ticket is
+                refused. With `any_name` it is None
     skew        by how many seconds clocks may differ
     started     the service's clock at this start, as time.time(). A restarted service has forgotten what it accepted. So it refuses requests
                 with the cause JUST_STARTED until its clock and the client's are both later than this start by more than the skew
@@ -220,6 +224,7 @@ class Acceptor(Serving):
     limit       the most requests that it remembers: a million by default
     limit_for_client
                 the most of one client: a tenth of the limit by default
+    any_name    True to serve each name of the keytab: docs/OPERATING.md ("Keys") says what is wrong with that. The service is None then
 
     Pass just one of started and first_life: neither is the default. A start before the year 2020, so any of time.monotonic(), raises the Fault
     EARLY_START.
@@ -238,8 +243,8 @@ class Acceptor(Serving):
     """
 
     def __init__(self, keytab: Keytab, service: str | None, skew: int = 300, *, started: When | None = None, first_life: bool = False,
-                 limit: int | None = None, limit_for_client: int | None = None) -> None:
-        super().__init__(keytab, service, skew, options_of(service, skew, started, first_life, (limit, limit_for_client)))
+                 limit: int | None = None, limit_for_client: int | None = None, any_name: bool = False) -> None:
+        super().__init__(keytab, service, skew, options_of(any_name, skew, started, first_life, (limit, limit_for_client)))
 
     def accept(self, request: Bytes, now: When | None = None) -> Accepted:
         """Accept the bytes of a request, or raise Refused. `now` is the moment, by default of the machine's clock.
@@ -267,26 +272,33 @@ class Acceptor(Serving):
         return known_by(Accepted, accepted, self._skew)
 
 
-def _wanted(service: str | None) -> bytes:
+def _wanted(keytab: Keytab, service: str | None, any_name: bool) -> bytes:
+    if not isinstance(keytab, Keytab):
+        raise TypeError(f"keytab is a Keytab, as Keytab.read(path) returns it, not a {type(keytab).__name__}")
     if service == "":
-        raise ValueError("the service's name is empty: None stands for each name of the keytab")
+        raise ValueError("the service's name is empty")
+    if service is None and not any_name:
+        raise ValueError("name the service, as host/web@EX; or pass any_name=True to serve each name of the keytab")
+    if service is not None and any_name:
+        raise ValueError("a service that serves any name has none: pass None with any_name=True")
     return b"" if service is None else text_of(service)
 
 
-def options_of(service: str | None, skew: int, started: When | None, first_life: bool, limits: tuple[int | None, int | None],
+def options_of(any_name: bool, skew: int, started: When | None, first_life: bool, limits: tuple[int | None, int | None],
                is_shared: bool = False) -> _interface.AcceptorOptions:
     """What a service is made with, as the library takes it. One that shares a store has a start in its first life, too: long ago."""
     if any(limit is not None and limit < 1 for limit in limits):
         raise ValueError("a limit is at least 1")
-    if not isinstance(first_life, bool):
-        raise TypeError(f"first_life is a bool, not {first_life!r}")
+    for name, flag in ("first_life", first_life), ("any_name", any_name):
+        if not isinstance(flag, bool):
+            raise TypeError(f"{name} is a bool, not {flag!r}")
     if first_life == (started is not None):
         raise TypeError("pass either started, the clock of this start, or first_life=True, if every key of the keytab is new")
     restarts = _Restart.SHARED if is_shared else _Restart.FIRST_LIFE if started is None else _Restart.STARTED
     size, at = ctypes.sizeof(_interface.AcceptorOptions), _interface.Time() if started is None else clock(started)
     all_clients, one_client = (fitting(limit or 0, 64) for limit in limits)
     is_long_ago = is_shared and started is None
-    return _interface.AcceptorOptions(size, at, fitting(skew, 32), restarts, service is None, is_long_ago, all_clients, one_client)
+    return _interface.AcceptorOptions(size, at, fitting(skew, 32), restarts, any_name, is_long_ago, all_clients, one_client)
 
 
 def _decided(answer: Answer) -> None:

@@ -158,6 +158,10 @@ class TypedData(Shown):
     data: bytes
 
 
+# How many bytes a key of each type has.
+KEY_SIZES = {19: 16, 20: 32}
+
+
 @dataclass(frozen=True)
 class Key(Secret):
     """A key: the number of its encryption type, and its bytes, which its `repr` doesn't have. It can't be pickled or copied.
@@ -179,9 +183,9 @@ class Key(Secret):
         >>> len(Key.random(20).data)
         32
         """
-        if kind not in (19, 20):
+        if kind not in KEY_SIZES:
             raise ValueError(f"random keys are of type 19 or 20, not {kind}")
-        return cls(kind, os.urandom(16 if kind == 19 else 32))
+        return cls(kind, os.urandom(KEY_SIZES[kind]))
 
     def seal(self, usage: int, plain: Bytes) -> bytes:
         """Seal a plain text with a new random confounder, and return the sealed bytes.

@@ -51,7 +51,7 @@ def main():
     sessions = Sessions(secure=False) if given.sessions else None
     name = None if given.service == "*" else given.service
     negotiate = Negotiate(keytab=given.keytab, service=name, first_life=True, users=users, sessions=sessions,
-                          exempt=["/moved", "/favicon.ico"])
+                          exempt=["/moved", "/favicon.ico"], any_name=name is None)
     with socket.create_server(("127.0.0.1", given.port), backlog=1024) as listener, contextlib.ExitStack() as stack:
         app = negotiate.wsgi(page)
         if given.tokens:

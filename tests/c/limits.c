@@ -28,6 +28,15 @@ static void usage_is(const char *what, size_t remembered, size_t limit, size_t l
     is("full", (long long)usage.full, (long long)full);
 }
 
+/* Of the estimate, 28 bytes are for a request, and 200 for a client at a service. */
+static void bytes_are(const char *what, size_t requests, size_t pairs)
+{
+    fevstunik_usage usage;
+
+    (void)fevstunik_acceptor_usage(&service, &usage);
+    is(what, (long long)usage.bytes, (long long)(28 * requests + 200 * pairs));
+}
+
 /* What isn't said is a million, and a tenth for each client. */
 static void defaults(void)
 {
@@ -54,12 +63,14 @@ static void one_client(void)
         is("up to the limit", sent(&alice, &service, START + at, 0, START), FEVSTUNIK_OK);
     is("past it", sent(&alice, &service, START + 3, 0, START + 9), FEVSTUNIK_FULL);
     usage_is("nothing changed", 3, 10, 3, 1);
+    bytes_are("bytes of one client", 3, 1);
     is("nor the latest moment", fevstunik_acceptor_latest(&service, &latest).code, FEVSTUNIK_OK);
     is("the latest second", latest.seconds, START);
     is("another client", sent(&other, &service, START, 0, START), FEVSTUNIK_OK);
     is("a repeat is found", sent(&alice, &service, START, 0, START), FEVSTUNIK_REPEAT);
     is("what was refused isn't remembered", sent(&alice, &service, START + 3, 0, START), FEVSTUNIK_FULL);
     usage_is("two were refused", 4, 10, 3, 2);
+    bytes_are("bytes of two clients", 4, 2);
     /* Nobody else calls while the time passes: the client's own request comes when its first ones don't count any more. */
     is("the last moment of the first", sent(&alice, &service, START + 300, 1, START + 300), FEVSTUNIK_FULL);
     is("later", sent(&alice, &service, START + 300, 2, START + 301), FEVSTUNIK_OK);

@@ -225,11 +225,6 @@ static fevstunik_answer writing(void)
     return fevstunik_keytab_write(keytab.at, keytab.size, buffer, sizeof buffer);
 }
 
-static fevstunik_answer naming(void)
-{
-    return fevstunik_name_check(service_name, 11);
-}
-
 static const fevstunik_wrapped negotiated = {FEVSTUNIK_MECHANISM_KERBEROS, FEVSTUNIK_MECHANISM_KERBEROS};
 
 static fevstunik_answer wrapping_request(void)
@@ -681,6 +676,26 @@ static void keytab_faults_without_memory(void)
     fevstunik_acceptor_free(&service);
 }
 
+/* Names are checked without memory, one of 16 MiB too, whatever is found. */
+static void checks_names(void)
+{
+    enum { SIZE = 16 << 20 };
+    uint8_t *text = malloc(SIZE);
+
+    if (!text)
+        abort();
+    memset(text, '/', SIZE);
+    memcpy(text + SIZE - 3, "@EX", 3);
+    left = 0;
+    is("components of a name", (long long)fevstunik_name_check(service_name, 11).size, 2);
+    is("components of a long name", (long long)fevstunik_name_check(text, SIZE).size, SIZE - 2);
+    text[SIZE - 4] = ' ';
+    is("the place of a long name's fault", (long long)fevstunik_name_check(text, SIZE).at, SIZE - 4);
+    is("no memory was asked for", left, 0);
+    left = -1;
+    free(text);
+}
+
 int main(int count, char **words)
 {
     struct bytes *const inputs[] = {&keytab, &cache, &request, &reply, &error};
@@ -761,7 +776,7 @@ int main(int count, char **words)
     is_told("keytab add", adding);
     is_told("keytab remove", removing);
     is_told("keytab write", writing);
-    is_told("name check", naming);
+    checks_names();
     without_a_code();
     refusals_without_memory();
     faults_without_memory();

@@ -79,6 +79,24 @@ def one_time(count):
     yield "len", str(count)
 
 
+def several_services(count):
+    """One client sends as many requests to each of three services, one of which has a long name. All are remembered. Of
+    their size, 28 bytes are counted for each, and 200 for each two names."""
+    yield "memory timed", "memory"
+    alice, carol = (name_word(1, b"EX", [it]) for it in (b"alice", b"carol"))
+    services = [SERVICE, *(name_word(3, b"EX", [it, b"web"]) for it in (b"ftp", b"w" * 300))]
+    for micros in range(count):
+        for service in services:
+            yield f"remember {service} {alice} 1700000100 {micros}", "ok"
+    yield "len", str(3 * count)
+    yield "bytes", str(28 * 3 * count + 200 * 3)
+    yield f"remember {SERVICE} {carol} 1700000100 5", "ok"
+    yield "bytes", str(28 * (3 * count + 1) + 200 * 4)
+    for service in services:
+        yield f"contains {service} {alice} 1700000100 {count - 1}", "true"
+        yield f"contains {service} {alice} 1700000100 {count}", "false"
+
+
 def errors():
     """The error of each code is built, and has that code (field 6 of a KRB-ERROR, RFC 4120, section 5.9.1)."""
     for cause, code in CODES.items():
@@ -91,6 +109,7 @@ SWEEPS = {
     "caches": (FILES, read_caches), "the last credential of caches": (EXCHANGE, asked_caches),
     "requests, list": (EXCHANGE, lambda: requests("list")), "requests, timed": (EXCHANGE, lambda: requests("timed")),
     "tuples of one microsecond": (EXCHANGE, lambda: one_time(200_000)), "errors": (EXCHANGE, errors),
+    "several services of one client": (EXCHANGE, lambda: several_services(70_000)),
 }
 
 

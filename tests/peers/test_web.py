@@ -26,12 +26,16 @@ pytestmark = [pytest.mark.packages, pytest.mark.slow, pytest.mark.xdist_group("w
 WEB = TESTS / "peers/web"
 REPEAT = "REPEAT: a request of this service, client and time was seen before"
 EXPIRED, SKEW = "EXPIRED: the ticket has expired", "SKEW: the clocks differ by more than the skew"
-NOT_US = "NOT_US: the ticket is for a service that isn't served here"
+NOT_US = re.compile(
+    r"NOT_US: the ticket is for a service that isn't served here "
+    r"\(ticket for HTTP/other\.test@[A-Z.]+, etype \d+, kvno \d+\); this service is HTTP/localhost@WEB\.TEST")
 BENT = "AUTHENTICATOR_INTEGRITY: the session key doesn't open the authenticator"
 
 
 def is_it(found, wanted):
-    return None if found == wanted else f"{found!r}, not {wanted!r}"
+    """What is wrong, or None, with what was found: it is to be `wanted`, or a text of that pattern."""
+    fits = wanted.fullmatch(found) if isinstance(wanted, re.Pattern) else found == wanted
+    return None if fits else f"{found!r}, not {wanted!r}"
 
 
 class Client:

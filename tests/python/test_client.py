@@ -7,7 +7,7 @@ import pytest
 
 from fevstunik import (
     Acceptor, Client, Code, ContextFlags, CredentialCache, Fault, Keytab, KrbError, Mechanism, Moment, Refused, Says,
-    ServiceError, Token, Verdict, login, tls_server_end_point)
+    Service, ServiceError, Token, Verdict, login, tls_server_end_point)
 
 from support import c_cases, der, fixture
 
@@ -94,15 +94,43 @@ def test_the_reply_to_another_request(cache, service):
     assert client.finish(second[1](service.accept(second[0], NOW).reply())).client == "alice@EX"
 
 
+def test_recorded_messages_are_refused(cache):
+    """A client chooses a subkey, so it takes no message of an earlier login with its ticket."""
+    logins = []
+    with Service(Keytab(fixture.keytab()), NAME, first_life=True) as service:
+        for at in NOW, NOW + 1:
+            client = Client(cache, NAME)
+            let_in = service.answer(client.first(now=at), now=at)
+            logins.append((let_in, client.finish(let_in.reply)))
+    (first, its_client), (_, later) = logins
+    assert its_client.subkey == first.subkey and its_client.subkey.kind == its_client.session_key.kind == 19
+    recorded = first.messages().wrap(b"hello")
+    with pytest.raises(Fault, match="MESSAGE_"):
+        later.messages().unwrap(recorded)
+    assert its_client.messages().unwrap(recorded).text == b"hello"
+
+
+def test_an_error_of_a_service_that_has_just_started():
+    for offset, told in (0.0, "may have just started"), (-299.0, "may have just started"), (300.0, "300 seconds ahead"):
+        assert told in str(ServiceError(KrbError(37, Moment(NOW), NAME), offset))
+
+
+def test_what_is_no_cache():
+    with pytest.raises(TypeError, match="CredentialCache.read"):
+        Client("/tmp/krb5cc_0", NAME)
+
+
 def test_nothing_was_sent(cache):
     client = Client(cache, NAME)
     with pytest.raises(RuntimeError, match="first"):
         client.finish(fixture.reply())
     client.close()
-    with pytest.raises(Fault, match="NO_CREDENTIAL"):
-        Client(cache, "host/mail@EX").first(now=NOW)
-    with pytest.raises(Fault, match="CREDENTIAL_EXPIRED"):
-        Client(cache, NAME).first()
+    for name, at, told in (("host/mail@EX", NOW, "NO_CREDENTIAL.*`kvno host/mail@EX`"),
+                           (NAME, None, "CREDENTIAL_EXPIRED.*`kinit`"),
+                           ("host/web", NOW, "NO_REALM.*as host/web@EX"),
+                           ("a b@EX", NOW, "BAD_TEXT.*two hexadecimal digits")):
+        with pytest.raises(Fault, match=told):
+            Client(cache, name).first(now=at)
     cache.close()
     with pytest.raises(Fault, match="EMPTY_HANDLE"):
         client.first(now=NOW)

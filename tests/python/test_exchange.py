@@ -6,7 +6,7 @@ import time
 from support import c_cases, der, fixture
 
 import pytest
-from fevstunik import (Acceptor, Code, ContextFlags, CredentialCache, Error, Fault, Key, Keytab, Moment, Refused,
+from fevstunik import (Acceptor, Code, ContextFlags, CredentialCache, Error, Fault, Key, Keytab, Moment, Refused, Service,
                        TicketFlags, TypedData,
                        check_name, make_request)
 
@@ -47,8 +47,28 @@ def test_a_request_is_accepted(service):
     assert repr(fixture.SESSION_KEY)[2:-1] not in shown and repr(LONG.data)[2:-1] not in shown
 
 
+@pytest.mark.parametrize("kind", (Acceptor, Service))
+def test_any_name_is_asked_for(kind):
+    keytab = Keytab(fixture.keytab())
+    for name, words, told in ((None, {}, "any_name=True"), (SERVICE, {"any_name": True}, "pass None"), ("", {}, "empty"),
+                              ("", {"any_name": True}, "empty")):
+        with pytest.raises(ValueError, match=told):
+            kind(keytab, name, first_life=True, **words)
+    with pytest.raises(TypeError, match="any_name is a bool"):
+        kind(keytab, None, first_life=True, any_name=1)
+    with pytest.raises(TypeError, match="Keytab.read"):
+        kind("web.keytab", SERVICE, first_life=True)
+    with kind(keytab, SERVICE, first_life=True) as service:
+        with pytest.raises(ValueError, match="any_name=True"):
+            service.replace_keytab(keytab, None)
+        service.replace_keytab(keytab, SERVICE)
+    with kind(keytab, None, first_life=True, any_name=True) as service:
+        service.replace_keytab(keytab, None)
+        service.replace_keytab(keytab, SERVICE)
+
+
 def test_other_numbers(service):
-    whole = Acceptor(Keytab(fixture.keytab()).added(c_cases_entry()), None, first_life=True)
+    whole = Acceptor(Keytab(fixture.keytab()).added(c_cases_entry()), None, any_name=True, first_life=True)
     accepted = whole.accept(c_cases.for_another_service(), AT)
     assert (accepted.service, accepted.client_type, accepted.service_type, accepted.seq) == ("a\\/b@EX", -7, -3, 0)
     assert accepted.flags == TicketFlags(0x4061_0000) and accepted.subkey is None and not accepted.wants_reply

@@ -54,6 +54,12 @@ def test_a_keytab_is_changed():
     assert fault_of(lambda: keytab.added(KeytabEntry("ab\\c@EX", Key(19, b""), 1))) == ("BAD_TEXT", 810, 2)
 
 
+def test_a_key_of_another_length_is_not_added():
+    for kind, size in (19, 15), (19, 17), (20, 31), (20, 0):
+        with pytest.raises(ValueError, match=f"type {kind} has"):
+            Keytab(b"\x05\x02").added(KeytabEntry("a@EX", Key(kind, bytes(size)), 1))
+
+
 def test_numbers_are_not_cut():
     for entry in (KeytabEntry("a@EX", Key(19, b""), 2**32), KeytabEntry("a@EX", Key(2**15, b""), 1),
                   KeytabEntry("a@EX", Key(19, b""), 1, -1),
@@ -80,6 +86,22 @@ def test_cache_faults():
     assert fault_of(lambda: CredentialCache(b"\x05\x04\x00\x05"))[0] == "FILE_HEADER"
     start = 4 + len(fixture.principal(1, b"EX", b"alice"))
     assert fault_of(lambda: CredentialCache(fixture.cache()[:-1])) == ("FILE_BAD_ITEM", 503, start)
+
+
+@pytest.mark.parametrize("read, data, kind", [
+    (Keytab, fixture.cache(), "a credential cache"), (Keytab, fixture.old_cache(), "a credential cache"),
+    (Keytab, b"\x05\x01", "a keytab of an older version"), (CredentialCache, fixture.keytab(), "a keytab")])
+def test_the_other_file(read, data, kind):
+    with pytest.raises(Fault) as raised:
+        read(data)
+    assert str(raised.value).endswith(f": this is {kind}")
+
+
+def test_default_cache_that_is_a_keytab(monkeypatch):
+    monkeypatch.setenv("KRB5CCNAME", "FILE:examples/service.keytab")
+    with pytest.raises(Fault) as raised:
+        CredentialCache.default()
+    assert str(raised.value).endswith(": the credential cache is examples/service.keytab; this is a keytab")
 
 
 def test_keys_are_not_shown():

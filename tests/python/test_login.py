@@ -213,7 +213,8 @@ def test_clients_of_other_realms():
 
 def test_a_ticket_for_another_service(service):
     refused = service.answer(asking(service=(b"host", b"mail")), NOW)
-    assert (refused.cause, refused.asked.name) == (Code.NOT_US, "host/mail@EX")
+    assert (refused.cause, refused.asked.name, refused.serves) == (Code.NOT_US, "host/mail@EX", "host/web@EX")
+    assert str(refused).endswith("(ticket for host/mail@EX, etype 19, kvno 3); this service is host/web@EX")
 
 
 def test_sent_twice(service, cache):

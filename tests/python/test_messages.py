@@ -105,6 +105,8 @@ def test_misuse():
         side.wrap("text")
     assert fault_of(side.limit, 71) == "TOO_LONG" and side.limit(72) == 0
     assert fault_of(side.unwrap, b"") == fault_of(side.verify_mic, b"", b"") == "MESSAGE_DEFECTIVE"
+    with pytest.raises(Fault, match="the text comes first, and then the token"):
+        side.verify_mic(side.mic(b"text"), b"text")
     side.close()
     side.close()
     assert fault_of(side.wrap, b"") == fault_of(side.mic, b"") == fault_of(side.unwrap, b"") == "EMPTY_HANDLE"

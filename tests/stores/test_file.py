@@ -48,6 +48,14 @@ def all_added(store, these, until=LATER):
 # ---------------------------------------------------------------- equal stamps
 
 
+def test_what_names_no_file():
+    for given in "", "/", "stamps/", ".", "..", "stamps/..":
+        with pytest.raises(ValueError, match="the path of a store is that of a file"):
+            File(given)
+        with pytest.raises(ValueError, match="the path of a store is that of a file"):
+            SQLite(given)
+
+
 def test_processes_that_add_the_same(path):
     """At the same time, in an order of their own: each stamp is new for one of them."""
     store, these = File(path), stamps(b"both", 500)

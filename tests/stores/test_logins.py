@@ -144,6 +144,7 @@ def test_a_refusal(cache, still, form, wants_reply, cause, answer, late):
     assert refused.may_pass == (cause == Code.STORE_FAILED)
     assert refused.__cause__ == (answer if isinstance(answer, StoreFailed) else None)
     assert str(refused).startswith(f"{cause.name}: ") and "ticket for host/web@EX" in str(refused)
+    assert str(refused).endswith("): it is down") == isinstance(answer, StoreFailed)
 
 
 def test_the_clock_is_read_again(cache, still):

@@ -19,7 +19,6 @@ A case of that program may have `calls` in place of lines: what follows `accept`
 made to a fresh service over the keytab `keytab` (if there is none, the fixture's for both types) with a skew of 300 s,
 has the answer of the same place; with both memories, by `accept` one after another, and by `serve` all at once.
 """
-import hashlib
 import re
 import subprocess
 import tomllib
@@ -27,9 +26,8 @@ from collections import defaultdict
 
 from support import TESTS, TOP, exchange_made
 from support.checks import slug
+from support.exchange_made import SHOWN, shown
 
-# A longer text is told by its length and its hash.
-SHOWN = 1024
 SECONDS = 120
 
 # The program for whose cases messages are made.
@@ -50,13 +48,6 @@ def bytes_of(word):
         digits, _, count = it.partition("*")
         found += bytes.fromhex(digits) * int(count or 1)
     return found
-
-
-def shown(text):
-    """Bytes, as a program shows them."""
-    if len(text) > SHOWN:
-        return f"#{len(text)}:{hashlib.sha256(text).hexdigest()}"
-    return text.hex() or "-"
 
 
 def given(line):

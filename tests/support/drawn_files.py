@@ -227,20 +227,17 @@ class Credentials:
         if not self.hand.fill(count):
             raise Stop(True)
 
-    def numbers(self, form, after=0):
-        """The numbers after so many bytes, with which they are taken."""
+    def number(self, form, after=0):
+        """The number after so many bytes, with which it is taken."""
         size = struct.calcsize(form)
         self.take(after + size)
         source = self.hand.source
-        return struct.unpack(form, source.data[source.at - size : source.at])
-
-    def number(self, form, after=0):
-        return self.numbers(form, after)[0]
+        return struct.unpack(form, source.data[source.at - size : source.at])[0]
 
     # Each of these takes a part but for its last bytes, after so many others, and gives how many the last ones are.
 
     def name(self, last=0):
-        count, last = self.numbers(">II", last + 4)
+        count, last = self.number(">I", last + 4), self.number(">I")
         for _ in range(count):
             last = self.number(">I", last)
         return last

@@ -22,6 +22,7 @@ KEY and VALUE of bytes are hexadecimal digits, or `service` and `session` for th
 times.
 """
 import functools
+import hashlib
 import struct
 from dataclasses import dataclass, fields, replace
 
@@ -29,6 +30,9 @@ from support import der, der_rules, fixture, gss_rules, model
 from support.sealing import sealed
 
 sealed = functools.lru_cache(maxsize=None)(sealed)
+
+# A longer text is shown by its length and its hash.
+SHOWN = 1024
 
 KEYS = {"service": fixture.SERVICE_KEY, "session": fixture.SESSION_KEY}
 LENGTHS = {19: 16, 20: 32}
@@ -87,8 +91,10 @@ class Made(Sent):
     data: int = None
     # The realms that the ticket passed through, as TYPE/HEX.
     transited: str = None
-    # Whether ticket and authenticator carry all that they may.
+    # Whether ticket and authenticator carry all that they may; and how often each list has its elements, and the
+    # checksum, the subkey and the realms have their bytes.
     full: int = 0
+    many: int = 1
     # The realm of the client's cache, where it isn't the ticket's.
     realm: bytes = None
     # The channel bindings that a client of GSS-API sends, and its flags.
@@ -140,6 +146,13 @@ def word_of(data):
     return data.hex() or "-"
 
 
+def shown(text):
+    """Bytes, as a program shows them."""
+    if len(text) > SHOWN:
+        return f"#{len(text)}:{hashlib.sha256(text).hexdigest()}"
+    return word_of(text)
+
+
 def name_word(name_type, realm, components):
     return f"{name_type}/{word_of(realm)}/{','.join(map(word_of, components)) or '.'}"
 
@@ -169,21 +182,26 @@ def chosen_key(text):
     return None if text is None else (int(text.partition("/")[0]), bytes_of(text.partition("/")[2]))
 
 
+def repeated(typed, count):
+    """Typed bytes, with their bytes so often."""
+    return typed[0], typed[1] * count
+
+
 def filled(made):
     """With the choices of a full request."""
-    return replace(made, flags=1 << 31 - model.TRANSITED_CHECKED, starttime=AUTHTIME + 1, subkey=OTHER_KEY,
-                   number=HIGHEST) if made.full else made
+    return replace(made, flags=1 << 31 - model.TRANSITED_CHECKED, starttime=AUTHTIME + 1,
+                   subkey=f"{OTHER_KEY}*{made.many}", number=HIGHEST) if made.full else made
 
 
 def lists_of(made):
     """The addresses, the ticket's authorization data and the authenticator's."""
     if made.full:
-        return two(2, 0xA0), two(1, 0xB0), two(1, 0xE0)
+        return tuple(two(kind, byte) * made.many for kind, byte in ((2, 0xA0), (1, 0xB0), (1, 0xE0)))
     return None, *(None if kind is None else [(kind, b"")] for kind in (made.ticket_data, made.data))
 
 
 def transited_of(made):
-    return chosen_key(made.transited) or (TRANSITED if made.full else NO_REALMS)
+    return chosen_key(made.transited) or (repeated(TRANSITED, made.many) if made.full else NO_REALMS)
 
 
 def ticket_part(made):
@@ -202,7 +220,7 @@ def authenticator(made):
     made = filled(made)
     realm, components = parts_of(made.client)
     subkey = chosen_key(made.subkey)
-    checksum = CHECKSUM if made.full else None
+    checksum = repeated(CHECKSUM, made.many) if made.full else None
     if made.bindings is not None:
         checksum = 0x8003, struct.pack("<I16sI", 16, made.bindings, made.context_flags)
     return der.authenticator(
@@ -231,8 +249,12 @@ def request(made):
     return der.request(made.options, ticket(made), der.encrypted(etype, cipher))
 
 
+def item_word(kind, data):
+    return f"{kind}/{shown(data)}"
+
+
 def items_word(elements):
-    return "none" if elements is None else ",".join(f"{kind}/{word_of(data)}" for kind, data in elements) or "."
+    return "none" if elements is None else ",".join(item_word(*it) for it in elements) or "."
 
 
 def or_none(it):
@@ -250,8 +272,8 @@ def accepted(made):
         items_word([transited_of(made)]), str(AUTHTIME),
         or_none(made.starttime),
         str(ENDTIME), items_word(addresses), items_word(ticket_data), str(made.seconds), str(made.micros),
-        or_none(made.subkey), or_none(made.number),
-        f"{CHECKSUM[0]}/{CHECKSUM[1].hex()}" if made.full else "none", items_word(data),
+        or_none(made.subkey and item_word(*chosen_key(made.subkey))), or_none(made.number),
+        item_word(*repeated(CHECKSUM, made.many)) if made.full else "none", items_word(data),
         "mutual" if is_mutual else "plain",
     ])
 

@@ -226,12 +226,13 @@ class Server(ThreadingHTTPServer):
 
     def __init__(self, tls=None):
         super().__init__(("127.0.0.1", 0), Handler)
-        self.service, self.later = (Service(keytab(), None, first_life=True) for _ in range(2))
+        self.service, self.later = (Service(keytab(), None, any_name=True, first_life=True) for _ in range(2))
         self.tokens, self.sent, self.is_mutual, self.replies, self.repeated = [], [], set(), [], False
         self.url = f"{'https' if tls else 'http'}://localhost:{self.server_port}"
         if tls:
             bindings = tls_server_end_point(ssl.PEM_cert_to_DER_cert(tls.read_text().partition("-----BEGIN PRIV")[0]))
-            self.bound = Service(keytab(), None, first_life=True, bindings=bindings, bindings_required=True)
+            self.bound = Service(keytab(), None, any_name=True, first_life=True, bindings=bindings,
+                                 bindings_required=True)
             context = ssl.SSLContext(ssl.PROTOCOL_TLS_SERVER)
             context.load_cert_chain(tls)
             self.socket = context.wrap_socket(self.socket, server_side=True)

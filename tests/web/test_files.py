@@ -88,7 +88,7 @@ def test_files_that_are_no_keytab(made, tmp_path):
 
 
 def test_each_name_of_the_keytab(made):
-    assert asked(web.by_wsgi(made(service=None))) == 200
+    assert asked(web.by_wsgi(made(service=None, any_name=True))) == 200
 
 
 def test_a_store_that_others_may_write_to(made, tmp_path):

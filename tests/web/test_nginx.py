@@ -259,7 +259,7 @@ def test_the_socket_of_systemd(folder, tmp_path):
 
 
 WRONG = {
-    'service = "host/web@EX"\nkeytabs = 1': "unexpected keyword argument 'keytabs'",
+    'service = "host/web@EX"\nkeytabs = 1': "there is no term `keytabs`",
     'service = "host/web@EX"\nstore = { memory = 1 }': "memory",
     'service = "host/web@EX"\nexempt = ["/"]': "`exempt` isn't taken",
     'service = "HTTP/web@EX"': "no key of type 19 or 20 for HTTP/web@EX",

@@ -110,7 +110,7 @@ def test_a_new_key_ends_all(made, over, tmp_path, monkeypatch):
 
 def test_a_cookie_of_another_service(made, over, tmp_path):
     key = tmp_path / "session.key"
-    cookie = cookie_of(logged_in(over(made(sessions=Sessions(key=key), service=None))))
+    cookie = cookie_of(logged_in(over(made(sessions=Sessions(key=key), service=None, any_name=True))))
     assert with_cookie(over(made(sessions=Sessions(key=key))), cookie) == 401
 
 

@@ -39,7 +39,7 @@ pub record HasTicket (setup : Setup) (credential : Credential) (ticket : ValueOf
   pub client : SameName (part_client part) credential.client
   pub key : session_key part ≡ credential_key credential
 
--- bytes that a client built as a request, with a ticket of which the service's keytab has the key
+-- bytes that a client built as a request, with a ticket that a key of the service's keytab opens
 pub record Built (setup : Setup) (bytes : List ℕ) : Type 0 where
   pub cache : Cache
   pub service : Principal

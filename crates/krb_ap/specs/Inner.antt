@@ -1,4 +1,4 @@
-pub mod ServiceKeys
+pub mod TicketKeys
 pub mod Stages
 pub mod Facts
 pub mod Judging

@@ -1,5 +1,5 @@
--- Words of the crates below and types of the sources that contracts cite, passed on from one place.
--- Declares nothing.
+-- Words of this crate and of the crates below, and types of the sources, that contracts cite, passed on from one
+-- place. Declares nothing.
 pub use Rattle.std.specs.Option.{MatchOption, option_map}
 pub use Rattle.krb_ccache.specs.Value.{Cache}
 pub use Rattle.krb_ccache.specs.declared.credential.Credential.{Credential}
@@ -17,7 +17,9 @@ pub use Rattle.krb_name.specs.declared.principal.Principal.{Principal}
 pub use Rattle.krb_replay.specs.Limit.{CountsOne}
 pub use Rattle.krb_replay.specs.Memory.{AddsStamp, IsRecent, SameStamps, later_of}
 pub use Rattle.krb_replay.specs.Stamp.{Stamp}
+pub use Rattle.krb_ap.specs.Opened.{Asks, AsksFor, AsksWithin, IsOrdinary, SameClient, authenticator_usage, entry_key, sent_at, service_of, stamp_of, ticket_usage}
 pub use Rattle.krb_ap.specs.Setup.{Arrival, Setup, arrival, as_decided, with_entries}
+pub use Rattle.krb_ap.specs.Taken.{Accept, IsTakenFrom, Taken, taken_stamp}
 pub use Rattle.krb_ap.specs.declared.accepted.Accepted.{Accepted}
 pub use Rattle.krb_ap.specs.declared.finish_fault.FinishFault.{FinishFault}
 pub use Rattle.krb_ap.specs.declared.refusal.Refusal.{Refusal}

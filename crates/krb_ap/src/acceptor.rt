@@ -1,14 +1,11 @@
 //! The service's side.
 
-ghost use Rattle.std.specs.Prelude.{◌≡◌, ◌↔◌, ◌⊎◌, List, None, Some, [], IsErr, IsErrAnd, IfOk, IfErr, IsErrOf, IsTrue, map, MatchResult, OnOk, OnErr};
-ghost use Rattle.krb_ap.specs.Words.{AddsStamp, Arrival, CountsOne, IsRecent, SameStamps, Stamp, arrival, later_of};
-ghost use Rattle.krb_ap.specs.Opened.{AsksFor, AsksWithin, IsOrdinary};
+ghost use Rattle.std.specs.Prelude.{◌≡◌, ◌⊎◌, List, None, Some, [], IsErr, IsErrAnd, IfOk, IfErr, IsErrOf, IsTrue, map, MatchResult, OnOk, OnErr};
+ghost use Rattle.krb_ap.specs.Words.{Accept, AddsStamp, Arrival, AsksFor, AsksWithin, CountsOne, IsOrdinary, IsRecent, SameStamps, Stamp, Taken, arrival, later_of};
 ghost use Rattle.krb_ap.specs.History.{IsShown, IsShownLately};
 ghost use Rattle.krb_ap.specs.Service.{HeedsLimits, IsPastLimit, SameMemory, Stands};
-ghost use Rattle.krb_ap.specs.Taken.{Accept, Taken};
 ghost use Rattle.krb_ap.specs.Causes.{Cause, IsRemembered, TellsPlaceWithin, place};
 ghost use Rattle.krb_ap.specs.Inner.GoingOn.{GoesOn};
-ghost use Rattle.krb_ap.specs.Inner.Judging.{IsNamed, IsPlacedWithin, JudgedBy};
 ghost use Rattle.krb_ap.specs.Answer.{Answers, MemoryWantedByRequests, Served, TellsPlacesWithin, after, arrival_of, taken_of};
 ghost use Rattle.krb_ap.specs.Once.{TakesAmong, TakesOnce};
 ghost use Rattle.krb_ap.specs.declared.refusal.Refusal.TheVariants.{OutOfMemory};
@@ -16,9 +13,11 @@ ghost use Rattle.krb_ap.specs.declared.refusal.Refusal.TheVariants.{OutOfMemory}
 use crate::accepted::Accepted;
 use crate::call::{Call, Outcome};
 use crate::inner_laws::facts;
-use crate::judging::{Judge, Judged, Rules};
+use crate::judging::Rules;
 use crate::laws::no_stamp_twice;
 use crate::refusal::Refusal;
+use crate::session_keys::SessionKeys;
+use crate::ticket_keys::TicketKeys;
 use krb_keytab::Keytab;
 use krb_msg::Moment;
 use krb_replay::{ReplayMemory, Skew, Tuple};
@@ -35,7 +34,9 @@ use std::marker::Model;
 /// depends on what is cached.
 #[derive(Drop)]
 pub struct Acceptor<M> {
-    pub(crate) judge: Judge,
+    pub(crate) rules: Rules,
+    pub(crate) tickets: TicketKeys,
+    pub(crate) session: SessionKeys,
     pub(crate) memory: M,
 }
 
@@ -44,7 +45,7 @@ impl<M> Model for Acceptor<M> {
 
     ghost Value = { Service M };
 
-    ghost view = { λ a. record { setup = a.judge.rules; memory = a.memory } };
+    ghost view = { λ a. record { setup = a.rules; memory = a.memory } };
 }
 
 impl<M: ReplayMemory> Acceptor<M> {
@@ -93,13 +94,14 @@ impl<M: ReplayMemory> Acceptor<M> {
         ensures setup { result.setup ≡ record { entries = keytab; skew = skew; start = start } }
         ensures memory { result.memory ≡ memory }
     {
-        let rules = Rules {
-            keytab,
-            skew,
-            start,
-        };
         Acceptor {
-            judge: Judge::new(rules),
+            rules: Rules {
+                keytab,
+                skew,
+                start,
+            },
+            tickets: TicketKeys::new(),
+            session: SessionKeys::default(),
             memory,
         }
     }
@@ -115,7 +117,7 @@ impl<M: ReplayMemory> Acceptor<M> {
     pub fn skew(&self) -> Skew
         ensures { result ≡ self.now.setup.skew }
     {
-        self.judge.rules.skew
+        self.rules.skew
     }
 
     /// Decides whether a request is accepted (RFC 4120, section 3.2.3), and remembers what it must
@@ -243,7 +245,7 @@ impl<M: ReplayMemory> Acceptor<M> {
         let judged = match self.judge(alloc, bytes, now) {
             Ok(judged) => judged,
             Err(refusal) => {
-                if is_memory(&refusal) {
+                if let Refusal::OutOfMemory = refusal {
                     return Err(refusal);
                 }
                 self.advance(now);
@@ -257,18 +259,6 @@ impl<M: ReplayMemory> Acceptor<M> {
             }
             Err(_) => Err(Refusal::OutOfMemory),
         }
-    }
-
-    fn judge(&mut self, alloc: Global, bytes: &[u8], now: Moment) -> Result<Judged, Refusal>
-        ensures same { self.new ≡ self.old }
-        ensures judged { JudgedBy M.has M.newest self.old bytes.now now result }
-        ensures named { IsNamed result }
-        ensures placed { IsPlacedWithin bytes.now result }
-        ensures asks { IfOk result (λ _. AsksWithin self.old.setup bytes.now) }
-        ensures memory { IsErrOf result OutOfMemory → AsksWithin self.old.setup bytes.now }
-        ensures service { IfOk result (λ j. IfOk j.answer (λ x. AsksFor bytes.now x.service)) }
-    {
-        self.judge.judge(alloc, bytes, now, &self.memory)
     }
 
     // The moment that counts.
@@ -294,7 +284,7 @@ impl<M: ReplayMemory> Acceptor<M> {
             × IsPastLimit (M.has self.old.memory) (M.limits self.old.memory) self.old.setup (later_of (M.newest self.old.memory) now) tuple)) }
         ensures limits { M.limits self.new.memory ≡ M.limits self.old.memory }
     {
-        self.memory.expect(now, self.judge.rules.skew);
+        self.memory.expect(now, self.rules.skew);
         self.memory.remember(tuple)
     }
 
@@ -311,12 +301,6 @@ impl<M: ReplayMemory> Acceptor<M> {
         ensures limits { M.limits self.new.memory ≡ M.limits self.old.memory }
         ensures refusals { M.refusals self.new.memory ≡ M.refusals self.old.memory }
     {
-        self.memory.advance(now, self.judge.rules.skew);
+        self.memory.advance(now, self.rules.skew);
     }
-}
-
-fn is_memory(refusal: &Refusal) -> bool
-    ensures { IsTrue result ↔ (refusal.now ≡ OutOfMemory) }
-{
-    matches!(refusal, Refusal::OutOfMemory)
 }

@@ -1,14 +1,13 @@
 //! The service's side: building an error.
 
 ghost use Rattle.std.specs.Prelude.{◌≡◌, ◌↔◌, IfOk, IsErrOf, None};
-ghost use Rattle.krb_msg.specs.Owned.{owned_krb_error_of};
 ghost use Rattle.krb_ap.specs.Causes.{code_of};
-ghost use Rattle.krb_ap.specs.ErrorReply.{IsErrorReply, IsErrorTooLong, error_for};
+ghost use Rattle.krb_ap.specs.ErrorReply.{IsErrorReply, IsErrorTooLong};
 ghost use Rattle.krb_ap.specs.declared.errors.ReplyFault.TheVariants.{NoCode, OutOfMemory, TooLong};
 
 use crate::inner_laws::writing;
 use crate::refusal::Refusal;
-use krb_msg::{EncodeFault, KrbError, Microseconds, Moment, Principal, Seconds};
+use krb_msg::{EncodeFault, KrbError, Moment, Principal};
 use std::alloc::{AllocError, Global};
 use thiserror::Error;
 
@@ -60,18 +59,7 @@ pub fn error_reply(
     };
     let (stime, susec) = now.parts();
     prove!(susec.get() < 1_000_000);
-    let error = error_message(stime, susec, code, service.clone()?);
-    match error.encode(alloc) {
-        Ok(bytes) => Ok(bytes),
-        Err(EncodeFault::TooLong) => Err(ReplyFault::TooLong),
-        Err(EncodeFault::OutOfMemory) => Err(ReplyFault::OutOfMemory),
-    }
-}
-
-fn error_message(stime: Seconds, susec: Microseconds, code: i32, service: Principal) -> KrbError
-    ensures { owned_krb_error_of result ≡ error_for stime susec code service }
-{
-    KrbError {
+    let error = KrbError {
         ctime: None,
         cusec: None,
         stime,
@@ -79,8 +67,13 @@ fn error_message(stime: Seconds, susec: Microseconds, code: i32, service: Princi
         error_code: code,
         crealm: None,
         cname: None,
-        service,
+        service: service.clone()?,
         e_text: None,
         e_data: None,
+    };
+    match error.encode(alloc) {
+        Ok(bytes) => Ok(bytes),
+        Err(EncodeFault::TooLong) => Err(ReplyFault::TooLong),
+        Err(EncodeFault::OutOfMemory) => Err(ReplyFault::OutOfMemory),
     }
 }

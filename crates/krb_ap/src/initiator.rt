@@ -89,7 +89,7 @@ impl Initiator {
 
 // The credential's session key, if it is among the keys.
 fn key_of<'a>(keys: &'a [ReadyKey], credential: &Credential) -> Option<&'a ReadyKey>
-    ensures { IfSome result (λ key. key.now ≡ credential_key credential.now) }
+    ensures { IfSome result (λ key. key.now.key ≡ credential_key credential.now) }
 {
     for key in keys {
         if key.is_of(credential) {

@@ -1,25 +1,22 @@
 //! What a service decides about a request, before it remembers or answers anything.
 
 ghost use Rattle.std.specs.Prelude.{◌≡◌, ◌↔◌, ℕ, IfErr, IfOk, IsErrOf, IsFalse, IsTrue, List, MatchOption, OnOk};
-ghost use Rattle.krb_ap.specs.Words.{IsChoice, IsNoLarger, IsUsable, ap_req_of, authenticator_of, chosen, enc_ticket_part_of, encrypted_fields, encrypted_of, ticket_of, ticket_service};
-ghost use Rattle.krb_ap.specs.Opened.{Asks, AsksFor, AsksWithin, entry_key, sent_at, service_of};
+ghost use Rattle.krb_ap.specs.Words.{Asks, AsksFor, AsksWithin, IsChoice, IsNoLarger, IsUsable, ap_req_of, authenticator_of, chosen, enc_ticket_part_of, encrypted_fields, encrypted_of, entry_key, sent_at, service_of, ticket_of, ticket_service};
 ghost use Rattle.krb_ap.specs.Quiet.{Settled};
-ghost use Rattle.krb_ap.specs.Times.{Near};
-ghost use Rattle.krb_ap.specs.Inner.Judging.{IsDecrypted, IsNamed, IsPlacedWithin, Judges};
+ghost use Rattle.krb_ap.specs.Inner.Judging.{IsDecrypted, IsNamed, IsPlacedWithin, JudgedBy, Judges};
 ghost use Rattle.krb_ap.specs.Inner.Stages.{AnswersNew, IsInTime, RefusesNew, Wants, key_in};
 ghost use Rattle.krb_ap.specs.declared.refusal.Refusal.TheVariants.{OutOfMemory};
 
 use crate::accepted::Accepted;
+use crate::acceptor::Acceptor;
 use crate::inner_laws::facts;
 use crate::keys::is_usable;
-use crate::opened::Opened;
+use crate::opened::{Opened, sent_at};
 use crate::opening::{
-    is_larger, is_of_type, is_same_client, read_authenticator, read_request, read_ticket, require,
-    service,
+    client, is_larger, is_of_type, is_same_client, read_authenticator, read_request, read_ticket,
+    require, service,
 };
 use crate::refusal::Refusal;
-use crate::session_keys::SessionKeys;
-use crate::ticket_keys::TicketKeys;
 use crate::times::{is_near, is_past, refusal_of_times};
 use krb_keytab::{Entry, Keytab, Picked};
 use krb_msg::{ApReqRef, EncTicketRef, EncryptedRef, Moment, Principal, TicketRef};
@@ -60,43 +57,23 @@ impl Model for Rules {
     ghost view = { λ r. record { entries = r.keytab; skew = r.skew; start = r.start } };
 }
 
-/// What a service decides by, and the keys that it keeps for the next request.
-#[derive(Drop)]
-pub(crate) struct Judge {
-    pub(crate) rules: Rules,
-    pub(crate) tickets: TicketKeys,
-    pub(crate) session: SessionKeys,
-}
-
-impl Judge {
-    /// Keeps no keys yet.
-    pub(crate) fn new(rules: Rules) -> Judge
-        ensures { result.rules ≡ rules }
-    {
-        Judge {
-            rules,
-            tickets: TicketKeys::new(),
-            session: SessionKeys::new(),
-        }
-    }
-
+impl<M: ReplayMemory> Acceptor<M> {
     /// What to remember of a request, and the answer to it; or why it is refused without being
     /// remembered. `now` is the moment that counts.
     ///
     /// These are the causes of [`Refusal`] in their order.
-    pub(crate) fn judge<M: ReplayMemory>(
+    pub(crate) fn judge(
         &mut self,
         alloc: Global,
         bytes: &[u8],
         now: Moment,
-        memory: &M,
     ) -> Result<Judged, Refusal>
-        ensures same { self.new.rules ≡ self.old.rules }
-        ensures judged { Judges self.old.rules (M.has memory.now) (M.newest memory.now) bytes.now now result }
+        ensures same { self.new ≡ self.old }
+        ensures judged { JudgedBy M.has M.newest self.old bytes.now now result }
         ensures named { IsNamed result }
         ensures placed { IsPlacedWithin bytes.now result }
-        ensures asks { IfOk result (λ _. AsksWithin self.old.rules bytes.now) }
-        ensures memory { IsErrOf result OutOfMemory → AsksWithin self.old.rules bytes.now }
+        ensures asks { IfOk result (λ _. AsksWithin self.old.setup bytes.now) }
+        ensures memory { IsErrOf result OutOfMemory → AsksWithin self.old.setup bytes.now }
         ensures service { IfOk result (λ j. IfOk j.answer (λ x. AsksFor bytes.now x.service)) }
     {
         facts();
@@ -123,7 +100,7 @@ impl Judge {
             at: now,
         };
         self.rules
-            .judge_decrypted(alloc, &decrypted, server, memory)
+            .judge_decrypted(alloc, &decrypted, server, &self.memory)
     }
 }
 
@@ -168,10 +145,10 @@ impl Rules {
         server: Principal,
         memory: &M,
     ) -> Result<Judged, Refusal>
-        requires { IsUsable (key_in decrypted.now.part.now.key) }
+        requires usable { IsUsable (key_in decrypted.now.part.now.key) }
+        requires server { server ≡ service_of (ap_req_of decrypted.now.request.now) }
         ensures judged { (bytes : List ℕ)
             → IsDecrypted self.now bytes (ap_req_of decrypted.now.request.now) (enc_ticket_part_of decrypted.now.part.now) decrypted.now.plain.now
-            → server ≡ service_of (ap_req_of decrypted.now.request.now)
             → Judges self.now (M.has memory.now) (M.newest memory.now) bytes decrypted.now.at result }
         ensures named { IsNamed result }
         ensures placed { (bytes : List ℕ) → IsPlacedWithin bytes result }
@@ -182,22 +159,17 @@ impl Rules {
         let now = decrypted.at;
         let auth = read_authenticator(decrypted.plain)?;
         require(is_same_client(decrypted.part, &auth), Refusal::BadMatch)?;
+        require(is_near(sent_at(&auth), now, self.skew), Refusal::Skew)?;
         let opened = Opened {
             request: decrypted.request,
             part: decrypted.part,
             auth: &auth,
+            server,
+            client: client(alloc, decrypted.part)?,
         };
-        require(self.is_near(&opened, now), Refusal::Skew)?;
-        let tuple = opened.tuple(alloc, server)?;
+        let tuple = opened.tuple(alloc)?;
         require(self.is_new(&tuple, now, memory), Refusal::Repeat)?;
-        self.judge_new(alloc, &opened, tuple, now)
-    }
-
-    // Whether the client's time is near.
-    fn is_near(&self, opened: &Opened, now: Moment) -> bool
-        ensures { IsTrue result ↔ Near (sent_at (authenticator_of opened.now.auth.now)) now self.now.skew }
-    {
-        is_near(opened.sent_at(), now, self.skew)
+        self.judge_new(alloc, opened, tuple, now)
     }
 
     // Whether a request wasn't seen before. During the quiet start each one counts as new.
@@ -213,17 +185,17 @@ impl Rules {
     fn judge_new(
         &self,
         alloc: Global,
-        opened: &Opened,
+        opened: Opened,
         tuple: Tuple,
         now: Moment,
     ) -> Result<Judged, Refusal>
-        requires { IsUsable (key_in opened.now.part.now.key) }
+        requires { IsUsable (key_in opened.part.now.key) }
         ensures tuple { IfOk result (λ j. j.tuple ≡ tuple) }
         ensures answer { IfOk result (λ j.
-            AnswersNew self.now now (ap_req_of opened.now.request.now) (enc_ticket_part_of opened.now.part.now) (authenticator_of opened.now.auth.now) j.answer) }
+            AnswersNew self.now now (ap_req_of opened.entry.request.now) (enc_ticket_part_of opened.entry.part.now) (authenticator_of opened.entry.auth.now) j.answer) }
         ensures memory { IfErr result (λ refusal. refusal ≡ OutOfMemory) }
     {
-        let answer = match self.refusal_of_new(opened, now) {
+        let answer = match self.refusal_of_new(&opened, now) {
             Some(refusal) => Err(refusal),
             None => Ok(opened.accepted(alloc)?),
         };
@@ -236,7 +208,7 @@ impl Rules {
             (IsInTime self.now now (ap_req_of opened.now.request.now) (enc_ticket_part_of opened.now.part.now) (authenticator_of opened.now.auth.now))
             (RefusesNew self.now now (ap_req_of opened.now.request.now) (enc_ticket_part_of opened.now.part.now) (authenticator_of opened.now.auth.now)) }
     {
-        if !self.is_settled(now, opened.sent_at()) {
+        if !self.is_settled(now, sent_at(opened.auth)) {
             return Some(Refusal::JustStarted);
         }
         refusal_of_times(opened, now, self.skew)

@@ -27,20 +27,14 @@ pub(crate) fn raw_key(alloc: Global, key: &Option<Key>) -> Result<Option<RawKey>
 pub(crate) fn owned_key(alloc: Global, key: &Option<KeyRef>) -> Result<Option<RawKey>, AllocError>
     ensures { IfOk result (λ made. option_map owned_key_of made ≡ option_map key_of key.now) }
 {
-    match key {
-        Some(key) => Ok(Some(key.to_owned(alloc)?)),
-        None => Ok(None),
-    }
+    key.as_ref().map(|key| key.to_owned(alloc)).transpose()
 }
 
 /// A copy of a key, if there is one. It allocates no memory.
 pub(crate) fn own_key(key: &Option<Key>) -> Option<Key>
     ensures { result ≡ key.now }
 {
-    match key {
-        Some(key) => Some(key.copy()),
-        None => None,
-    }
+    key.as_ref().map(Key::copy)
 }
 
 /// Returns whether a message's key has one of the two types, and the length of that type's keys. It

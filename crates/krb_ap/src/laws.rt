@@ -2,12 +2,11 @@
 //! the law.
 
 ghost use Rattle.std.specs.Prelude.{◌≡◌, ◌≢◌, ◌⊎◌, ℕ, ℤ, Bool, IsTrue, List, Result};
-ghost use Rattle.krb_ap.specs.Words.{Accepted, Arrival, Cache, Credential, FinishFault, Principal, Refusal, RequestFault, RequestOptions, Setup, Stamp, ValueOf, arrival, enc_ticket_part, part_client, ticket_kind, ticket_service};
+ghost use Rattle.krb_ap.specs.Words.{Accept, Accepted, Arrival, Cache, Credential, FinishFault, Principal, Refusal, RequestFault, RequestOptions, Setup, Stamp, Taken, ValueOf, arrival, enc_ticket_part, part_client, taken_stamp, ticket_kind, ticket_service};
 ghost use Rattle.krb_ap.specs.History.{IsShown, Shows, effective};
 ghost use Rattle.krb_ap.specs.Request.{Awaited, IsRequest, Prevents};
 ghost use Rattle.krb_ap.specs.Finish.{Agreement, FinishCause, IsAgreed, finish_place};
 ghost use Rattle.krb_ap.specs.Headline.{Agrees, Built, HasTicket, MayBeRefused, MayBeTaken, built_stamp};
-ghost use Rattle.krb_ap.specs.Taken.{Accept, Taken, taken_stamp};
 ghost use Rattle.krb_ap.specs.Causes.{Cause, IsRemembered, place};
 ghost use Rattle.krb_ap.specs.Answer.{Run};
 ghost use Rattle.krb_ap.specs.Living.{Lives, Step, TakesInLife, TakesOnceInLife};
@@ -147,12 +146,8 @@ pub fn undecided_calls_change_nothing()
     facts();
 }
 
-/// States the same of a service whose keytab is replaced, however often.
-///
-/// Clause `others`: without the calls that are answered with `OutOfMemory`, the others have right
-/// answers too, which are the same ones. Clause `alone`: if another service with the same setup and
-/// history gets the other calls and the same keytabs, and decides all of them, its answers say the
-/// same.
+/// States the same of a service whose keytab is replaced, however often. In clause `alone`, the
+/// other service gets the same keytabs.
 pub fn undecided_calls_change_no_life()
     ensures others { (setup : Setup) (history : List Arrival) (steps : List Step)
         → Lives setup history steps → Lives setup history (decided_steps steps) }

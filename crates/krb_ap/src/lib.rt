@@ -59,7 +59,6 @@ mod renewing;
 mod reply;
 mod request;
 mod request_fault;
-mod service_key;
 mod session_keys;
 mod ticket_keys;
 mod times;

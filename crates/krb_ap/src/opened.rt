@@ -1,15 +1,12 @@
 //! Opened requests: what is remembered of them, and what is known of them if they are accepted.
 
 ghost use Rattle.std.specs.Prelude.{◌≡◌, IfOk};
-ghost use Rattle.krb_ap.specs.Words.{IsUsable, ap_req_of, authenticator_of, enc_ticket_part_of, option_map, owned_list_of, owned_typed_of, part_client, typed_of};
+ghost use Rattle.krb_ap.specs.Words.{IsTakenFrom, IsUsable, ap_req_of, authenticator_of, enc_ticket_part_of, option_map, owned_list_of, owned_typed_of, part_client, sent_at, service_of, stamp_of, typed_of};
 ghost use Rattle.krb_ap.specs.Answer.{taken_of};
-ghost use Rattle.krb_ap.specs.Opened.{sent_at, service_of, stamp_at};
-ghost use Rattle.krb_ap.specs.Taken.{IsTakenFrom};
 ghost use Rattle.krb_ap.specs.Inner.Stages.{key_in};
 
 use crate::accepted::Accepted;
 use crate::keys::{owned_key, usable_key};
-use crate::opening::service;
 use krb_msg::{
     ApReqRef, AuthenticatorRef, EncTicketRef, MUTUAL_REQUIRED, Moment, Principal, Typed,
     TypedListRef, TypedRef,
@@ -24,38 +21,35 @@ pub(crate) struct Opened<'a> {
     pub(crate) request: &'a ApReqRef<'a>,
     pub(crate) part: &'a EncTicketRef<'a>,
     pub(crate) auth: &'a AuthenticatorRef<'a>,
+    // The one copy of each name: the tuple is made of it, and then the answer has it.
+    pub(crate) server: Principal,
+    pub(crate) client: Principal,
+    ghost server_is: { server ≡ service_of (ap_req_of request.now) },
+    ghost client_is: { client ≡ part_client (enc_ticket_part_of part.now) },
 }
 
 impl Opened<'_> {
-    /// When the client sent it, by the client's clock.
-    pub(crate) fn sent_at(&self) -> Moment
-        ensures { result ≡ sent_at (authenticator_of self.now.auth.now) }
-    {
-        Moment::at(self.auth.ctime, self.auth.cusec)
-    }
-
-    /// What is remembered of it, with this copy of its service's name.
+    /// What is remembered of it.
     #[inline(never)]
-    pub(crate) fn tuple(&self, alloc: Global, server: Principal) -> Result<Tuple, AllocError>
+    pub(crate) fn tuple(&self, alloc: Global) -> Result<Tuple, AllocError>
         ensures { IfOk result (λ tuple. tuple
-            ≡ stamp_at server (part_client (enc_ticket_part_of self.now.part.now)) (sent_at (authenticator_of self.now.auth.now))) }
+            ≡ stamp_of (ap_req_of self.now.request.now) (enc_ticket_part_of self.now.part.now) (authenticator_of self.now.auth.now)) }
     {
-        let client = self.part.cname.to_principal(alloc, self.part.crealm)?;
-        Tuple::new(alloc, server, client, self.auth.ctime, self.auth.cusec)
+        let auth = self.auth;
+        Tuple::of(alloc, &self.server, &self.client, auth.ctime, auth.cusec)
     }
 
     /// What is known of it, if it is accepted.
     #[inline(never)]
-    pub(crate) fn accepted(&self, alloc: Global) -> Result<Accepted, AllocError>
-        requires { IsUsable (key_in self.now.part.now.key) }
-        ensures service { IfOk result (λ x. x.service ≡ service_of (ap_req_of self.now.request.now)) }
-        ensures known { IfOk result (λ x. IsTakenFrom (ap_req_of self.now.request.now) (enc_ticket_part_of self.now.part.now) (authenticator_of self.now.auth.now) (taken_of x)) }
+    pub(crate) fn accepted(self, alloc: Global) -> Result<Accepted, AllocError>
+        requires { IsUsable (key_in self.part.now.key) }
+        ensures { IfOk result (λ x. IsTakenFrom (ap_req_of self.entry.request.now) (enc_ticket_part_of self.entry.part.now) (authenticator_of self.entry.auth.now) (taken_of x)) }
     {
         let part = self.part;
         let auth = self.auth;
         Ok(Accepted {
-            client: part.cname.to_principal(alloc, part.crealm)?,
-            service: service(alloc, &self.request.ticket)?,
+            client: self.client,
+            service: self.server,
             session_key: usable_key(part.key.etype, part.key.bytes),
             flags: part.flags,
             transited: part.transited.to_owned(alloc)?,
@@ -75,20 +69,24 @@ impl Opened<'_> {
     }
 }
 
+/// When a client sent a request, by its own clock.
+pub(crate) fn sent_at(auth: &AuthenticatorRef) -> Moment
+    ensures { result ≡ sent_at (authenticator_of auth.now) }
+{
+    Moment::at(auth.ctime, auth.cusec)
+}
+
 fn owned_list(alloc: Global, list: &Option<TypedListRef>) -> Result<Option<Vec<Typed>>, AllocError>
     ensures { IfOk result (λ made. option_map (λ l. owned_list_of l.items) made ≡ list.now) }
 {
-    match list {
-        Some(list) => Ok(Some(list.to_owned(alloc)?)),
-        None => Ok(None),
-    }
+    list.as_ref().map(|list| list.to_owned(alloc)).transpose()
 }
 
 fn owned_typed(alloc: Global, typed: &Option<TypedRef>) -> Result<Option<Typed>, AllocError>
     ensures { IfOk result (λ made. option_map owned_typed_of made ≡ option_map typed_of typed.now) }
 {
-    match typed {
-        Some(typed) => Ok(Some(typed.to_owned(alloc)?)),
-        None => Ok(None),
-    }
+    typed
+        .as_ref()
+        .map(|typed| typed.to_owned(alloc))
+        .transpose()
 }

@@ -1,9 +1,8 @@
 //! The steps of opening a request, which `judging` puts in order.
 
 ghost use Rattle.std.specs.Prelude.{◌≡◌, ◌≢◌, ◌<◌, ◌↔◌, false, IfOk, IfErr, IsTrue, OnOk};
-ghost use Rattle.krb_ap.specs.Words.{IsKnown, IsMessage, Opens, ap_req_of, authenticator, authenticator_of, enc_ticket_part, enc_ticket_part_of, name_size, profile_of, ticket_of, ticket_service};
+ghost use Rattle.krb_ap.specs.Words.{Asks, IsKnown, IsMessage, Opens, SameClient, ap_req_of, authenticator, authenticator_of, enc_ticket_part, enc_ticket_part_of, name_size, part_client, profile_of, ticket_of, ticket_service};
 ghost use Rattle.krb_ap.specs.Causes.{BeginsOtherwise, place};
-ghost use Rattle.krb_ap.specs.Opened.{Asks, SameClient};
 ghost use Rattle.krb_ap.specs.Inner.Stages.{IsCauseOfBytes, IsNone, IsShut};
 ghost use Rattle.krb_ap.specs.declared.refusal.Refusal.TheVariants.{AuthenticatorIntegrity, OutOfMemory, Skew, TicketIntegrity};
 
@@ -54,10 +53,7 @@ pub(crate) fn read_request<'a>(bytes: &'a [u8]) -> Result<ApReqRef<'a>, Refusal>
 pub(crate) fn begins_otherwise(bytes: &[u8], tag: u8) -> bool
     ensures { IsTrue result ↔ BeginsOtherwise tag bytes.now }
 {
-    match bytes.first() {
-        Some(first) => *first != tag,
-        None => false,
-    }
+    bytes.first().is_some_and(|first| *first != tag)
 }
 
 fn is_known(sealed: &EncryptedRef) -> bool
@@ -91,16 +87,20 @@ pub(crate) fn service(alloc: Global, ticket: &TicketRef) -> Result<Principal, Al
     ticket.sname.to_principal(alloc, ticket.realm)
 }
 
+/// The client that a ticket names.
+pub(crate) fn client(alloc: Global, part: &EncTicketRef) -> Result<Principal, AllocError>
+    ensures { IfOk result (λ client. client ≡ part_client (enc_ticket_part_of part.now)) }
+{
+    part.cname.to_principal(alloc, part.crealm)
+}
+
 /// Reads the plain text of a ticket's sealed part. It allocates no memory.
 pub(crate) fn read_ticket<'a>(plain: &'a [u8]) -> Result<EncTicketRef<'a>, Refusal>
     ensures found { IfOk result (λ part. IsMessage enc_ticket_part (enc_ticket_part_of part) plain.entry.now) }
     ensures refused { IfErr result (λ refusal. refusal ≡ TicketIntegrity) }
     ensures none { IfErr result (λ _. IsNone enc_ticket_part plain.entry.now) }
 {
-    match EncTicketRef::parse(plain) {
-        Ok(part) => Ok(part),
-        Err(_) => Err(Refusal::TicketIntegrity),
-    }
+    EncTicketRef::parse(plain).map_err(|_| Refusal::TicketIntegrity)
 }
 
 /// Whether a text is sealed with a key's encryption type.
@@ -116,10 +116,7 @@ pub(crate) fn read_authenticator<'a>(plain: &'a [u8]) -> Result<AuthenticatorRef
     ensures refused { IfErr result (λ refusal. refusal ≡ AuthenticatorIntegrity) }
     ensures none { IfErr result (λ _. IsNone authenticator plain.entry.now) }
 {
-    match AuthenticatorRef::parse(plain) {
-        Ok(auth) => Ok(auth),
-        Err(_) => Err(Refusal::AuthenticatorIntegrity),
-    }
+    AuthenticatorRef::parse(plain).map_err(|_| Refusal::AuthenticatorIntegrity)
 }
 
 /// Opens a sealed text, or answers `shut` if nothing opens.

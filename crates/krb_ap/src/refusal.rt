@@ -2,11 +2,11 @@
 
 //! Why a request is refused.
 
-ghost use Rattle.std.specs.Prelude.{◌≡◌, Some};
+ghost use Rattle.std.specs.Prelude.{◌≡◌};
 ghost use Rattle.krb_ap.specs.Causes.{code_of, name_of, place};
 ghost use Rattle.krb_ap.specs.declared.refusal.Refusal.TheVariants.{OutOfMemory};
 
-use krb_msg::{Fault, error_code};
+use krb_msg::{Fault, error_code as code};
 use std::alloc::AllocError;
 use thiserror::Error;
 
@@ -82,57 +82,41 @@ pub enum Refusal {
     OutOfMemory,
 }
 
-/// A row of the table of causes.
-#[derive(Clone, Copy)]
-struct Row {
-    place: u32,
-    name: &'static str,
-    code: Option<i32>,
-}
-
 impl Refusal {
-    // Its row.
-    fn row(&self) -> Row
-        ensures place { result.place ≡ place self.now }
-        ensures name { result.name.now ≡ name_of self.now }
-        ensures code { result.code ≡ code_of self.now }
+    // Its row of the table: place, name and code.
+    fn row(&self) -> (u32, &'static str, Option<i32>)
+        ensures place { result.0 ≡ place self.now }
+        ensures name { result.1.now ≡ name_of self.now }
+        ensures code { result.2 ≡ code_of self.now }
     {
         match self {
-            Refusal::MessageType => row_of(100, "MessageType", error_code::KRB_AP_ERR_MSG_TYPE),
-            Refusal::Malformed(_) => row_of(200, "Malformed", error_code::KRB_ERR_GENERIC),
-            Refusal::UserToUser => row_of(300, "UserToUser", error_code::KRB_AP_ERR_NOKEY),
-            Refusal::TicketEtype => row_of(400, "TicketEtype", error_code::KDC_ERR_ETYPE_NOSUPP),
-            Refusal::NotUs => row_of(500, "NotUs", error_code::KRB_AP_ERR_NOT_US),
-            Refusal::NoKey => row_of(600, "NoKey", error_code::KRB_AP_ERR_NOKEY),
-            Refusal::BadKeyVersion => row_of(
-                700,
-                "BadKeyVersion",
-                error_code::KRB_AP_ERR_BADKEYVER,
-            ),
-            Refusal::TicketIntegrity => row_of(
+            Refusal::MessageType => (100, "MessageType", Some(code::KRB_AP_ERR_MSG_TYPE)),
+            Refusal::Malformed(_) => (200, "Malformed", Some(code::KRB_ERR_GENERIC)),
+            Refusal::UserToUser => (300, "UserToUser", Some(code::KRB_AP_ERR_NOKEY)),
+            Refusal::TicketEtype => (400, "TicketEtype", Some(code::KDC_ERR_ETYPE_NOSUPP)),
+            Refusal::NotUs => (500, "NotUs", Some(code::KRB_AP_ERR_NOT_US)),
+            Refusal::NoKey => (600, "NoKey", Some(code::KRB_AP_ERR_NOKEY)),
+            Refusal::BadKeyVersion => (700, "BadKeyVersion", Some(code::KRB_AP_ERR_BADKEYVER)),
+            Refusal::TicketIntegrity => (
                 800,
                 "TicketIntegrity",
-                error_code::KRB_AP_ERR_BAD_INTEGRITY,
+                Some(code::KRB_AP_ERR_BAD_INTEGRITY),
             ),
-            Refusal::SessionKey => row_of(900, "SessionKey", error_code::KDC_ERR_ETYPE_NOSUPP),
-            Refusal::AuthenticatorIntegrity => row_of(
+            Refusal::SessionKey => (900, "SessionKey", Some(code::KDC_ERR_ETYPE_NOSUPP)),
+            Refusal::AuthenticatorIntegrity => (
                 1_000,
                 "AuthenticatorIntegrity",
-                error_code::KRB_AP_ERR_BAD_INTEGRITY,
+                Some(code::KRB_AP_ERR_BAD_INTEGRITY),
             ),
-            Refusal::BadMatch => row_of(1_100, "BadMatch", error_code::KRB_AP_ERR_BADMATCH),
-            Refusal::Skew => row_of(1_200, "Skew", error_code::KRB_AP_ERR_SKEW),
-            Refusal::JustStarted => row_of(1_250, "JustStarted", error_code::KRB_AP_ERR_SKEW),
-            Refusal::Repeat => row_of(1_300, "Repeat", error_code::KRB_AP_ERR_REPEAT),
-            Refusal::NotYetValid => row_of(1_400, "NotYetValid", error_code::KRB_AP_ERR_TKT_NYV),
-            Refusal::Expired => row_of(1_500, "Expired", error_code::KRB_AP_ERR_TKT_EXPIRED),
-            Refusal::Transited => row_of(1_600, "Transited", error_code::KRB_ERR_GENERIC),
-            Refusal::Authorization => row_of(1_700, "Authorization", error_code::KRB_ERR_GENERIC),
-            Refusal::OutOfMemory => Row {
-                place: 1_800,
-                name: "OutOfMemory",
-                code: None,
-            },
+            Refusal::BadMatch => (1_100, "BadMatch", Some(code::KRB_AP_ERR_BADMATCH)),
+            Refusal::Skew => (1_200, "Skew", Some(code::KRB_AP_ERR_SKEW)),
+            Refusal::JustStarted => (1_250, "JustStarted", Some(code::KRB_AP_ERR_SKEW)),
+            Refusal::Repeat => (1_300, "Repeat", Some(code::KRB_AP_ERR_REPEAT)),
+            Refusal::NotYetValid => (1_400, "NotYetValid", Some(code::KRB_AP_ERR_TKT_NYV)),
+            Refusal::Expired => (1_500, "Expired", Some(code::KRB_AP_ERR_TKT_EXPIRED)),
+            Refusal::Transited => (1_600, "Transited", Some(code::KRB_ERR_GENERIC)),
+            Refusal::Authorization => (1_700, "Authorization", Some(code::KRB_ERR_GENERIC)),
+            Refusal::OutOfMemory => (1_800, "OutOfMemory", None),
         }
     }
 
@@ -141,14 +125,14 @@ impl Refusal {
     pub fn code(&self) -> Option<i32>
         ensures { result ≡ code_of self.now }
     {
-        self.row().code
+        self.row().2
     }
 
     /// Returns its name, as the enum has it.
     pub fn name(&self) -> &'static str
         ensures { result.now ≡ name_of self.now }
     {
-        self.row().name
+        self.row().1
     }
 
     /// Returns a number that grows with the place of the cause in the order. It stays the same if
@@ -156,19 +140,7 @@ impl Refusal {
     pub fn place(&self) -> u32
         ensures { result ≡ place self.now }
     {
-        self.row().place
-    }
-}
-
-const fn row_of(place: u32, name: &'static str, code: i32) -> Row
-    ensures place { result.place ≡ place }
-    ensures name { result.name.now ≡ name.now }
-    ensures code { result.code ≡ Some code }
-{
-    Row {
-        place,
-        name,
-        code: Some(code),
+        self.row().0
     }
 }
 

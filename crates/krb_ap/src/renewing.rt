@@ -6,7 +6,7 @@ ghost use Rattle.krb_ap.specs.History.{IsShown};
 ghost use Rattle.krb_ap.specs.Service.{Stands};
 
 use crate::acceptor::Acceptor;
-use crate::judging::Judge;
+use crate::judging::Rules;
 use crate::ticket_keys::TicketKeys;
 use krb_keytab::Keytab;
 use krb_replay::ReplayMemory;
@@ -29,18 +29,16 @@ impl<M: ReplayMemory> Acceptor<M> {
         ensures shown { (history : List Arrival)
             → SameStamps (IsShown self.old.setup history) (IsShown self.new.setup (as_decided self.old.setup history)) }
     {
-        self.judge.replace_keytab(keytab)
+        replace(&mut self.rules, &mut self.tickets, keytab)
     }
 }
 
-impl Judge {
-    // What is cached of a service key of the old keytab goes with it.
-    fn replace_keytab(&mut self, keytab: Keytab) -> Keytab
-        ensures rules { self.new.rules ≡ with_entries self.old.rules keytab }
-        ensures old { result ≡ self.old.rules.entries }
-        ensures cached { self.new.tickets.cached ≡ None }
-    {
-        self.tickets = TicketKeys::new();
-        mem::replace(&mut self.rules.keytab, keytab)
-    }
+// What is cached of a service key of the old keytab goes with it.
+fn replace(rules: &mut Rules, tickets: &mut TicketKeys, keytab: Keytab) -> Keytab
+    ensures rules { rules.new ≡ with_entries rules.old keytab }
+    ensures old { result ≡ rules.old.entries }
+    ensures cached { tickets.new.keys ≡ None }
+{
+    *tickets = TicketKeys::new();
+    mem::replace(&mut rules.keytab, keytab)
 }

@@ -111,7 +111,7 @@ impl ReadyCredential<'_> {
         let request = ApReqOver {
             options: flags(options.mutual),
             ticket,
-            authenticator: encrypted(self.key.key(), cipher),
+            authenticator: encrypted(&self.key.key, cipher),
         };
         let bytes = match request.encode(alloc) {
             Ok(bytes) => bytes,
@@ -120,7 +120,7 @@ impl ReadyCredential<'_> {
         };
         let pending = Pending {
             client,
-            key: self.key.key().copy(),
+            key: self.key.key.copy(),
             at,
             subkey: options.subkey,
             seq: options.seq,
@@ -158,7 +158,7 @@ impl ReadyCredential<'_> {
             Err(EncodeFault::TooLong) => return Err(RequestFault::TooLong),
             Err(EncodeFault::OutOfMemory) => return Err(RequestFault::OutOfMemory),
         };
-        let cipher = seal(alloc, self.key.keys(), confounder, &plain)?;
+        let cipher = seal(alloc, &self.key.keys, confounder, &plain)?;
         Ok((cipher, authenticator.client))
     }
 }

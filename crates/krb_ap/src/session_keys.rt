@@ -1,9 +1,8 @@
 //! The keys that open authenticators: derived from a ticket's session key, and cached for later
 //! requests with the same one.
 
-ghost use Rattle.std.specs.Prelude.{◌≡◌, ◌≢◌, None, Some, IfErr, IfOk};
-ghost use Rattle.krb_ap.specs.Words.{IsUsable, Opens, profile_of};
-ghost use Rattle.krb_ap.specs.Opened.{authenticator_usage};
+ghost use Rattle.std.specs.Prelude.{◌≡◌, ◌≢◌, Some, IfErr, IfOk};
+ghost use Rattle.krb_ap.specs.Words.{IsUsable, Opens, authenticator_usage, profile_of};
 ghost use Rattle.krb_ap.specs.Inner.Stages.{IsShut, key_in};
 ghost use Rattle.krb_ap.specs.declared.refusal.Refusal.TheVariants.{AuthenticatorIntegrity, OutOfMemory};
 
@@ -15,19 +14,12 @@ use krb_msg::{KeyRef, usage};
 use std::alloc::Global;
 
 /// The session key that was used last, with its keys for authenticators.
-#[derive(Drop)]
+#[derive(Default, Drop)]
 pub(crate) struct SessionKeys {
     cached: Option<UsageKey>,
 }
 
 impl SessionKeys {
-    /// Caches nothing.
-    pub(crate) fn new() -> SessionKeys
-        ensures { result.cached ≡ None }
-    {
-        SessionKeys { cached: None }
-    }
-
     /// Opens an authenticator under a session key. It derives that key's keys, unless they are
     /// cached.
     pub(crate) fn open(

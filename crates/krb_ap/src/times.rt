@@ -9,7 +9,7 @@ use crate::opened::Opened;
 use crate::refusal::Refusal;
 use krb_msg::{
     ApReqRef, EncTicketRef, INVALID, Microseconds, Moment, Seconds, TRANSITED_POLICY_CHECKED,
-    TypedListRef, TypedRef,
+    TypedListRef,
 };
 use krb_replay::Skew;
 
@@ -32,10 +32,7 @@ fn is_within(one: Moment, other: Moment, skew: Skew) -> bool
 pub(crate) fn is_past(start: Option<Moment>, moment: Moment, skew: Skew) -> bool
     ensures { IsTrue result ↔ IfSome start (λ start. (start +ℤ pos skew) <ℤ moment) }
 {
-    match start {
-        Some(start) => !is_within(moment, start, skew),
-        None => true,
-    }
+    start.is_none_or(|start| !is_within(moment, start, skew))
 }
 
 fn start_of(second: Seconds) -> Moment
@@ -72,10 +69,7 @@ pub(crate) fn refusal_of_times(opened: &Opened, now: Moment, skew: Skew) -> Opti
 fn is_early(part: &EncTicketRef, now: Moment, skew: Skew) -> bool
     ensures { IsTrue result ↔ IsEarly (enc_ticket_part_of part.now) now skew }
 {
-    let start = match part.starttime {
-        Some(time) => time,
-        None => part.authtime,
-    };
+    let start = part.starttime.unwrap_or(part.authtime);
     !is_within(start_of(start), now, skew) || part.flags.has(INVALID)
 }
 
@@ -94,26 +88,17 @@ fn is_path_trusted(request: &ApReqRef, part: &EncTicketRef) -> bool
 fn is_ignorable(elements: &Option<TypedListRef>) -> bool
     ensures { IsTrue result ↔ MayBeIgnored elements.now }
 {
-    match elements {
-        Some(elements) => has_only_type_1(elements),
-        None => true,
-    }
+    elements.as_ref().is_none_or(has_only_type_1)
 }
 
 fn has_only_type_1(elements: &TypedListRef) -> bool
     ensures { IsTrue result ↔ All (λ element. type_of element ≡ pos 1) elements.now }
 {
     for element in elements.iter() {
-        if !is_of_type_1(&element) {
+        // (AD-IF-RELEVANT)
+        if element.kind != 1 {
             return false;
         }
     }
     true
-}
-
-// AD-IF-RELEVANT is of type 1.
-fn is_of_type_1(element: &TypedRef) -> bool
-    ensures { IsTrue result ↔ (element.now.kind ≡ pos 1) }
-{
-    element.kind == 1
 }

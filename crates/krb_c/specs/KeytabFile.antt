@@ -5,7 +5,7 @@ use Rattle.krb_name.specs.Reading.{IsReadAs}
 use Rattle.krb_name.specs.declared.principal.Principal.{Principal}
 use Rattle.krb_keytab.specs.Edit.{AddsEntry, IsRefusal, LacksEntry}
 use Rattle.krb_keytab.specs.Entry.{KeytabEntry, LengthsFit}
-use Rattle.krb_name.specs.File.{file_limit}
+use Rattle.krb_file.specs.File.{file_limit}
 use Rattle.krb_keytab.specs.Format.{IsFaultOf, IsKeytab}
 use Rattle.krb_keytab.specs.Written.{written}
 use Rattle.krb_keytab.specs.declared.fault.KeytabFault.{KeytabFault}

@@ -77,7 +77,8 @@ IsUnnamed text answer = (text ≢ []) × IsNameFault text answer
 -- the text of a name, and how many components it has; or why it isn't a name's
 abbrev pub IsNameChecked : List ℕ → Answer → Type 0
 IsNameChecked bytes answer =
-    ((name : Principal) × (IsReadAs bytes (Ok name) × (answer ≡ sized ok (length name.components)))) ⊎ IsNameFault bytes answer
+    ((name : Principal) × (IsReadAs bytes (Ok name) × (answer ≡ sized ok (length name.components))))
+    ⊎ (IsNameFault bytes answer × (answer ≢ plain out_of_memory))
 
 -- ---- what is passed
 

@@ -10,15 +10,18 @@ use crate::structs::Answer;
 use krb_name::{Principal, TextFault};
 use std::alloc::Global;
 
-/// Checks whether bytes are the text of a name (`krb_name::Principal::from_text`), and returns how
-/// many components it has.
+/// Checks whether bytes are the text of a name (`krb_name::Principal::check_text`), and returns how
+/// many components it has. Allocates no memory.
 #[unsafe(no_mangle)]
-pub extern "C" fn fevstunik_name_check(alloc: Global, name: &[u8]) -> Answer
+pub extern "C" fn fevstunik_name_check(name: &[u8]) -> Answer
     ensures { IsNameChecked name.now result }
 {
-    match name_of(alloc, name) {
-        Ok(name) => Answer::sized(code::OK, name.components.len()),
-        Err(answer) => answer,
+    let Ok(text) = str::from_utf8(name) else {
+        return Answer::plain(code::NOT_UTF8);
+    };
+    match Principal::check_text(text) {
+        Ok(count) => Answer::sized(code::OK, count),
+        Err(fault) => name_told(fault),
     }
 }
 

@@ -8,7 +8,8 @@ ghost use Rattle.krb_call_lines.specs.CallLine.{SpellsCall, SpellsConfounder, Sp
 ghost use Rattle.krb_call_lines.specs.Inner.Moments.{TellsMoment};
 
 use crate::cut::cut_at;
-use hex::{FromHex, FromHexError};
+use crate::digits::decode;
+use hex::FromHex;
 use krb_msg::Moment;
 use krb_time::LATEST_SECOND;
 use std::alloc::{AllocError, Global};
@@ -172,12 +173,8 @@ fn message_of(alloc: Global, text: &[u8]) -> Result<Option<Vec<u8>>, AllocError>
     if text == b"-".as_slice() {
         return Ok(Some(Vec::new(alloc)));
     }
-    match hex::decode(alloc, text) {
-        Ok(bytes) if bytes.is_empty() => Ok(None),
-        Ok(bytes) => Ok(Some(bytes)),
-        Err(fault) => match fault {
-            FromHexError::OutOfMemory => Err(AllocError),
-            _ => Ok(None),
-        },
+    match decode(alloc, text)? {
+        Some(bytes) if bytes.is_empty() => Ok(None),
+        decoded => Ok(decoded),
     }
 }

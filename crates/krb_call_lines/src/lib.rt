@@ -7,6 +7,7 @@
 
 mod call_line;
 mod cut;
+mod digits;
 mod form;
 mod part_line;
 mod token_fault;

@@ -25,7 +25,7 @@ fn components_of(alloc: Global, word: &str) -> Option<Components> {
         return Some(components);
     }
     for item in word.split(',') {
-        components.push(Bytes::from(bytes_of(alloc, item)?)).ok()?;
+        components.push(&bytes_of(alloc, item)?).ok()?;
     }
     Some(components)
 }
@@ -70,20 +70,20 @@ pub(crate) fn show_name(name: &Principal, out: &mut Answer) -> Option<()> {
     out.put("/")?;
     out.put_bytes(name.realm.as_slice())?;
     out.put("/")?;
-    put_components(name.components.as_slice(), out)
+    put_components(&name.components, out)
 }
 
-fn put_components(components: &[Bytes], out: &mut Answer) -> Option<()> {
+fn put_components(components: &Components, out: &mut Answer) -> Option<()> {
     if components.is_empty() {
         return out.put(".");
     }
     let mut is_first = true;
-    for component in components {
+    for component in components.iter() {
         if !is_first {
             out.put(",")?;
         }
         is_first = false;
-        out.put_bytes(component.as_slice())?;
+        out.put_bytes(component)?;
     }
     Some(())
 }

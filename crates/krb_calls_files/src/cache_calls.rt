@@ -8,7 +8,8 @@ use crate::words::{
     told, word,
 };
 use krb_ccache::{CCache, CacheFault, Credential};
-use krb_name::{Principal, Source};
+use krb_file::Source;
+use krb_name::Principal;
 use krb_words::bytes_of;
 use std::alloc::Global;
 use std::fmt::Write;

@@ -2,7 +2,7 @@
 
 ghost use Rattle.std.specs.Io.{ReadsAtMost};
 
-use krb_name::{PieceSource, ReadSource, SliceSource, Source, SourceFailed};
+use krb_file::{PieceSource, ReadSource, SliceSource, Source, SourceFailed};
 use std::io;
 use std::io::{ErrorKind, Read};
 

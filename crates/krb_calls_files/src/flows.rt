@@ -3,7 +3,7 @@
 use crate::counted::{Counted, left};
 use crate::talk::Talk;
 use crate::words::{displayed, shown, truth, word};
-use krb_name::{FileCursor, ReadFault, Short, Source, SourceFailed, Window};
+use krb_file::{FileCursor, ReadFault, Short, Source, SourceFailed, Window};
 use std::alloc::Global;
 use std::fmt::Display;
 

@@ -4,8 +4,9 @@ use crate::counted::source_of;
 use crate::flows::source_told;
 use crate::readers::entry_told;
 use crate::words::{entry_of, name_of, show_entry, show_list, told, word};
+use krb_file::Source;
 use krb_keytab::{Entry, Keytab, KeytabFault, Picked};
-use krb_name::{Principal, Source};
+use krb_name::Principal;
 use krb_words::{bytes_of, show_bytes};
 use std::alloc::Global;
 

@@ -54,7 +54,7 @@ mod words;
 
 use crate::readers::{Over, open_over};
 use crate::talk::{open, tell, tell_answer};
-use krb_name::FileCursor;
+use krb_file::FileCursor;
 use krb_words::bytes_of;
 use std::alloc::Global;
 use std::io;

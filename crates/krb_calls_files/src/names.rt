@@ -4,10 +4,9 @@ use crate::words::{
     components_of, displayed, name_of, quoted, show_components, show_name, truth, word,
 };
 use krb_ccache::CacheFault;
+use krb_file::{ReadFault, Short, SinkFailed, SourceFailed};
 use krb_keytab::KeytabFault;
-use krb_name::{
-    Bytes, Components, Principal, ReadFault, Short, SinkFailed, SourceFailed, TextFault,
-};
+use krb_name::{Bytes, Components, Principal, TextFault};
 use krb_words::{bytes_of, show_bytes};
 use std::alloc::Global;
 
@@ -20,11 +19,11 @@ pub(crate) fn laws(alloc: Global) -> Option<String> {
 }
 
 fn name_laws() {
-    krb_name::laws::bytes_are_fields();
-    krb_name::laws::numbers_are_fields();
-    krb_name::laws::signed_numbers_are_fields();
-    krb_name::laws::data_are_fields();
-    krb_name::laws::repeated_data_are_fields();
+    krb_file::laws::bytes_are_fields();
+    krb_file::laws::numbers_are_fields();
+    krb_file::laws::signed_numbers_are_fields();
+    krb_file::laws::data_are_fields();
+    krb_file::laws::repeated_data_are_fields();
     krb_name::laws::a_text_has_one_answer();
     krb_name::laws::a_text_has_one_name();
     krb_name::laws::the_same_names_have_one_hash();
@@ -176,9 +175,9 @@ fn are_components_same(alloc: Global, one: &str, other: &str) -> Option<String> 
 fn roomy(alloc: Global, count: &str, list: &str) -> Option<String> {
     let count = count.parse::<u16>().ok()?;
     let given = components_of(alloc, list)?;
-    let mut made = Components::with_room(alloc, usize::from(count)).ok()?;
-    for component in given.as_slice() {
-        made.push(component.clone().ok()?).ok()?;
+    let mut made = Components::with_room(alloc, usize::from(count), 0).ok()?;
+    for component in given.iter() {
+        made.push(component).ok()?;
     }
     told_components(alloc, &made)
 }
@@ -187,7 +186,7 @@ fn told_components(alloc: Global, components: &Components) -> Option<String> {
     let count = components.len();
     let is_empty = components.is_empty();
     let mut text = format!(in alloc; "{count} {is_empty} ").ok()?;
-    show_components(alloc, &mut text, components.as_slice())?;
+    show_components(alloc, &mut text, components)?;
     Some(text)
 }
 

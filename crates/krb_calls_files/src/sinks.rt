@@ -2,7 +2,7 @@
 
 use crate::talk::{Talk, open, tell};
 use crate::words::{displayed, shown, word};
-use krb_name::{PieceSink, Sink, SinkFailed, WriteSink, write_all};
+use krb_file::{PieceSink, Sink, SinkFailed, WriteSink, write_all};
 use krb_words::bytes_of;
 use std::alloc::Global;
 use std::io;

@@ -33,9 +33,7 @@ fn add_components(alloc: Global, components: &mut Components, item: &str) -> Opt
     let (digits, count) = repeated(item, '^')?;
     let bytes = bytes_of(alloc, digits)?;
     for _ in 0..count {
-        components
-            .push(Bytes::from_slice(alloc, &bytes).ok()?)
-            .ok()?;
+        components.push(&bytes).ok()?;
     }
     Some(())
 }
@@ -215,14 +213,14 @@ pub(crate) fn quoted(alloc: Global, text: &str) -> Option<String> {
 pub(crate) fn show_components(
     alloc: Global,
     text: &mut String,
-    components: &[Bytes],
+    components: &Components,
 ) -> Option<()> {
     let mut list = String::new(alloc);
-    for component in components {
+    for component in components.iter() {
         if !list.is_empty() {
             list.push(',').ok()?;
         }
-        show_bytes(alloc, &mut list, component.as_slice())?;
+        show_bytes(alloc, &mut list, component)?;
     }
     show_list(alloc, text, list.as_str())
 }
@@ -233,7 +231,7 @@ pub(crate) fn show_name(alloc: Global, text: &mut String, name: &Principal) -> O
     write!(text, "{name_type}/").ok()?;
     show_bytes(alloc, text, name.realm.as_slice())?;
     text.push('/').ok()?;
-    show_components(alloc, text, name.components.as_slice())
+    show_components(alloc, text, &name.components)
 }
 
 /// Shows an entry: `NAME:TIMESTAMP:KVNO:ETYPE:KEY`.

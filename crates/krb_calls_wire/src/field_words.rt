@@ -114,7 +114,7 @@ fn components(words: &mut Words) -> Option<Components> {
     for _ in 0..u32::MAX {
         match words.next()? {
             "]" => return Some(made),
-            word => made.push(Bytes::from(bytes_of(words.alloc, word)?)).ok()?,
+            word => made.push(&bytes_of(words.alloc, word)?).ok()?,
         }
     }
     None

@@ -1,29 +1,29 @@
 -- Each file is a cache or has a fault, and only one of these.
-use Rattle.std.proofs.Common.{◌≡◌, ◌≢◌, ◌⊎◌, ℕ, ◌<◌, ◌≤◌, List, [], ◌∷◌, ◌++◌, length, map, Option, Some, None, Result, Ok, Err, refl, sym, ap, ap₂, subst, ◌∙◌, append_assoc, append-nil, arith, inl, inr}
+use Rattle.std.proofs.Common.{◌≡◌, ◌≢◌, ◌⊎◌, ℕ, ◌+◌, ◌<◌, ◌≤◌, List, [], ◌∷◌, ◌++◌, length, map, Option, Some, None, Result, Ok, Err, refl, sym, ap, ap₂, subst, ◌∙◌, append_assoc, append-nil, arith, inl, inr}
 use Rattle.std.specs.Int.{w16}
 use Rattle.std.specs.Prelude.{IfOk, IfErr}
 use Rattle.std.specs.List.{flat_map}
 use Rattle.std.proofs.lemmas.Bool.{cases_lt}
 use Rattle.std.proofs.lemmas.List.{drop_at, length-append, length-map, map-append, nil_from_length}
 use Rattle.std.proofs.lemmas.List.Elements.{recursion_from_All}
-use Rattle.krb_name.specs.Cursor.{Place, data_at, number_bytes, data_bytes}
-use Rattle.krb_name.specs.Field.{IsBytes}
+use Rattle.krb_file.specs.Cursor.{Place, data_at, number_bytes, data_bytes}
+use Rattle.krb_file.specs.Field.{IsBytes}
 use Rattle.krb_ccache.specs.Types.{Principal, HeaderField, Credential, Layout, Version3, Version4, CacheFault, Version, Header, BadItem, TooLong, Read, OutOfMemory}
-use Rattle.krb_name.proofs.CursorLaws.{IsBytes-drop, IsField-data16}
+use Rattle.krb_file.proofs.CursorLaws.{IsBytes-drop, IsField-data16}
 use Rattle.krb_ccache.specs.Spelling.{field_bytes, fields_bytes, header_bytes, name_bytes}
 use Rattle.krb_ccache.specs.Value.{Cache, FitsHeader, FitsName, Fits}
-use Rattle.krb_name.specs.File.{file_limit}
+use Rattle.krb_file.specs.File.{file_limit}
 use Rattle.krb_ccache.specs.Format.{version_of, head_bytes, FitsHead, start_bytes, written, Spelled, Spells, IsReached, IsCache, LacksVersion, LacksHeader, LacksDefault, IsFaultOf, IsAnswerOf}
 use Rattle.krb_ccache.specs.Inner.Reading.{field_at, name_at, layout_at}
-use Rattle.krb_ccache.specs.Inner.Standing.{Opened, bytes_of, Lies, IsMissing, FitsField}
+use Rattle.krb_ccache.specs.Inner.Standing.{bytes_of, IsMissing, FitsField}
 use Rattle.krb_ccache.specs.Inner.Stepping.{Any}
 use Rattle.krb_ccache.specs.Reader.{HasTaken, IsFirstOf}
 use Rattle.krb_ccache.proofs.PartLaws.{IsField-field, IsField-name, IsField-layout}
 use Rattle.krb_ccache.proofs.CredentialLaws.{spelled_at, IsField-spelled}
-use Rattle.krb_ccache.proofs.Repeats.{same_front, same_things, first_things, runs_out}
-use Rattle.krb_ccache.proofs.HeaderLaws.{field_some, fits_fields, filled, filled_same, header_lies, header_cut, header_wrong, no_head, opened, no_version}
-use Rattle.krb_ccache.proofs.LayoutLaws.{credential_in, read_cache, written_reached, reached_written, reached_before}
-use Rattle.krb_ccache.proofs.FileLaws.{spelled_bytes_some, name_lies, name_missing, HasStart, header_read, cache_read, cache_found, header_fault, default_fault}
+use Rattle.krb_ccache.proofs.Repeats.{same_front, same_things, first_things, runs_out, missing_where}
+use Rattle.krb_ccache.proofs.HeaderLaws.{field_some, fits_fields, filled, filled_same, header_lies, header_cut, header_wrong}
+use Rattle.krb_ccache.proofs.LayoutLaws.{credential_in, read_cache, grouped, is_reached, written_reached, reached_written, reached_before}
+use Rattle.krb_ccache.proofs.FileLaws.{spelled_bytes_some, name_lies, name_missing}
 
 -- ---- at most one answer
 
@@ -251,11 +251,7 @@ one_answer bytes v w a b = same_way bytes v w (way bytes v a) (way bytes w b)
 
 no_memory : (fault : CacheFault) → (fault ≡ OutOfMemory) ⊎ (fault ≢ OutOfMemory)
 no_memory OutOfMemory = inl refl
-no_memory Version = inr (λ e. cc)
-no_memory Header = inr (λ e. cc)
-no_memory (BadItem at) = inr (λ e. cc)
-no_memory TooLong = inr (λ e. cc)
-no_memory Read = inr (λ e. cc)
+no_memory _ = inr (λ e. cc)
 
 -- a file has one fault, and none where it is a cache
 pub one_fault : (bytes : List ℕ) (one other : CacheFault) → IsFaultOf bytes one → IsFaultOf bytes other → one ≡ other
@@ -288,49 +284,62 @@ none_or_some : (bytes : List ℕ) → (bytes ≡ []) ⊎ (bytes ≡ [] → ⊥)
 none_or_some [] = inl refl
 none_or_some (x ∷ xs) = inr (λ e. cc)
 
-module _ (layout : Layout) (bytes : List ℕ) where
-  credentials_answer : (header : List HeaderField) (place : Place) (name : Principal) (middle : Place) → HasStart layout bytes header place → Lies name_bytes FitsName place name middle → HasAnswer bytes
-  credentials_answer header place name middle start lies =
-      let ended = runs_out (spelled_at layout) bytes_of (Spells layout) (IsField-spelled layout) (spelled_bytes_some layout) middle lies.takes.rest_fits in
+module _ (bytes : List ℕ) (limit : length bytes ≤ file_limit) (layout : Layout) where
+  -- a start, a principal and whole credentials up to this place
+  credentials_answer : (header : List HeaderField) (name : Principal) (place : Place) → FitsHead layout header → FitsName name → IsBytes place.rest
+      → bytes ≡ start_bytes layout header ++ (name_bytes name ++ place.rest) → place.at ≡ length (start_bytes layout header) + length (name_bytes name) → HasAnswer bytes
+  credentials_answer header name place h n fits is at =
+      let ended = runs_out (spelled_at layout) bytes_of (Spells layout) (IsField-spelled layout) (spelled_bytes_some layout) place fits in
+      let c : List ℕ = flat_map bytes_of ended.xs in
+      let s : List ℕ = start_bytes layout header in
       let cache : Cache = read_cache header name ended.xs in
-      let has = cache_read layout bytes header place name middle ended.xs ended.behind start lies ended.reach in
+      let parts : bytes ≡ s ++ (name_bytes name ++ (c ++ ended.behind.rest)) = is ∙ ap (λ (t : List ℕ). s ++ (name_bytes name ++ t)) ended.reach.takes.parts in
+      let reached = is_reached layout bytes ended.behind.at header name ended.xs ended.behind.rest h n ended.reach.fit (parts ∙ sym (grouped s (name_bytes name) c ended.behind.rest))
+      (omega (arith, at, ended.reach.takes.at, length-append s (name_bytes name ++ c), length-append (name_bytes name) c)) in
       elim (none_or_some ended.behind.rest) [
-        | inl none ↦ (Ok cache, cache_found layout bytes ended.behind.at cache ended.behind.rest start.limit has none)
+        | inl none ↦ (Ok cache, record { limit = limit; layout = layout; at = ended.behind.at; reached = subst (IsReached layout bytes ended.behind.at cache) none reached })
         | inr more ↦ elim ended.end [
           | inl none ↦ absurd (more none)
-          | inr missing ↦ (Err (BadItem ended.behind.at), inr (record { limit = start.limit; layout = layout; cache = cache; behind = ended.behind.rest; reached = has; more = more; missing = missing }))
+          | inr missing ↦ (Err (BadItem ended.behind.at), inr (record { limit = limit; layout = layout; cache = cache; behind = ended.behind.rest; reached = reached; more = more; missing = missing }))
         ]
       ]
 
-  name_answer : (header : List HeaderField) (place : Place) → IsBytes place.rest → HasStart layout bytes header place → (read : Option (Principal × Place)) → name_at place ≡ read → HasAnswer bytes
-  name_answer header place fits start None e = (Err (BadItem place.at), default_fault layout bytes header place (BadItem place.at) start (refl, name_missing place e))
-  name_answer header place fits start (Some (name, middle)) e = credentials_answer header place name middle start (name_lies place name middle fits e)
+  name_answer : (header : List HeaderField) (place : Place) → FitsHead layout header → IsBytes place.rest → bytes ≡ start_bytes layout header ++ place.rest → place.at ≡ length (start_bytes layout header)
+      → (read : Option (Principal × Place)) → name_at place ≡ read → HasAnswer bytes
+  name_answer header place h fits is at None e =
+      (Err (BadItem place.at), inl (record { limit = limit; layout = layout; header = header; behind = place.rest; header_fits = h; bytes_are = is; at_is = at; missing = name_missing place e }))
+  name_answer header place h fits is at (Some (name, middle)) e =
+      let lies = name_lies place name middle fits e in
+      credentials_answer header name middle h lies.fits lies.takes.rest_fits (is ∙ ap (λ (t : List ℕ). start_bytes layout header ++ t) lies.takes.parts) (omega (arith, at, lies.takes.at))
 
--- a file that has a header
-header_answer : (bytes : List ℕ) (place : Place) → IsBytes place.rest → Opened Version4 bytes place → (read : Option (List ℕ × Place)) → data_at w16 place ≡ read → HasAnswer bytes
-header_answer bytes place fits begun None e = (Err Header, header_fault Version4 bytes place begun (header_cut place e))
-header_answer bytes place fits begun (Some (body, behind)) e =
+-- a file that has a header, up to it
+header_answer : (bytes : List ℕ) → length bytes ≤ file_limit → (place : Place) → IsBytes place.rest → bytes ≡ version_of Version4 ++ place.rest → place.at ≡ 2 → (read : Option (List ℕ × Place)) → data_at w16 place ≡ read → HasAnswer bytes
+header_answer bytes limit place fits is at None e = (Err Header, record { limit = limit; layout = Version4; behind = place.rest; bytes_are = is; missing = header_cut place e })
+header_answer bytes limit place fits is at (Some (body, behind)) e =
     let t = IsField-data16.takes place body behind fits e in
     let ended = runs_out field_at field_bytes FitsField IsField-field field_some (record { at = 0; rest = body }) (subst IsBytes (drop_at (number_bytes w16 (length body)) body 2 refl) (IsBytes-drop 2 (data_bytes w16 body) t.0.text_fits)) in
     elim (none_or_some ended.behind.rest) [
       | inl none ↦
           let lies = header_lies place body behind ended.xs fits e (filled body ended.behind ended.xs t.1 ended.reach none) in
-          name_answer Version4 bytes ended.xs behind t.0.rest_fits (header_read Version4 bytes place ended.xs behind begun lies) (name_at behind) refl
+          name_answer bytes limit Version4 ended.xs behind lies.fits t.0.rest_fits (is ∙ ap (λ (u : List ℕ). version_of Version4 ++ u) lies.takes.parts ∙ sym (append_assoc (version_of Version4) (header_bytes ended.xs) behind.rest))
+          (omega (arith, at, lies.takes.at)) (name_at behind) refl
       | inr more ↦ elim ended.end [
         | inl none ↦ absurd (more none)
-        | inr missing ↦ (Err Header, header_fault Version4 bytes place begun (header_wrong place body behind fits e (λ header fills. more (filled_same body ended.behind ended.xs ended.reach (inr missing) header fills))))
+        | inr missing ↦ (
+          Err Header,
+          record { limit = limit; layout = Version4; behind = place.rest; bytes_are = is; missing = header_wrong place body behind fits e (λ header fills. more (filled_same body ended.behind ended.xs ended.reach (inr missing) header fills)) },
+        )
       ]
     ]
 
-head_answer : (layout : Layout) (bytes : List ℕ) (place : Place) → IsBytes place.rest → Opened layout bytes place → HasAnswer bytes
-head_answer Version3 bytes place fits begun = name_answer Version3 bytes [] place fits (header_read Version3 bytes place [] place begun (no_head place [] fits refl)) (name_at place) refl
-head_answer Version4 bytes place fits begun = header_answer bytes place fits begun (data_at w16 place) refl
-
 version_answer : (bytes : List ℕ) → IsBytes bytes → length bytes ≤ file_limit → (read : Option (Layout × Place)) → layout_at (record { at = 0; rest = bytes }) ≡ read → HasAnswer bytes
-version_answer bytes fits limit None e = (Err Version, record { limit = limit; missing = no_version bytes (record { at = 0; rest = bytes }) refl e })
-version_answer bytes fits limit (Some (layout, place)) e =
-    let o = opened layout bytes (record { at = 0; rest = bytes }) place limit fits refl e in
-    head_answer layout bytes place o.fits o
+version_answer bytes fits limit None e = (Err Version, record { limit = limit; missing = λ layout others is. missing_where layout_at version_of Any IsField-layout (record { at = 0; rest = bytes }) e layout others tt is })
+version_answer bytes fits limit (Some (Version3, place)) e =
+    let t = (IsField-layout.takes (record { at = 0; rest = bytes }) Version3 place fits e).0 in
+    name_answer bytes limit Version3 [] place refl t.rest_fits t.parts (omega (arith, t.at)) (name_at place) refl
+version_answer bytes fits limit (Some (Version4, place)) e =
+    let t = (IsField-layout.takes (record { at = 0; rest = bytes }) Version4 place fits e).0 in
+    header_answer bytes limit place t.rest_fits t.parts (omega (arith, t.at)) (data_at w16 place) refl
 
 pub some_answer : (bytes : List ℕ) → IsBytes bytes → HasAnswer bytes
 some_answer bytes fits =

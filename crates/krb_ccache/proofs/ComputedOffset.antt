@@ -9,7 +9,7 @@ use Rattle.std.proofs.lemmas.Int.{to_z-of_z}
 use Rattle.std.proofs.lemmas.List.{take_at, drop_at}
 use Rattle.std.proofs.lemmas.List.Elements.{recursion_from_All}
 use Rattle.std.proofs.lemmas.Nat.{from_be_bytes-to_be_bytes_4}
-use Rattle.krb_name.specs.Cursor.{signed_bytes}
+use Rattle.krb_file.specs.Cursor.{signed_bytes}
 use Rattle.krb_ccache.specs.Types.{HeaderField}
 use Rattle.krb_ccache.specs.Configuration.{IsOffset, HoldsOffset}
 use Rattle.krb_ccache.specs.Offset.{signed_of, clock_offset, IsOffsetOf}

@@ -2,9 +2,9 @@
 use Rattle.std.proofs.Common.{◌≡◌, ℕ, zero, suc, ◌<◌, ◌≤◌, ◌^◌, Bool, true, false, eqb, List, Option, Some, None, refl, sym, ap, subst, ◌∙◌, append_assoc, arith, rules}
 use Rattle.std.specs.Int.{w8}
 use Rattle.std.proofs.lemmas.Bool.{leb-true}
-use Rattle.krb_name.specs.Cursor.{Place, ◌>>=◌, number_bytes}
-use Rattle.krb_name.specs.Field.{IsBytes, Takes, IsField}
-use Rattle.krb_name.proofs.CursorLaws.{bind_some, some_is}
+use Rattle.krb_file.specs.Cursor.{Place, ◌>>=◌, number_bytes}
+use Rattle.krb_file.specs.Field.{IsBytes, Takes, IsField}
+use Rattle.krb_file.proofs.CursorLaws.{bind_some, some_is}
 use Rattle.krb_ccache.specs.Types.{Credential, Layout}
 use Rattle.krb_ccache.specs.Spelling.{flag_bytes, marked_bytes}
 use Rattle.krb_ccache.specs.Format.{Spelled, Spells}

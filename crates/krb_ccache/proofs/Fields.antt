@@ -1,10 +1,10 @@
 -- Fields that are joined of others are read as they are spelled.
 use Rattle.std.proofs.Common.{◌≡◌, ℕ, ◌+◌, Bool, true, cond, List, ◌++◌, length, Option, Some, None, refl, sym, ap, subst, ◌∙◌}
 use Rattle.std.proofs.lemmas.Option.{cond_some}
-use Rattle.krb_name.specs.Cursor.{Place, ◌>>=◌}
-use Rattle.krb_name.specs.Field.{IsBytes, Takes, IsField}
-use Rattle.krb_name.proofs.CursorLaws.{bind_some, some_is}
-use Rattle.krb_name.proofs.Rows.{spelling, followed}
+use Rattle.krb_file.specs.Cursor.{Place, ◌>>=◌}
+use Rattle.krb_file.specs.Field.{IsBytes, Takes, IsField}
+use Rattle.krb_file.proofs.CursorLaws.{bind_some, some_is}
+use Rattle.krb_file.proofs.Rows.{spelling, followed}
 use Rattle.krb_ccache.specs.Inner.Reading.{then_at, both_at, made_at, passing_at}
 
 -- ---- one read after another

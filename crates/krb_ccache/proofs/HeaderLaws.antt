@@ -1,23 +1,19 @@
--- The header of a cache, and its version.
-use Rattle.std.proofs.Common.{◌≡◌, ◌⊎◌, ℕ, ◌<◌, ◌≤◌, ◌^◌, true, List, [], ◌++◌, length, Some, None, refl, sym, ap, subst, ◌∙◌, append-nil, arith, inl, inr}
+-- The header of a cache.
+use Rattle.std.proofs.Common.{◌≡◌, ◌⊎◌, ℕ, ◌<◌, ◌^◌, true, List, [], ◌++◌, length, Some, None, refl, sym, ap, subst, ◌∙◌, append-nil, arith, inl, inr}
 use Rattle.std.specs.Int.{w16}
 use Rattle.std.specs.Prelude.{All}
 use Rattle.std.proofs.lemmas.Bool.Decides.{nat_tests}
 use Rattle.std.proofs.lemmas.List.{length-append}
 use Rattle.std.proofs.lemmas.List.Elements.{recursion_from_All}
-use Rattle.krb_name.specs.Cursor.{Place, data_at, number_bytes, data_bytes}
-use Rattle.krb_name.specs.Field.{IsBytes, Takes}
-use Rattle.krb_name.specs.File.{file_limit}
-use Rattle.krb_name.proofs.CursorLaws.{IsField-data16}
-use Rattle.krb_ccache.specs.Types.{HeaderField, Layout, Version3}
+use Rattle.krb_file.specs.Cursor.{Place, data_at, number_bytes, data_bytes}
+use Rattle.krb_file.specs.Field.{IsBytes, Takes}
+use Rattle.krb_file.proofs.CursorLaws.{IsField-data16}
+use Rattle.krb_ccache.specs.Types.{HeaderField}
 use Rattle.krb_ccache.specs.Spelling.{field_bytes, fields_bytes, header_bytes}
 use Rattle.krb_ccache.specs.Value.{FitsHeader}
-use Rattle.krb_ccache.specs.Format.{version_of, head_bytes, FitsHead}
-use Rattle.krb_ccache.specs.Inner.Stepping.{Any}
-use Rattle.krb_ccache.specs.Inner.Reading.{is_field, field_at, layout_at}
-use Rattle.krb_ccache.specs.Inner.Standing.{Opened, Lies, Reaches, IsMissing, Fills, FitsField}
-use Rattle.krb_ccache.proofs.PartLaws.{Short16, IsField-field, IsField-layout}
-use Rattle.krb_ccache.proofs.LayoutLaws.{version_length}
+use Rattle.krb_ccache.specs.Inner.Reading.{is_field, field_at}
+use Rattle.krb_ccache.specs.Inner.Standing.{Lies, Reaches, IsMissing, Fills, FitsField}
+use Rattle.krb_ccache.proofs.PartLaws.{Short16, IsField-field}
 use Rattle.krb_ccache.proofs.Repeats.{same_front, lies_where, missing_where, same_things, reach_none, Goes, goes}
 
 -- ---- the fields
@@ -82,19 +78,3 @@ header_wrong place body behind fits e wrong header others h f =
     let t = IsField-data16.takes place body behind fits e in
     let same = same_front (data_at w16) (data_bytes w16) Short16 IsField-data16 body (fields_bytes header) behind.rest others t.1 h.lengths.whole (sym t.0.parts ∙ f) in
     wrong header (record { fits = h; whole = same.0 })
-
--- ---- the header of a layout
-
-pub no_head : (place : Place) (header : List HeaderField) → IsBytes place.rest → header ≡ [] → Lies (head_bytes Version3) (FitsHead Version3) place header place
-no_head place header fits none = record { fits = none; takes = record { parts = refl; at = omega arith; text_fits = λ i. omega arith; rest_fits = fits } }
-
--- ---- the version
-
-pub opened : (layout : Layout) (bytes : List ℕ) (start place : Place) → length bytes ≤ file_limit → IsBytes bytes → start ≡ record { at = 0; rest = bytes } → layout_at start ≡ Some (layout, place) → Opened layout bytes place
-opened layout bytes start place limit fits e read =
-    let t = IsField-layout.takes (record { at = 0; rest = bytes }) layout place fits (subst (λ (p : Place). layout_at p ≡ Some (layout, place)) e read) in
-    record { limit = limit; at = omega (arith, t.0.at, version_length layout); rest = t.0.parts; fits = t.0.rest_fits }
-
-pub no_version : (bytes : List ℕ) (start : Place) → start ≡ record { at = 0; rest = bytes } → layout_at start ≡ None → (layout : Layout) (others : List ℕ) → bytes ≡ version_of layout ++ others → ⊥
-no_version bytes start e none layout others is =
-    missing_where layout_at version_of Any IsField-layout (record { at = 0; rest = bytes }) (subst (λ (p : Place). layout_at p ≡ None) e none) layout others tt is

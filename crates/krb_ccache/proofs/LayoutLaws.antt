@@ -8,7 +8,7 @@ use Rattle.std.proofs.lemmas.List.Elements.{recursion_from_All, All-nil, All-con
 use Rattle.krb_ccache.specs.Types.{Principal, HeaderField, Credential, Layout, Version3, Version4}
 use Rattle.krb_ccache.specs.Spelling.{name_bytes, keyed_bytes, credential_bytes}
 use Rattle.krb_ccache.specs.Value.{Cache, cache_of, FitsHeader, FitsName, FitsCredential, Fits}
-use Rattle.krb_name.specs.File.{file_limit}
+use Rattle.krb_file.specs.File.{file_limit}
 use Rattle.krb_ccache.specs.Format.{version_of, FitsHead, start_bytes, written, Spelled, Spells, credential_length, IsReached, IsCache}
 use Rattle.krb_ccache.specs.Inner.Standing.{bytes_of, spelled_as}
 use Rattle.krb_ccache.specs.Reader.{with_credential}

@@ -9,9 +9,9 @@ use Rattle.std.specs.Cmp.Lexicographic.{pointwise, told_text}
 use Rattle.std.proofs.lemmas.List.{length-append, nil_from_length, take-append-drop}
 use Rattle.std.proofs.lemmas.List.Elements.{recursion_from_All}
 use Rattle.std.specs.List.{AllByRecursion}
-use Rattle.krb_name.specs.Cursor.{Place, bytes_at, number_at, signed_at, signed_bytes}
-use Rattle.krb_name.specs.Field.{IsBytes}
-use Rattle.krb_name.proofs.CursorLaws.{IsField-i32}
+use Rattle.krb_file.specs.Cursor.{Place, bytes_at, number_at, signed_at, signed_bytes}
+use Rattle.krb_file.specs.Field.{IsBytes}
+use Rattle.krb_file.proofs.CursorLaws.{IsField-i32}
 use Rattle.krb_ccache.specs.Types.{HeaderField}
 use Rattle.krb_ccache.specs.Configuration.{IsOffset, HoldsOffset, BeginsWith}
 use Rattle.krb_ccache.proofs.Fields.{none_then}
@@ -81,16 +81,19 @@ offset_held header i field seconds microseconds lt e first tag offset = record {
 abbrev list_of : List (List ℕ) → List (List ℕ)
 list_of xs = xs
 
-pub begins_so : (components : List (List ℕ)) (first name : List ℕ) (r : Bool) → 0 < length components → first ≡ get_or components 0 first → r ≡ pointwise nat_eq first name → (r ≡ true) ↔ BeginsWith components name
-begins_so [] first name r lt e f = absurd (omega arith)
-begins_so (x ∷ xs) first name r lt e f = told r (told_text first name r f)
+begins : (x : List ℕ) (xs : List (List ℕ)) (name : List ℕ) (r : Bool) → r ≡ pointwise nat_eq x name → (r ≡ true) ↔ BeginsWith (x ∷ xs) name
+begins x xs name r f = told r (told_text x name r f)
   where
-    told : (b : Bool) → MatchBool b (first ≡ name) (first ≢ name) → (b ≡ true) ↔ BeginsWith (x ∷ xs) name
-    told true same = (λ t. (xs, ap (λ (k : List ℕ). k ∷ xs) (sym e ∙ same)), λ t. refl)
-    told false other = (λ t. absurd cc, λ t. let front : x ≡ name = head_is x name xs t.0 t.1 in absurd (other (e ∙ front)))
+    told : (b : Bool) → MatchBool b (x ≡ name) (x ≢ name) → (b ≡ true) ↔ BeginsWith (x ∷ xs) name
+    told true same = (λ t. (xs, ap (λ (k : List ℕ). k ∷ xs) same), λ t. refl)
+    told false other = (λ t. absurd cc, λ t. let front : x ≡ name = head_is x name xs t.0 t.1 in absurd (other front))
       where
         head_is : (a b : List ℕ) (ms ns : List (List ℕ)) → list_of (a ∷ ms) ≡ list_of (b ∷ ns) → a ≡ b
         head_is a b ms ns k = cc
+
+pub begins_so : (components : List (List ℕ)) (first : List ℕ) (others : List (List ℕ)) (name : List ℕ) (r : Bool) → components ≡ first ∷ others → r ≡ pointwise nat_eq first name
+    → (r ≡ true) ↔ BeginsWith components name
+begins_so components first others name r e f = subst (λ (all : List (List ℕ)). (r ≡ true) ↔ BeginsWith all name) (sym e) (begins first others name r f)
 
 -- ---- one offset at most
 

@@ -5,10 +5,10 @@ use Rattle.std.specs.Prelude.{◌||◌}
 use Rattle.std.specs.List.{flat_map}
 use Rattle.std.proofs.lemmas.Bool.{eqb-true}
 use Rattle.std.proofs.lemmas.List.Elements.{All-from_recursion, recursion_from_All}
-use Rattle.krb_name.specs.Cursor.{data_at, number_bytes, signed_bytes, data_bytes}
-use Rattle.krb_name.specs.Field.{IsField}
-use Rattle.krb_name.proofs.CursorLaws.{IsField-bytes, IsField-u8, IsField-u16, IsField-u32, IsField-i16, IsField-i32, IsField-data16, IsField-data32}
-use Rattle.krb_name.proofs.Repeated.{IsField-times}
+use Rattle.krb_file.specs.Cursor.{data_at, number_bytes, signed_bytes, data_bytes}
+use Rattle.krb_file.specs.Field.{IsField}
+use Rattle.krb_file.proofs.CursorLaws.{IsField-bytes, IsField-u8, IsField-u16, IsField-u32, IsField-i16, IsField-i32, IsField-data16, IsField-data32}
+use Rattle.krb_file.proofs.Repeated.{IsField-times}
 use Rattle.krb_ccache.specs.Types.{TypedBytes, Layout, Version3, Version4}
 use Rattle.krb_ccache.specs.Spelling.{field_bytes, name_bytes, typed_bytes, list_bytes}
 use Rattle.krb_ccache.specs.Format.{version_of, second_size}

@@ -4,9 +4,9 @@ use Rattle.std.specs.List.{flat_map, AllByRecursion}
 use Rattle.std.proofs.lemmas.List.{length-append, nil_from_length}
 use Rattle.std.proofs.lemmas.List.Concat.{flat_map-append}
 use Rattle.std.proofs.lemmas.List.Elements.{All-push, All-from_recursion}
-use Rattle.krb_name.specs.Cursor.{Place}
-use Rattle.krb_name.specs.Field.{IsBytes, Takes, IsField}
-use Rattle.krb_name.proofs.CursorLaws.{some_is, Takes-then}
+use Rattle.krb_file.specs.Cursor.{Place}
+use Rattle.krb_file.specs.Field.{IsBytes, Takes, IsField}
+use Rattle.krb_file.proofs.CursorLaws.{some_is, Takes-then}
 use Rattle.krb_ccache.specs.Inner.Standing.{Lies, IsMissing, Reaches}
 
 module _ {X : Type 0} (r : Place → Option (X × Place)) (s : X → List ℕ) (P : X → Type 0) (f : IsField r s P) where

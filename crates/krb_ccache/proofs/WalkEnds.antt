@@ -1,17 +1,16 @@
--- What a walk took of a source, in the words of a spelling; and what it took of bytes in memory.
-use Rattle.std.proofs.Common.{◌≡◌, ℕ, ◌+◌, ◌-◌, ◌%◌, ◌<◌, ◌≤◌, ◌∷◌, Result, Ok, Err, Bool, true, false, List, [], ◌++◌, length, take, drop, Option, Some, None, refl, sym, ap, subst, ◌∙◌, append-nil, arith, inl, inr}
+-- What a walk took, in the words of a spelling.
+use Rattle.std.proofs.Common.{◌≡◌, ℕ, ◌+◌, ◌-◌, ◌%◌, ◌<◌, ◌≤◌, ◌∷◌, Result, Ok, Err, Bool, true, false, List, [], ◌++◌, length, drop, Option, Some, None, refl, sym, ap, subst, ◌∙◌, append-nil, arith, inl, inr}
 use Rattle.std.specs.Int.{w8, w16}
-use Rattle.std.specs.Prelude.{IfErr, OnOk}
-use Rattle.std.specs.Io.KnownBytes.{Consumes}
-use lib.Seq.{take-add}
+use Rattle.std.specs.Prelude.{OnOk, OnErr, MatchBool, is_ok}
 use Rattle.std.proofs.lemmas.Bool.{cases_lt}
-use Rattle.std.proofs.lemmas.List.{length-take, length-drop, drop-drop, take-append-drop}
-use Rattle.krb_name.specs.Window.{AtHand}
-use Rattle.krb_name.specs.File.{file_limit}
+use Rattle.std.proofs.lemmas.List.{length-drop}
+use Rattle.krb_file.specs.Hand.{Hand}
+use Rattle.krb_file.specs.declared.cursor.Short.{Short}
+use Rattle.krb_file.specs.File.{file_limit}
 use Rattle.std.proofs.KnownBytes.{Consumes-nil}
-use Rattle.krb_name.specs.Cursor.{Place, ◌>>=◌, bytes_at, data_at, number_bytes}
-use Rattle.krb_name.specs.Field.{IsBytes, IsField}
-use Rattle.krb_name.proofs.CursorLaws.{some_is, IsField-bytes, IsField-data16}
+use Rattle.krb_file.specs.Cursor.{Place, ◌>>=◌, data_at, number_bytes}
+use Rattle.krb_file.specs.Field.{IsBytes, IsField}
+use Rattle.krb_file.proofs.CursorLaws.{some_is, IsField-bytes, IsField-data16}
 use Rattle.krb_ccache.specs.Types.{Principal, HeaderField, Layout, Version3, Version4}
 use Rattle.krb_ccache.specs.declared.walking.TakeFault.{TakeFault}
 use Rattle.krb_ccache.specs.declared.walking.TakeFault.TheVariants as stop
@@ -20,11 +19,14 @@ use Rattle.krb_ccache.specs.Value.{FitsHeader, FitsName}
 use Rattle.krb_ccache.specs.Format.{version_of, head_bytes, FitsHead, Spelled, Spells}
 use Rattle.krb_ccache.specs.Inner.Reading.{name_at}
 use Rattle.krb_ccache.specs.Inner.Row.{row_at}
-use Rattle.krb_ccache.specs.Inner.Stepping.{Any, Stands, cleared}
-use Rattle.krb_ccache.specs.Inner.Standing.{bytes_of, IsMissing}
-use Rattle.krb_ccache.specs.Inner.Walking.{Hand, window_hand, window_within, window_lacks, bytes_hand, bytes_within, bytes_lacks, Pass, passed_at, skip_at, pass_none, pass_if, Goes, Stops, IsWhole, IsTaken, Taken, TookFewer, Spans, Wants, Walks, Halts, Marked, FitsKeyed, whole}
+use Rattle.krb_ccache.specs.Inner.Stepping.{Any, Stands}
+use Rattle.krb_ccache.specs.Inner.Standing.{bytes_of, Lies, IsMissing}
+use Rattle.krb_ccache.specs.Inner.Walking.{Pass, passed_at, skip_at, pass_none, pass_if, Goes, Stops, Taken, TookFewer, Spans, Wants, Walks, Halts, Marked, FitsKeyed, whole}
 use Rattle.krb_ccache.proofs.PartLaws.{IsField-name, IsField-row}
 use Rattle.krb_ccache.proofs.WalkLaws.{shorter_front, bytes_goes, bytes_stops}
+use Rattle.krb_ccache.proofs.Fields.{none_then}
+use Rattle.krb_ccache.proofs.FileLaws.{name_lies, name_missing}
+use Rattle.krb_ccache.proofs.WalkParts.{passed_some}
 use Rattle.krb_ccache.proofs.CredentialLaws.{fields, passed_lies, passed_missing, parts_of, parts_bytes, fits_parts, marked, whole_is}
 
 -- ---- a spelling is passed over
@@ -84,19 +86,19 @@ module _ {Y : Type 0} (pass : Pass) (s : Y → List ℕ) (P : Y → Type 0) (pas
             ]
       ]
 
-  module _ {S : Type 0} (left : S → Option (List ℕ)) (old new : AtHand S) where
-    pub walks_of : Goes pass pass_none window_within (window_hand left old) (window_hand left new) → Walks s P left old new
+  module _ (old new : Hand) where
+    pub walks_of : Goes pass pass_none old new → Walks s P old new
     walks_of w = record {
       piece = w.piece;
-      keeps = record { consumed = w.keeps.consumed; bytes = w.keeps.bytes; peak = w.keeps.peak; given = w.keeps.given };
+      keeps = w.keeps;
       within = w.within;
       spans = spans_of w.piece w.same;
     }
 
-    pub halts_of : (stop : TakeFault) → Stops pass window_within window_lacks (window_hand left old) (window_hand left new) stop → Halts s P left old new stop
+    pub halts_of : {memory : Type 0} (stop : TakeFault) → Stops pass memory old new stop → Halts s P memory old new stop
     halts_of stop h = record {
       piece = h.piece;
-      keeps = record { consumed = h.keeps.consumed; bytes = h.keeps.bytes; peak = h.keeps.peak; given = h.keeps.given };
+      keeps = h.keeps;
       within = h.within;
       count = h.count;
       wants = wants_of h.piece h.count h.some h.none;
@@ -104,133 +106,104 @@ module _ {Y : Type 0} (pass : Pass) (s : Y → List ℕ) (P : Y → Type 0) (pas
     }
 
 -- what comes before the default principal
-module _ {S : Type 0} (left : S → Option (List ℕ)) (old new : AtHand S) where
-  pub version_walks : (result : Result (Unit {0}) TakeFault) → IsTaken window_within window_lacks 2 (window_hand left old) (window_hand left new) result → OnOk result (Walks version_of Any left old new)
-  version_walks (Ok x) t = walks_of (skip_at 2) version_of Any version_passes left old new (bytes_goes _ 2 _ _ t)
-  version_walks (Err stop) t = tt
+module _ (old new : Hand) where
+  pub version_walks : Taken 2 old new → Walks version_of Any old new
+  version_walks t = walks_of (skip_at 2) version_of Any version_passes old new (bytes_goes 2 _ _ t)
 
-  pub version_halts : (result : Result (Unit {0}) TakeFault) → IsTaken window_within window_lacks 2 (window_hand left old) (window_hand left new) result → IfErr result (Halts version_of Any left old new)
-  version_halts (Ok x) t = tt
-  version_halts (Err stop) t = halts_of (skip_at 2) version_of Any version_passes left old new stop (bytes_stops _ _ 2 _ _ stop t)
+  pub version_halts : {memory : Type 0} (stop : TakeFault) → TookFewer memory 2 old new stop → Halts version_of Any memory old new stop
+  version_halts stop t = halts_of (skip_at 2) version_of Any version_passes old new stop (bytes_stops _ 2 _ _ stop t)
 
-  pub header_walks : (result : Result (Unit {0}) TakeFault) → IsWhole (passed_at (data_at w16)) window_within window_lacks (window_hand left old) (window_hand left new) result → OnOk result (Walks (head_bytes Version4) (FitsHead Version4) left old new)
-  header_walks (Ok x) w = walks_of (passed_at (data_at w16)) header_bytes FitsHeader header_passes left old new w
-  header_walks (Err stop) w = tt
+  pub header_walks : Goes (passed_at (data_at w16)) pass_none old new → Walks header_bytes FitsHeader old new
+  header_walks = walks_of (passed_at (data_at w16)) header_bytes FitsHeader header_passes old new
 
-  pub header_halts : (result : Result (Unit {0}) TakeFault) → IsWhole (passed_at (data_at w16)) window_within window_lacks (window_hand left old) (window_hand left new) result → IfErr result (Halts (head_bytes Version4) (FitsHead Version4) left old new)
-  header_halts (Ok x) w = tt
-  header_halts (Err stop) w = halts_of (passed_at (data_at w16)) header_bytes FitsHeader header_passes left old new stop w
+  pub header_halts : {memory : Type 0} (stop : TakeFault) → Stops (passed_at (data_at w16)) memory old new stop → Halts header_bytes FitsHeader memory old new stop
+  header_halts stop h = halts_of (passed_at (data_at w16)) header_bytes FitsHeader header_passes old new stop h
 
-  pub no_header_walks : length old.bytes ≤ old.peak → old.given ≤ file_limit → Walks (head_bytes Version3) (FitsHead Version3) left old old
-  no_header_walks held within = record {
+  pub name_walks : Goes (passed_at name_at) pass_none old new → Walks name_bytes FitsName old new
+  name_walks = walks_of (passed_at name_at) name_bytes FitsName name_passes old new
+
+  pub name_halts : {memory : Type 0} (stop : TakeFault) → Stops (passed_at name_at) memory old new stop → Halts name_bytes FitsName memory old new stop
+  name_halts stop h = halts_of (passed_at name_at) name_bytes FitsName name_passes old new stop h
+
+-- there is no header
+module _ (old : Hand) (none : old.bytes ≡ []) where
+  pub no_header_walks : old.given ≤ file_limit → Walks (head_bytes Version3) (FitsHead Version3) old old
+  no_header_walks within = record {
     piece = [];
-    keeps = record { consumed = Consumes-nil (left old.source); bytes = sym (append-nil old.bytes); peak = omega (arith, held); given = omega arith };
+    keeps = record { consumed = Consumes-nil old.source; bytes = sym (append-nil old.bytes); peak = omega (arith, ap length none); given = omega arith };
     within = within;
     spans = λ x more others p e. refl;
   }
 
--- a credential: its bytes, and those of one with any byte for its flag
-module _ (layout : Layout) {S : Type 0} (left : S → Option (List ℕ)) (old new : AtHand S) where
-  pub one_walks : Goes (passed_at (row_at fields false layout)) pass_none window_within (window_hand left old) (window_hand left new) → Walks bytes_of (Spells layout) left old new × Walks whole (FitsKeyed layout) left old new
-  one_walks w = (walks_of (passed_at (row_at fields false layout)) bytes_of (Spells layout) (spelled_passes layout) left old new w, walks_of (passed_at (row_at fields false layout)) whole (FitsKeyed layout) (whole_passes layout) left old new w)
+  pub no_header_stands : (header : List HeaderField) × Stands (head_bytes Version3) (FitsHead Version3) old.bytes header
+  no_header_stands = ([], record { fits = refl; others = old.bytes; bytes_are = refl })
 
-  pub one_halts : (stop : TakeFault) → Stops (passed_at (row_at fields false layout)) window_within window_lacks (window_hand left old) (window_hand left new) stop → Halts bytes_of (Spells layout) left old new stop × Halts whole (FitsKeyed layout) left old new stop
-  one_halts stop h = (halts_of (passed_at (row_at fields false layout)) bytes_of (Spells layout) (spelled_passes layout) left old new stop h, halts_of (passed_at (row_at fields false layout)) whole (FitsKeyed layout) (whole_passes layout) left old new stop h)
+-- a credential: its bytes, and those of one with any byte for its flag
+module _ (layout : Layout) (old new : Hand) where
+  pub one_walks : Goes (passed_at (row_at fields false layout)) pass_none old new → Walks bytes_of (Spells layout) old new × Walks whole (FitsKeyed layout) old new
+  one_walks w = (walks_of (passed_at (row_at fields false layout)) bytes_of (Spells layout) (spelled_passes layout) old new w, walks_of (passed_at (row_at fields false layout)) whole (FitsKeyed layout) (whole_passes layout) old new w)
+
+  pub one_halts : {memory : Type 0} (stop : TakeFault) → Stops (passed_at (row_at fields false layout)) memory old new stop → Halts bytes_of (Spells layout) memory old new stop × Halts whole (FitsKeyed layout) memory old new stop
+  one_halts stop h = (halts_of (passed_at (row_at fields false layout)) bytes_of (Spells layout) (spelled_passes layout) old new stop h, halts_of (passed_at (row_at fields false layout)) whole (FitsKeyed layout) (whole_passes layout) old new stop h)
 
 -- what was asked of a source
-module _ {S : Type 0} (left : S → Option (List ℕ)) (old new : AtHand S) (count : ℕ) where
-  pub nothing_comes : length old.bytes ≤ old.peak → old.given ≤ file_limit → file_limit - old.given < count → TookFewer window_within window_lacks count (window_hand left old) (window_hand left old) stop.Long
+module _ (old : Hand) (count : ℕ) where
+  pub nothing_comes : {memory : Type 0} → length old.bytes ≤ old.peak → old.given ≤ file_limit → file_limit - old.given < count → TookFewer memory count old old stop.Long
   nothing_comes peak within long = record {
     piece = [];
-    keeps = record { consumed = Consumes-nil (left old.source); bytes = sym (append-nil old.bytes); peak = omega (arith, peak); given = omega arith };
+    keeps = record { consumed = Consumes-nil old.source; bytes = sym (append-nil old.bytes); peak = omega (arith, peak); given = omega arith };
     within = within;
     fewer = omega (arith, long);
     lacks = omega (arith, long, within);
   }
 
--- a credential whose bytes were taken, and whose flag is one or not
-module _ (layout : Layout) {S : Type 0} (left : S → Option (List ℕ)) (old start new : AtHand S) (good : Bool) (clear : start ≡ cleared old) (g : Goes (passed_at (row_at fields true layout)) (pass_if good) window_within (window_hand left start) (window_hand left new)) where
+-- what was taken stands at hand, if its flags are flags; else no such thing does
+module _ {X : Type 0} (s : X → List ℕ) (P : X → Type 0) (pass : Pass) (old new : Hand) (good : Bool) (clear : old.bytes ≡ []) (g : Goes pass (pass_if good) old new) where
   abbrev at_hand : Place
   at_hand = record { at = 0; rest = new.bytes }
 
-  all_passed : (b : Bool) → good ≡ b → passed_at (row_at fields true layout) at_hand ≡ pass_if b (record { at = 0 + length g.piece; rest = [] })
+  all_passed : (b : Bool) → good ≡ b → pass at_hand ≡ pass_if b (record { at = 0 + length g.piece; rest = [] })
   all_passed b flag =
-      let is : new.bytes ≡ g.piece ++ [] = g.keeps.bytes ∙ ap (λ (hand : AtHand _). hand.bytes ++ g.piece) clear ∙ sym (append-nil g.piece) in
-      ap (λ (t : List ℕ). passed_at (row_at fields true layout) (record { at = 0; rest = t })) is ∙ g.same 0 [] ∙ ap (λ (x : Bool). pass_if x (record { at = 0 + length g.piece; rest = [] })) flag
+      let is : new.bytes ≡ g.piece ++ [] = g.keeps.bytes ∙ ap (λ (t : List ℕ). t ++ g.piece) clear ∙ sym (append-nil g.piece) in
+      ap (λ (t : List ℕ). pass (record { at = 0; rest = t })) is ∙ g.same 0 [] ∙ ap (λ (x : Bool). pass_if x (record { at = 0 + length g.piece; rest = [] })) flag
 
-  pub one_stands : good ≡ true → IsBytes new.bytes → (one : Spelled) × Stands bytes_of (Spells layout) new.bytes one
-  one_stands flag fits =
-      let one = passed_lies layout at_hand (record { at = 0 + length g.piece; rest = [] }) fits (all_passed true flag) in
+  pub stands_if : ((place behind : Place) → IsBytes place.rest → pass place ≡ Some behind → (x : X) × Lies s P place x behind) → good ≡ true → IsBytes new.bytes → (x : X) × Stands s P new.bytes x
+  stands_if lies flag fits =
+      let one = lies at_hand (record { at = 0 + length g.piece; rest = [] }) fits (all_passed true flag) in
       (one.0, record { fits = one.1.fits; others = []; bytes_are = one.1.takes.parts })
 
-  pub none_stands : good ≡ false → IsMissing bytes_of (Spells layout) new.bytes
-  none_stands flag = passed_missing layout at_hand (all_passed false flag)
+  pub missing_if : ((place : Place) → pass place ≡ None → IsMissing s P place.rest) → good ≡ false → IsMissing s P new.bytes
+  missing_if missing flag = missing at_hand (all_passed false flag)
 
--- ---- of bytes in memory
+-- a credential, and a principal
+pub one_stands : (layout : Layout) (old new : Hand) (good : Bool) → old.bytes ≡ [] → Goes (passed_at (row_at fields true layout)) (pass_if good) old new → good ≡ true → IsBytes new.bytes → (one : Spelled) × Stands bytes_of (Spells layout) new.bytes one
+one_stands layout old new good clear g = stands_if bytes_of (Spells layout) (passed_at (row_at fields true layout)) old new good clear g (passed_lies layout)
 
-consumed_rest : (from : List ℕ) (to : Option (List ℕ)) (piece : List ℕ) → Consumes (Some from) to piece → (rest : List ℕ) × (from ≡ piece ++ rest) × (to ≡ Some rest)
-consumed_rest from None piece h = absurd h
-consumed_rest from (Some rest) piece h = (rest, h, refl)
+pub none_stands : (layout : Layout) (old new : Hand) (good : Bool) → old.bytes ≡ [] → Goes (passed_at (row_at fields true layout)) (pass_if good) old new → good ≡ false → IsMissing bytes_of (Spells layout) new.bytes
+none_stands layout old new good clear g = missing_if bytes_of (Spells layout) (passed_at (row_at fields true layout)) old new good clear g (passed_missing layout)
 
-module _ (cursor : Place) (start now : Hand) (is_start : start ≡ bytes_hand cursor.rest 0) where
-  rest_of : (piece : List ℕ) → Consumes start.source now.source piece → (rest : List ℕ) × (cursor.rest ≡ piece ++ rest) × (now.source ≡ Some rest)
-  rest_of piece h = consumed_rest cursor.rest now.source piece (subst (λ (o : Option (List ℕ)). Consumes o now.source piece) (ap (λ (hand : Hand). hand.source) is_start) h)
+pub name_there : (old new : Hand) (good : Bool) → old.bytes ≡ [] → Goes (passed_at name_at) (pass_if good) old new → IsBytes new.bytes → MatchBool good ((name : Principal) × Stands name_bytes FitsName new.bytes name) (IsMissing name_bytes FitsName new.bytes)
+name_there old new good clear g fits = by_flag good refl
+  where
+    lies : (place behind : Place) → IsBytes place.rest → passed_at name_at place ≡ Some behind → (name : Principal) × Lies name_bytes FitsName place name behind
+    lies place behind bytes e = let name = passed_some (name_at place) behind e in (name.0, name_lies place name.0 behind bytes name.1)
 
-  module _ (before after : Pass) (g : Goes before after bytes_within start now) where
-    pub rest : List ℕ
-    rest = (rest_of g.piece g.keeps.consumed).0
+    missing : (place : Place) → passed_at name_at place ≡ None → IsMissing name_bytes FitsName place.rest
+    missing place e = name_missing place (none_then (name_at place) (λ x. x.1) e)
 
-    abbrev pub next : Place
-    next = record { at = cursor.at + length g.piece; rest = rest }
+    by_flag : (b : Bool) → good ≡ b → MatchBool b ((name : Principal) × Stands name_bytes FitsName new.bytes name) (IsMissing name_bytes FitsName new.bytes)
+    by_flag true flag = stands_if name_bytes FitsName (passed_at name_at) old new good clear g lies flag fits
+    by_flag false flag = missing_if name_bytes FitsName (passed_at name_at) old new good clear g missing flag
 
-    here : cursor ≡ record { at = cursor.at; rest = g.piece ++ rest }
-    unfolding rest
-    here = ap (λ (t : List ℕ). record { at = cursor.at; rest = t }) (rest_of g.piece g.keeps.consumed).1
+-- a part that is looked for at the front of what is at hand
+module _ {X : Type 0} (s : X → List ℕ) (P : X → Type 0) where
+  abbrev IsThere : Bool → List ℕ → Type 0
+  IsThere there bytes = MatchBool there ((x : X) × Stands s P bytes x) (IsMissing s P bytes)
 
-    pub passed : before cursor ≡ after next
-    passed = ap before here ∙ g.same cursor.at rest
+  found_there : (bytes : List ℕ) (place behind : Place) (found : Result (Unit {0}) Short) → place ≡ record { at = 0; rest = bytes } → OnOk found ((x : X) × Lies s P place x behind) → OnErr found (IsMissing s P place.rest) → IsThere (is_ok found) bytes
+  found_there bytes place behind (Ok tt) here ok missing = (ok.0, record { fits = ok.1.fits; others = behind.rest; bytes_are = sym (ap (λ (p : Place). p.rest) here) ∙ ok.1.takes.parts })
+  found_there bytes place behind (Err short) here ok missing = subst (IsMissing s P) (ap (λ (p : Place). p.rest) here) missing
 
-    module _ (count : ℕ) (counted : count ≡ length now.bytes) where
-      count_is : count ≡ length g.piece
-      count_is = counted ∙ ap length (g.keeps.bytes ∙ ap (λ (hand : Hand). hand.bytes ++ g.piece) is_start)
-
-      bytes_read : bytes_at count cursor ≡ Some (g.piece, next)
-      bytes_read = ap (bytes_at count) here ∙ (IsField-bytes count).again cursor.at g.piece rest (sym count_is)
-
-      pub passed_by : (bytes : List ℕ) (behind : Place) → bytes_at count cursor ≡ Some (bytes, behind) → before cursor ≡ after behind
-      passed_by bytes behind e = passed ∙ ap (λ (k : List ℕ × Place). after k.1) (some_is (g.piece, next) (bytes, behind) (sym bytes_read ∙ e))
-
-      pub not_short : bytes_at count cursor ≡ None → ⊥
-      not_short none = let some = bytes_read in absurd cc
-
-  pub stopped : (before : Pass) (stop : TakeFault) → Stops before bytes_within bytes_lacks start now stop → before cursor ≡ None
-  stopped before stop h =
-      let r = rest_of h.piece h.keeps.consumed in
-      let same : Some r.0 ≡ Some h.lacks.0 = sym r.2 ∙ h.lacks.1 in
-      let is : r.0 ≡ h.lacks.0 = cc in
-      ap (λ (t : List ℕ). before (record { at = cursor.at; rest = t })) r.1 ∙ h.none cursor.at r.0 (omega (arith, ap length is, h.lacks.2))
-
-module _ (bytes : List ℕ) (at count : ℕ) (within : at ≤ length bytes) where
-  pub none_left : length bytes - at < count → TookFewer bytes_within bytes_lacks count (bytes_hand bytes at) (bytes_hand bytes at) stop.End
-  none_left few = record {
-    piece = [];
-    keeps = record { consumed = refl; bytes = sym (append-nil (take at bytes)); peak = omega (arith, length-take at bytes, within); given = omega arith };
-    within = tt;
-    fewer = omega (arith, few);
-    lacks = (drop at bytes, refl, omega (arith, length-drop at bytes, few));
-  }
-
-  pub some_left : count ≤ length bytes - at → Taken bytes_within count (bytes_hand bytes at) (bytes_hand bytes (at + count))
-  some_left enough =
-      let len : length (take count (drop at bytes)) ≡ count = omega (arith, length-take count (drop at bytes), length-drop at bytes, enough) in
-      record {
-        piece = take count (drop at bytes);
-        keeps = record {
-          consumed = sym (take-append-drop count (drop at bytes)) ∙ ap (λ (t : List ℕ). take count (drop at bytes) ++ t) (drop-drop count at bytes);
-          bytes = take-add at count bytes;
-          peak = omega (arith, length-take (at + count) bytes, within, enough);
-          given = omega (arith, len);
-        };
-        within = tt;
-        length_is = len;
-      }
+  pub there_of : (bytes hand : List ℕ) (place behind : Place) (found : Result (Unit {0}) Short) (there : Bool) → bytes ≡ hand → place ≡ record { at = 0; rest = bytes } → there ≡ is_ok found → OnOk found ((x : X) × Lies s P place x behind) → OnErr found (IsMissing s P place.rest)
+      → MatchBool there ((x : X) × Stands s P hand x) (IsMissing s P hand)
+  there_of bytes hand place behind found there same here is ok missing = subst (IsThere there) same (subst (λ (b : Bool). IsThere b bytes) (sym is) (found_there bytes place behind found here ok missing))

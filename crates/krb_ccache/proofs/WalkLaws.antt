@@ -3,12 +3,14 @@ use Rattle.std.proofs.Common.{◌≡◌, ℕ, suc, ◌+◌, ◌-◌, ◌<◌, �
 use Rattle.std.specs.Int.{Width, w32, byte_len, from_be_bytes}
 use Rattle.std.proofs.lemmas.Bool.{cases_lt, lt-leb}
 use Rattle.std.proofs.KnownBytes.{Consumes-nil, Consumes-trans}
-use Rattle.std.proofs.lemmas.List.{length-append, length-take, length-drop, drop-drop, take_all, take_at, drop_at, take-append-drop, take-append-le}
-use Rattle.krb_name.specs.Window.{Keeps}
-use Rattle.krb_name.specs.Cursor.{Place, ◌>>=◌, bytes_at, number_at}
-use Rattle.krb_name.proofs.CursorLaws.{IsField-bytes}
+use Rattle.std.proofs.lemmas.List.{length-append, length-take, length-drop, drop-drop, take_at, drop_at, take-append-drop, take-append-le}
+use Rattle.krb_file.specs.Window.{Keeps}
+use Rattle.krb_file.specs.Hand.{Hand}
+use Rattle.krb_file.specs.File.{file_limit}
+use Rattle.krb_file.specs.Cursor.{Place, ◌>>=◌, bytes_at, number_at}
+use Rattle.krb_file.proofs.CursorLaws.{IsField-bytes}
 use Rattle.krb_ccache.specs.declared.walking.TakeFault.{TakeFault}
-use Rattle.krb_ccache.specs.Inner.Walking.{Hand, Pass, Same, skip_at, and_then, pass_none, pass_if, pass_number, pass_times, pass_data, Goes, Stops, IsWalk, Taken, TookFewer, IsTaken, last_number}
+use Rattle.krb_ccache.specs.Inner.Walking.{Pass, Same, skip_at, and_then, pass_none, pass_if, pass_number, pass_times, pass_data, Goes, Stops, IsWalk, Taken, TookFewer, IsTaken, last_number}
 use Rattle.krb_ccache.proofs.Fields.{bind_assoc, bind_same}
 
 -- ---- lists
@@ -125,183 +127,148 @@ none_skipped p = same_both (skip_at 0) pass_none p p skip_zero (λ next. refl)
 
 -- ---- how a walk goes on
 
-module _ (Within : Hand → Type 0) where
-  pub goes_same : (p p' q q' : Pass) (old new : Hand) → Same p' p → Same q q' → Goes p q Within old new → Goes p' q' Within old new
-  goes_same p p' q q' old new e f g = record {
-    piece = g.piece;
-    keeps = g.keeps;
-    within = g.within;
-    same = λ at rest. e _ ∙ g.same at rest ∙ f _;
-  }
+pub goes_same : (p p' q q' : Pass) (old new : Hand) → Same p' p → Same q q' → Goes p q old new → Goes p' q' old new
+goes_same p p' q q' old new e f g = record {
+  piece = g.piece;
+  keeps = g.keeps;
+  within = g.within;
+  same = λ at rest. e _ ∙ g.same at rest ∙ f _;
+}
 
-  pub goes_then : (p q r : Pass) (old middle new : Hand) → Goes p q Within old middle → Goes q r Within middle new → Goes p r Within old new
-  goes_then p q r old middle new g h = record {
+pub goes_then : (p q r : Pass) (old middle new : Hand) → Goes p q old middle → Goes q r middle new → Goes p r old new
+goes_then p q r old middle new g h = record {
+  piece = g.piece ++ h.piece;
+  keeps = joined old middle new g.piece h.piece g.keeps h.keeps;
+  within = h.within;
+  same = λ at rest.
+      ap (λ (t : List ℕ). p (record { at = at; rest = t })) (append_assoc g.piece h.piece rest) ∙ g.same at (h.piece ++ rest) ∙ h.same (at + length g.piece) rest
+      ∙ ap (λ (n : ℕ). r (record { at = n; rest = rest })) (omega (arith, length-append g.piece h.piece));
+}
+
+pub goes_more : (p q r : Pass) (old new : Hand) → Goes p q old new → Goes (and_then p r) (and_then q r) old new
+goes_more p q r old new g = record { piece = g.piece; keeps = g.keeps; within = g.within; same = λ at rest. ap (λ (o : Option Place). o >>= r) (g.same at rest) }
+
+-- nothing was taken
+pub goes_none : (p : Pass) (old : Hand) → length old.bytes ≤ old.peak → old.given ≤ file_limit → Goes p p old old
+goes_none p old peak within = record {
+  piece = [];
+  keeps = record { consumed = Consumes-nil old.source; bytes = sym (append-nil old.bytes); peak = omega (arith, peak); given = omega arith };
+  within = within;
+  same = λ at rest. ap (λ (n : ℕ). p (record { at = n; rest = rest })) (omega arith);
+}
+
+pub goes_if : (b : Bool) (p : Pass) (old new : Hand) → Goes p pass_none old new → Goes (and_then (pass_if b) p) (pass_if b) old new
+goes_if true p old new g = g
+goes_if false p old new g = record { piece = g.piece; keeps = g.keeps; within = g.within; same = λ at rest. refl }
+
+-- the same, if a test before it has passed
+pub goes_guarded : (b : Bool) (p q r : Pass) (old new : Hand) → Goes (and_then p q) r old new → Goes (and_then (and_then (pass_if b) p) q) (and_then (pass_if b) r) old new
+goes_guarded true p q r old new g = g
+goes_guarded false p q r old new g = record { piece = g.piece; keeps = g.keeps; within = g.within; same = λ at rest. refl }
+
+pub bytes_goes : (count : ℕ) (old new : Hand) → Taken count old new → Goes (skip_at count) pass_none old new
+bytes_goes count old new t = record { piece = t.piece; keeps = t.keeps; within = t.within; same = λ at rest. skips count at t.piece rest t.length_is }
+
+module _ (memory : Type 0) where
+  pub stops_same : (p p' : Pass) (old new : Hand) (stop : TakeFault) → Same p' p → Stops p memory old new stop → Stops p' memory old new stop
+  stops_same p p' old new stop e h = record { piece = h.piece; keeps = h.keeps; within = h.within; count = h.count; some = h.some; none = λ at rest few. e _ ∙ h.none at rest few; lacks = h.lacks }
+
+  pub stops_then : (p q : Pass) (old middle new : Hand) (stop : TakeFault) → Goes p q old middle → Stops q memory middle new stop → Stops p memory old new stop
+  stops_then p q old middle new stop g h = record {
     piece = g.piece ++ h.piece;
     keeps = joined old middle new g.piece h.piece g.keeps h.keeps;
     within = h.within;
-    same = λ at rest.
-        ap (λ (t : List ℕ). p (record { at = at; rest = t })) (append_assoc g.piece h.piece rest) ∙ g.same at (h.piece ++ rest) ∙ h.same (at + length g.piece) rest
-        ∙ ap (λ (n : ℕ). r (record { at = n; rest = rest })) (omega (arith, length-append g.piece h.piece));
+    count = h.count;
+    some = h.some;
+    none = λ at rest few. ap (λ (t : List ℕ). p (record { at = at; rest = t })) (append_assoc g.piece h.piece rest) ∙ g.same at (h.piece ++ rest) ∙ h.none (at + length g.piece) rest few;
+    lacks = h.lacks;
   }
 
-  pub goes_more : (p q r : Pass) (old new : Hand) → Goes p q Within old new → Goes (and_then p r) (and_then q r) Within old new
-  goes_more p q r old new g = record { piece = g.piece; keeps = g.keeps; within = g.within; same = λ at rest. ap (λ (o : Option Place). o >>= r) (g.same at rest) }
+  pub stops_more : (p r : Pass) (old new : Hand) (stop : TakeFault) → Stops p memory old new stop → Stops (and_then p r) memory old new stop
+  stops_more p r old new stop h = record { piece = h.piece; keeps = h.keeps; within = h.within; count = h.count; some = h.some; none = λ at rest few. ap (λ (o : Option Place). o >>= r) (h.none at rest few); lacks = h.lacks }
 
-  -- nothing was taken
-  pub goes_none : (p : Pass) (old : Hand) → length old.bytes ≤ old.peak → Within old → Goes p p Within old old
-  goes_none p old peak within = record {
-    piece = [];
-    keeps = record { consumed = Consumes-nil old.source; bytes = sym (append-nil old.bytes); peak = omega (arith, peak); given = omega arith };
-    within = within;
-    same = λ at rest. ap (λ (n : ℕ). p (record { at = n; rest = rest })) (omega arith);
+  pub stops_if : (b : Bool) (p : Pass) (old new : Hand) (stop : TakeFault) → Stops p memory old new stop → Stops (and_then (pass_if b) p) memory old new stop
+  stops_if true p old new stop h = h
+  stops_if false p old new stop h = record { piece = h.piece; keeps = h.keeps; within = h.within; count = h.count; some = h.some; none = λ at rest few. refl; lacks = h.lacks }
+
+  pub stops_guarded : (b : Bool) (p q : Pass) (old new : Hand) (stop : TakeFault) → Stops (and_then p q) memory old new stop → Stops (and_then (and_then (pass_if b) p) q) memory old new stop
+  stops_guarded true p q old new stop h = h
+  stops_guarded false p q old new stop h = record { piece = h.piece; keeps = h.keeps; within = h.within; count = h.count; some = h.some; none = λ at rest few. refl; lacks = h.lacks }
+
+  pub walk_same : {T : Type 0} (p p' : Pass) (q : T → Pass) (old new : Hand) (result : Result T TakeFault) → Same p' p → IsWalk p q memory old new result → IsWalk p' q memory old new result
+  walk_same p p' q old new (Ok x) e g = goes_same p p' (q x) (q x) old new e (λ place. refl) g
+  walk_same p p' q old new (Err stop) e h = stops_same p p' old new stop e h
+
+  pub walk_then : {T : Type 0} (p q : Pass) (r : T → Pass) (old middle new : Hand) (result : Result T TakeFault) → Goes p q old middle → IsWalk q r memory middle new result → IsWalk p r memory old new result
+  walk_then p q r old middle new (Ok x) g h = goes_then p q (r x) old middle new g h
+  walk_then p q r old middle new (Err stop) g h = stops_then p q old middle new stop g h
+
+  -- ---- what is taken at once
+
+  -- nothing is passed over of fewer bytes
+  pub fewer_stop : (p : Pass) (count : ℕ) → NeedsBytes p count → (old new : Hand) (stop : TakeFault) → TookFewer memory count old new stop → Stops p memory old new stop
+  fewer_stop p count needs old new stop t = record {
+    piece = t.piece;
+    keeps = t.keeps;
+    within = t.within;
+    count = count - length t.piece;
+    some = omega (arith, t.fewer);
+    none = λ at rest few. needs at (t.piece ++ rest) (omega (arith, few, length-append t.piece rest, t.fewer));
+    lacks = t.lacks;
   }
 
-  pub goes_if : (b : Bool) (p : Pass) (old new : Hand) → Goes p pass_none Within old new → Goes (and_then (pass_if b) p) (pass_if b) Within old new
-  goes_if true p old new g = g
-  goes_if false p old new g = record { piece = g.piece; keeps = g.keeps; within = g.within; same = λ at rest. refl }
+  pub bytes_stops : (count : ℕ) (old new : Hand) (stop : TakeFault) → TookFewer memory count old new stop → Stops (skip_at count) memory old new stop
+  bytes_stops count = fewer_stop (skip_at count) count (no_skip count)
 
-  -- the same, if a test before it has passed
-  pub goes_guarded : (b : Bool) (p q r : Pass) (old new : Hand) → Goes (and_then p q) r Within old new → Goes (and_then (and_then (pass_if b) p) q) (and_then (pass_if b) r) Within old new
-  goes_guarded true p q r old new g = g
-  goes_guarded false p q r old new g = record { piece = g.piece; keeps = g.keeps; within = g.within; same = λ at rest. refl }
+  pub bytes_walk : {T : Type 0} (count : ℕ) (old new : Hand) (result : Result T TakeFault) → IsTaken memory count old new result → IsWalk (skip_at count) (λ x. pass_none) memory old new result
+  bytes_walk count old new (Ok x) t = bytes_goes count old new t
+  bytes_walk count old new (Err stop) t = bytes_stops count old new stop t
 
-  pub bytes_goes : (count : ℕ) (old new : Hand) → Taken Within count old new → Goes (skip_at count) pass_none Within old new
-  bytes_goes count old new t = record { piece = t.piece; keeps = t.keeps; within = t.within; same = λ at rest. skips count at t.piece rest t.length_is }
+  -- so many bytes, and a number after them
+  module _ (w : Width) (skip : ℕ) (others : ℕ → Pass) where
+    pub number_stops : (old new : Hand) (stop : TakeFault) → TookFewer memory (skip + byte_len w) old new stop → Stops (and_then (skip_at skip) (pass_number w others)) memory old new stop
+    number_stops = fewer_stop (and_then (skip_at skip) (pass_number w others)) (skip + byte_len w) (too_few skip (byte_len w) (pass_number w others) (no_number w others))
 
-  module _ (Lacks : TakeFault → Hand → ℕ → Type 0) where
-    pub stops_same : (p p' : Pass) (old new : Hand) (stop : TakeFault) → Same p' p → Stops p Within Lacks old new stop → Stops p' Within Lacks old new stop
-    stops_same p p' old new stop e h = record { piece = h.piece; keeps = h.keeps; within = h.within; count = h.count; some = h.some; none = λ at rest few. e _ ∙ h.none at rest few; lacks = h.lacks }
-
-    pub stops_then : (p q : Pass) (old middle new : Hand) (stop : TakeFault) → Goes p q Within old middle → Stops q Within Lacks middle new stop → Stops p Within Lacks old new stop
-    stops_then p q old middle new stop g h = record {
-      piece = g.piece ++ h.piece;
-      keeps = joined old middle new g.piece h.piece g.keeps h.keeps;
-      within = h.within;
-      count = h.count;
-      some = h.some;
-      none = λ at rest few. ap (λ (t : List ℕ). p (record { at = at; rest = t })) (append_assoc g.piece h.piece rest) ∙ g.same at (h.piece ++ rest) ∙ h.none (at + length g.piece) rest few;
-      lacks = h.lacks;
-    }
-
-    pub stops_more : (p r : Pass) (old new : Hand) (stop : TakeFault) → Stops p Within Lacks old new stop → Stops (and_then p r) Within Lacks old new stop
-    stops_more p r old new stop h = record { piece = h.piece; keeps = h.keeps; within = h.within; count = h.count; some = h.some; none = λ at rest few. ap (λ (o : Option Place). o >>= r) (h.none at rest few); lacks = h.lacks }
-
-    pub stops_if : (b : Bool) (p : Pass) (old new : Hand) (stop : TakeFault) → Stops p Within Lacks old new stop → Stops (and_then (pass_if b) p) Within Lacks old new stop
-    stops_if true p old new stop h = h
-    stops_if false p old new stop h = record { piece = h.piece; keeps = h.keeps; within = h.within; count = h.count; some = h.some; none = λ at rest few. refl; lacks = h.lacks }
-
-    pub stops_guarded : (b : Bool) (p q : Pass) (old new : Hand) (stop : TakeFault) → Stops (and_then p q) Within Lacks old new stop → Stops (and_then (and_then (pass_if b) p) q) Within Lacks old new stop
-    stops_guarded true p q old new stop h = h
-    stops_guarded false p q old new stop h = record { piece = h.piece; keeps = h.keeps; within = h.within; count = h.count; some = h.some; none = λ at rest few. refl; lacks = h.lacks }
-
-    pub walk_same : {T : Type 0} (p p' : Pass) (q : T → Pass) (old new : Hand) (result : Result T TakeFault) → Same p' p → IsWalk p q Within Lacks old new result → IsWalk p' q Within Lacks old new result
-    walk_same p p' q old new (Ok x) e g = goes_same p p' (q x) (q x) old new e (λ place. refl) g
-    walk_same p p' q old new (Err stop) e h = stops_same p p' old new stop e h
-
-    pub walk_then : {T : Type 0} (p q : Pass) (r : T → Pass) (old middle new : Hand) (result : Result T TakeFault) → Goes p q Within old middle → IsWalk q r Within Lacks middle new result → IsWalk p r Within Lacks old new result
-    walk_then p q r old middle new (Ok x) g h = goes_then p q (r x) old middle new g h
-    walk_then p q r old middle new (Err stop) g h = stops_then p q old middle new stop g h
-
-    -- ---- what is taken at once
-
-    -- nothing is passed over of fewer bytes
-    pub fewer_stop : (p : Pass) (count : ℕ) → NeedsBytes p count → (old new : Hand) (stop : TakeFault) → TookFewer Within Lacks count old new stop → Stops p Within Lacks old new stop
-    fewer_stop p count needs old new stop t = record {
+-- so many bytes are skipped, and the others passed over
+pub skipped_goes : (skip more : ℕ) (p q : Pass) (old new : Hand) → Taken (skip + more) old new
+    → ((at : ℕ) (back rest : List ℕ) → length back ≡ more → back ≡ drop (length old.bytes + skip) new.bytes → p (record { at = at; rest = back ++ rest }) ≡ q (record { at = at + length back; rest = rest }))
+    → Goes (and_then (skip_at skip) p) q old new
+skipped_goes skip more p q old new t passes =
+    let front : List ℕ = take skip t.piece in
+    let back : List ℕ = drop skip t.piece in
+    let parts : t.piece ≡ front ++ back = sym (take-append-drop skip t.piece) in
+    let first : length front ≡ skip = omega (arith, length-take skip t.piece, t.length_is) in
+    let second : length back ≡ more = omega (arith, length-drop skip t.piece, t.length_is) in
+    let last = ap (drop (length old.bytes + skip)) t.keeps.bytes ∙ sym (drop-drop skip (length old.bytes) (old.bytes ++ t.piece)) ∙ ap (drop skip) (drop_at old.bytes t.piece (length old.bytes) refl) in
+    record {
       piece = t.piece;
       keeps = t.keeps;
       within = t.within;
-      count = count - length t.piece;
-      some = omega (arith, t.fewer);
-      none = λ at rest few. needs at (t.piece ++ rest) (omega (arith, few, length-append t.piece rest, t.fewer));
-      lacks = t.lacks;
+      same = λ at rest.
+          ap (λ (l : List ℕ). and_then (skip_at skip) p (record { at = at; rest = l })) (ap (λ (l : List ℕ). l ++ rest) parts ∙ append_assoc front back rest)
+          ∙ ap (λ (o : Option Place). o >>= p) (skips skip at front (back ++ rest) first) ∙ passes (at + length front) back rest second (sym last)
+          ∙ ap (λ (n : ℕ). q (record { at = n; rest = rest })) (omega (arith, ap length parts, length-append front back));
     }
 
-    pub bytes_stops : (count : ℕ) (old new : Hand) (stop : TakeFault) → TookFewer Within Lacks count old new stop → Stops (skip_at count) Within Lacks old new stop
-    bytes_stops count = fewer_stop (skip_at count) count (no_skip count)
-
-    pub bytes_walk : {T : Type 0} (count : ℕ) (old new : Hand) (result : Result T TakeFault) → IsTaken Within Lacks count old new result → IsWalk (skip_at count) (λ x. pass_none) Within Lacks old new result
-    bytes_walk count old new (Ok x) t = bytes_goes count old new t
-    bytes_walk count old new (Err stop) t = bytes_stops count old new stop t
-
-    -- so many bytes, and a number after them
-    module _ (w : Width) (skip : ℕ) (others : ℕ → Pass) where
-      pub number_stops : (old new : Hand) (stop : TakeFault) → TookFewer Within Lacks (skip + byte_len w) old new stop → Stops (and_then (skip_at skip) (pass_number w others)) Within Lacks old new stop
-      number_stops = fewer_stop (and_then (skip_at skip) (pass_number w others)) (skip + byte_len w) (too_few skip (byte_len w) (pass_number w others) (no_number w others))
-
-  -- so many bytes are skipped, and the others passed over
-  pub skipped_goes : (skip more : ℕ) (p q : Pass) (old new : Hand) → Taken Within (skip + more) old new
-      → ((at : ℕ) (back rest : List ℕ) → length back ≡ more → back ≡ drop (length old.bytes + skip) new.bytes → p (record { at = at; rest = back ++ rest }) ≡ q (record { at = at + length back; rest = rest }))
-      → Goes (and_then (skip_at skip) p) q Within old new
-  skipped_goes skip more p q old new t passes =
-      let front : List ℕ = take skip t.piece in
-      let back : List ℕ = drop skip t.piece in
-      let parts : t.piece ≡ front ++ back = sym (take-append-drop skip t.piece) in
-      let first : length front ≡ skip = omega (arith, length-take skip t.piece, t.length_is) in
-      let second : length back ≡ more = omega (arith, length-drop skip t.piece, t.length_is) in
-      let last = ap (drop (length old.bytes + skip)) t.keeps.bytes ∙ sym (drop-drop skip (length old.bytes) (old.bytes ++ t.piece)) ∙ ap (drop skip) (drop_at old.bytes t.piece (length old.bytes) refl) in
-      record {
-        piece = t.piece;
-        keeps = t.keeps;
-        within = t.within;
-        same = λ at rest.
-            ap (λ (l : List ℕ). and_then (skip_at skip) p (record { at = at; rest = l })) (ap (λ (l : List ℕ). l ++ rest) parts ∙ append_assoc front back rest)
-            ∙ ap (λ (o : Option Place). o >>= p) (skips skip at front (back ++ rest) first) ∙ passes (at + length front) back rest second (sym last)
-            ∙ ap (λ (n : ℕ). q (record { at = n; rest = rest })) (omega (arith, ap length parts, length-append front back));
-      }
-
-  module _ (w : Width) (skip : ℕ) (others : ℕ → Pass) where
-    pub number_goes : (old new : Hand) (number : ℕ) → Taken Within (skip + byte_len w) old new → number ≡ last_number w skip old.bytes new.bytes → Goes (and_then (skip_at skip) (pass_number w others)) (others number) Within old new
-    number_goes old new number t last =
-        skipped_goes skip (byte_len w) (pass_number w others) (others number) old new t (λ at back rest len is. numbers w others number at back rest len (last ∙ ap (from_be_bytes w) (sym is)))
-
--- so many bytes, and two numbers after them
-module _ (Within : Hand → Type 0) (skip : ℕ) (others : ℕ → ℕ → Pass) where
-  abbrev pub pass_pair : Pass
-  pass_pair = pass_number w32 (λ one. pass_number w32 (others one))
-
-  no_pair : NeedsBytes pass_pair 8
-  no_pair at rest few =
-      elim (cases_lt (length rest) 4) [
-        | inl lt ↦ no_number w32 (λ one. pass_number w32 (others one)) at rest lt
-        | inr le ↦
-            let front : List ℕ = take 4 rest in
-            let first = numbers w32 (λ one. pass_number w32 (others one)) (from_be_bytes w32 front) at front (drop 4 rest) (omega (arith, length-take 4 rest, le)) refl in
-            ap (λ (t : List ℕ). pass_pair (record { at = at; rest = t })) (sym (take-append-drop 4 rest)) ∙ first ∙ no_number w32 (others (from_be_bytes w32 front)) (at + length front) (drop 4 rest) (omega (arith, length-drop 4 rest, few, le))
-      ]
-
-  pub pair_goes : (old new : Hand) (last : List ℕ) (one other : ℕ) → Taken Within (skip + 8) old new → last ≡ drop (length old.bytes + skip) new.bytes → one ≡ from_be_bytes w32 (take 4 last) → other ≡ from_be_bytes w32 (take 4 (drop 4 last))
-      → Goes (and_then (skip_at skip) pass_pair) (others one other) Within old new
-  pair_goes old new last one other t last_is is also_is = skipped_goes Within skip 8 pass_pair (others one other) old new t passes
-    where
-      passes : (at : ℕ) (back rest : List ℕ) → length back ≡ 8 → back ≡ drop (length old.bytes + skip) new.bytes → pass_pair (record { at = at; rest = back ++ rest }) ≡ others one other (record { at = at + length back; rest = rest })
-      passes at back rest len after =
-          let a : List ℕ = take 4 back in
-          let b : List ℕ = drop 4 back in
-          let same : last ≡ back = last_is ∙ sym after in
-          let second : length a ≡ 4 = omega (arith, length-take 4 back, len) in
-          let third : length b ≡ 4 = omega (arith, length-drop 4 back, len) in
-          let one_is : one ≡ from_be_bytes w32 a = is ∙ ap (λ (l : List ℕ). from_be_bytes w32 (take 4 l)) same in
-          let other_is : other ≡ from_be_bytes w32 b = also_is ∙ ap (λ (l : List ℕ). from_be_bytes w32 (take 4 (drop 4 l))) same ∙ ap (from_be_bytes w32) (take_all 4 b (omega (arith, third))) in
-          ap (λ (l : List ℕ). pass_pair (record { at = at; rest = l })) (ap (λ (l : List ℕ). l ++ rest) (sym (take-append-drop 4 back)) ∙ append_assoc a b rest) ∙ numbers w32 (λ n. pass_number w32 (others n)) one at a (b ++ rest) second one_is
-          ∙ numbers w32 (others one) other (at + length a) b rest third other_is ∙ ap (λ (n : ℕ). others one other (record { at = n; rest = rest })) (omega (arith, second, third, len))
-
-  pub pair_stops : (Lacks : TakeFault → Hand → ℕ → Type 0) (old new : Hand) (stop : TakeFault) → TookFewer Within Lacks (skip + 8) old new stop → Stops (and_then (skip_at skip) pass_pair) Within Lacks old new stop
-  pair_stops Lacks = fewer_stop Within Lacks (and_then (skip_at skip) pass_pair) (skip + 8) (too_few skip 8 pass_pair no_pair)
+module _ (w : Width) (skip : ℕ) (others : ℕ → Pass) where
+  pub number_goes : (old new : Hand) (number : ℕ) → Taken (skip + byte_len w) old new → number ≡ last_number w skip old.bytes new.bytes → Goes (and_then (skip_at skip) (pass_number w others)) (others number) old new
+  number_goes old new number t last =
+      skipped_goes skip (byte_len w) (pass_number w others) (others number) old new t (λ at back rest len is. numbers w others number at back rest len (last ∙ ap (from_be_bytes w) (sym is)))
 
 -- ---- so many times bytes after their length
 
-module _ (Within : Hand → Type 0) (skip gap : ℕ) where
+module _ (skip gap : ℕ) where
   abbrev whole : ℕ → Pass
   whole count = and_then (skip_at skip) (pass_times count (pass_data gap))
 
   -- so many were passed over, but for the bytes of the last
   abbrev pub Front : Hand → Hand → ℕ → ℕ → ℕ → Type 0
-  Front old now count i last = Goes (whole count) (and_then (skip_at last) (pass_times (count - i) (pass_data gap))) Within old now
+  Front old now count i last = Goes (whole count) (and_then (skip_at last) (pass_times (count - i) (pass_data gap))) old now
 
-  pub front_none : (old : Hand) (count : ℕ) → length old.bytes ≤ old.peak → Within old → Front old old count 0 skip
+  pub front_none : (old : Hand) (count : ℕ) → length old.bytes ≤ old.peak → old.given ≤ file_limit → Front old old count 0 skip
   front_none old count peak within =
       let same : count ≡ count - 0 = omega arith in
-      goes_same Within _ _ _ _ old old (λ place. refl) (λ place. ap (λ (n : ℕ). whole n place) same) (goes_none Within (whole count) old peak within)
+      goes_same _ _ _ _ old old (λ place. refl) (λ place. ap (λ (n : ℕ). whole n place) same) (goes_none (whole count) old peak within)
 
   -- what comes next of those that are left
   next : (count i last : ℕ) → i < count → Same (and_then (skip_at last) (pass_times (count - i) (pass_data gap))) (and_then (and_then (skip_at (last + gap)) (pass_number w32 skip_at)) (pass_times (count - (i + 1)) (pass_data gap)))
@@ -318,16 +285,16 @@ module _ (Within : Hand → Type 0) (skip gap : ℕ) where
     abbrev others_left : Pass
     others_left = pass_times (count - (i + 1)) (pass_data gap)
 
-    begun : Goes (whole count) (and_then one_number others_left) Within old middle
-    begun = goes_same Within _ _ _ _ old middle (λ place. refl) (next count i last lt) f
+    begun : Goes (whole count) (and_then one_number others_left) old middle
+    begun = goes_same _ _ _ _ old middle (λ place. refl) (next count i last lt) f
 
-    pub front_more : (number : ℕ) → Taken Within ((last + gap) + 4) middle new → number ≡ last_number w32 (last + gap) middle.bytes new.bytes → Front old new count (i + 1) number
-    front_more number t is = goes_then Within _ _ _ old middle new begun (goes_more Within one_number (skip_at number) others_left middle new (number_goes Within w32 (last + gap) skip_at middle new number t is))
+    pub front_more : (number : ℕ) → Taken ((last + gap) + 4) middle new → number ≡ last_number w32 (last + gap) middle.bytes new.bytes → Front old new count (i + 1) number
+    front_more number t is = goes_then _ _ _ old middle new begun (goes_more one_number (skip_at number) others_left middle new (number_goes w32 (last + gap) skip_at middle new number t is))
 
-    pub front_stops : (Lacks : TakeFault → Hand → ℕ → Type 0) (stop : TakeFault) → TookFewer Within Lacks ((last + gap) + 4) middle new stop → Stops (whole count) Within Lacks old new stop
-    front_stops Lacks stop t = stops_then Within Lacks _ _ old middle new stop begun (stops_more Within Lacks one_number others_left middle new stop (number_stops Within Lacks w32 (last + gap) skip_at middle new stop t))
+    pub front_stops : (memory : Type 0) (stop : TakeFault) → TookFewer memory ((last + gap) + 4) middle new stop → Stops (whole count) memory old new stop
+    front_stops memory stop t = stops_then memory _ _ old middle new stop begun (stops_more memory one_number others_left middle new stop (number_stops memory w32 (last + gap) skip_at middle new stop t))
 
-  pub front_all : (old now : Hand) (count i last : ℕ) → Front old now count i last → count ≤ i → Goes (whole count) (skip_at last) Within old now
+  pub front_all : (old now : Hand) (count i last : ℕ) → Front old now count i last → count ≤ i → Goes (whole count) (skip_at last) old now
   front_all old now count i last f le =
       let none : count - i ≡ 0 = omega (arith, le) in
-      goes_same Within _ _ _ _ old now (λ place. refl) (λ place. ap (λ (n : ℕ). and_then (skip_at last) (pass_times n (pass_data gap)) place) none ∙ nothing_then (skip_at last) place) f
+      goes_same _ _ _ _ old now (λ place. refl) (λ place. ap (λ (n : ℕ). and_then (skip_at last) (pass_times n (pass_data gap)) place) none ∙ nothing_then (skip_at last) place) f

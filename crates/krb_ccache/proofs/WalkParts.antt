@@ -2,13 +2,15 @@
 use Rattle.std.proofs.Common.{◌≡◌, ℕ, zero, suc, ◌+◌, ◌≤◌, Bool, true, false, cond, List, ◌∷◌, Option, Some, None, Result, Ok, Err, IfOk, length, refl, sym, ap, subst, ◌∙◌}
 use Rattle.std.specs.Prelude.{◌&&◌}
 use Rattle.std.specs.Int.{Width, w8, w16, w32, byte_len, from_be_bytes, cast_signed}
-use Rattle.krb_name.specs.Cursor.{Place, ◌>>=◌, bytes_at, number_at, signed_at, data_at, times_at}
+use Rattle.krb_file.specs.Cursor.{Place, ◌>>=◌, bytes_at, number_at, signed_at, data_at, times_at}
+use Rattle.krb_file.specs.Hand.{Hand}
+use Rattle.krb_file.specs.File.{file_limit}
 use Rattle.krb_ccache.specs.declared.walking.TakeFault.{TakeFault}
 use Rattle.krb_ccache.specs.declared.walking.Left.{Left}
 use Rattle.krb_ccache.specs.Inner.Reading.{then_at, both_at, made_at, name_of, name_at, is_flag, allowed, byte_at, typed_of, typed_at, list_at}
-use Rattle.krb_ccache.specs.Inner.Walking.{Hand, Pass, passed_at, skip_at, and_then, pass_none, pass_if, pass_number, pass_times, pass_data, left_at, Same, Goes, Stops, IsWalk, Taken, TookFewer, IsTaken, last_number}
+use Rattle.krb_ccache.specs.Inner.Walking.{Pass, passed_at, skip_at, and_then, pass_none, pass_if, pass_number, pass_times, pass_data, left_at, Same, Goes, Stops, IsWalk, Taken, TookFewer, IsTaken, last_number}
 use Rattle.krb_ccache.proofs.Fields.{bind_assoc, bind_same}
-use Rattle.krb_ccache.proofs.WalkLaws.{also, grouped, same_both, same_then, none_skipped, skip_zero, skip_both, skip_more, goes_none, goes_guarded, bytes_goes, goes_same, goes_then, goes_more, goes_if, stops_same, stops_then, stops_more, stops_if, stops_guarded, bytes_stops, walk_same, walk_then, bytes_walk, number_goes, number_stops, pair_stops}
+use Rattle.krb_ccache.proofs.WalkLaws.{also, grouped, same_both, same_then, none_skipped, skip_zero, skip_both, skip_more, goes_none, goes_guarded, bytes_goes, goes_same, goes_then, goes_more, goes_if, stops_same, stops_then, stops_more, stops_if, stops_guarded, bytes_stops, walk_same, walk_then, bytes_walk, number_goes, number_stops}
 
 -- ---- what is passed over of what is read
 
@@ -97,15 +99,15 @@ passed_some (Some (x, next)) behind e = let same : next ≡ behind = cc in (x, a
 
 -- ---- the walks
 
-module _ (Within : Hand → Type 0) (Lacks : TakeFault → Hand → ℕ → Type 0) where
+module _ (memory : Type 0) where
   module _ {T : Type 0} (old middle new : Hand) (number : ℕ) (result : Result T TakeFault) where
-    pub data_then : (w : Width) → Taken Within (0 + byte_len w) old middle → number ≡ last_number w 0 old.bytes middle.bytes → IsTaken Within Lacks number middle new result → IsWalk (passed_at (data_at w)) (λ x. pass_none) Within Lacks old new result
+    pub data_then : (w : Width) → Taken (0 + byte_len w) old middle → number ≡ last_number w 0 old.bytes middle.bytes → IsTaken memory number middle new result → IsWalk (passed_at (data_at w)) (λ x. pass_none) memory old new result
     data_then w t is h =
-        walk_same Within Lacks _ _ _ old new result (also _ _ _ (data_passed w) (λ place. sym (none_skipped (pass_number w skip_at) place)))
-        (walk_then Within Lacks _ (skip_at number) _ old middle new result (number_goes Within w 0 skip_at old middle number t is) (bytes_walk Within Lacks number middle new result h))
+        walk_same memory _ _ _ old new result (also _ _ _ (data_passed w) (λ place. sym (none_skipped (pass_number w skip_at) place)))
+        (walk_then memory _ (skip_at number) _ old middle new result (number_goes w 0 skip_at old middle number t is) (bytes_walk memory number middle new result h))
 
-  pub data_first : (w : Width) (old new : Hand) (stop : TakeFault) → TookFewer Within Lacks (0 + byte_len w) old new stop → Stops (passed_at (data_at w)) Within Lacks old new stop
-  data_first w old new stop t = stops_same Within Lacks _ _ old new stop (also _ _ _ (data_passed w) (λ place. sym (none_skipped (pass_number w skip_at) place))) (number_stops Within Lacks w 0 skip_at old new stop t)
+  pub data_first : (w : Width) (old new : Hand) (stop : TakeFault) → TookFewer memory (0 + byte_len w) old new stop → Stops (passed_at (data_at w)) memory old new stop
+  data_first w old new stop t = stops_same memory _ _ old new stop (also _ _ _ (data_passed w) (λ place. sym (none_skipped (pass_number w skip_at) place))) (number_stops memory w 0 skip_at old new stop t)
 
   -- ---- what is left of the parts before, and one part
 
@@ -121,37 +123,37 @@ module _ (Within : Hand → Type 0) (Lacks : TakeFault → Hand → ℕ → Type
       part_same : Same (and_then (skip_at left.skip) p) (and_then (skip_at left.skip) q)
       part_same = same_then (skip_at left.skip) p q e
 
-      left_goes : (last : ℕ) (old new : Hand) → Goes (and_then (skip_at left.skip) q) (skip_at last) Within old new → Goes (and_then (left_at strict left) p) (left_at strict (behind_part last)) Within old new
-      left_goes last old new g = goes_guarded Within passes (skip_at left.skip) p (skip_at last) old new (goes_same Within _ _ _ _ old new part_same (λ place. refl) g)
+      left_goes : (last : ℕ) (old new : Hand) → Goes (and_then (skip_at left.skip) q) (skip_at last) old new → Goes (and_then (left_at strict left) p) (left_at strict (behind_part last)) old new
+      left_goes last old new g = goes_guarded passes (skip_at left.skip) p (skip_at last) old new (goes_same _ _ _ _ old new part_same (λ place. refl) g)
 
-      left_stops : (old new : Hand) (stop : TakeFault) → Stops (and_then (skip_at left.skip) q) Within Lacks old new stop → Stops (and_then (left_at strict left) p) Within Lacks old new stop
-      left_stops old new stop h = stops_guarded Within Lacks passes (skip_at left.skip) p old new stop (stops_same Within Lacks _ _ old new stop part_same h)
+      left_stops : (old new : Hand) (stop : TakeFault) → Stops (and_then (skip_at left.skip) q) memory old new stop → Stops (and_then (left_at strict left) p) memory old new stop
+      left_stops old new stop h = stops_guarded memory passes (skip_at left.skip) p old new stop (stops_same memory _ _ old new stop part_same h)
 
-      left_walk : (old new : Hand) (result : Result Left TakeFault) → IfOk result (λ next. next.good ≡ left.good) → IsWalk (and_then (skip_at left.skip) q) (λ next. skip_at next.skip) Within Lacks old new result → IsWalk (and_then (left_at strict left) p) (left_at strict) Within Lacks old new result
-      left_walk old new (Ok next) good g = subst (λ (b : Bool). Goes (and_then (left_at strict left) p) (left_at strict (record { skip = next.skip; good = b })) Within old new) (sym good) (left_goes next.skip old new g)
+      left_walk : (old new : Hand) (result : Result Left TakeFault) → IfOk result (λ next. next.good ≡ left.good) → IsWalk (and_then (skip_at left.skip) q) (λ next. skip_at next.skip) memory old new result → IsWalk (and_then (left_at strict left) p) (left_at strict) memory old new result
+      left_walk old new (Ok next) good g = subst (λ (b : Bool). Goes (and_then (left_at strict left) p) (left_at strict (record { skip = next.skip; good = b })) old new) (sym good) (left_goes next.skip old new g)
       left_walk old new (Err stop) good h = left_stops old new stop h
 
     -- a number, and what it says comes after it
 
-    pub number_first : (p : Pass) (w : Width) (others : ℕ → Pass) → Same p (pass_number w others) → (old new : Hand) (stop : TakeFault) → TookFewer Within Lacks (left.skip + byte_len w) old new stop → Stops (and_then (left_at strict left) p) Within Lacks old new stop
-    number_first p w others e old new stop t = left_stops p _ e old new stop (number_stops Within Lacks w left.skip others old new stop t)
+    pub number_first : (p : Pass) (w : Width) (others : ℕ → Pass) → Same p (pass_number w others) → (old new : Hand) (stop : TakeFault) → TookFewer memory (left.skip + byte_len w) old new stop → Stops (and_then (left_at strict left) p) memory old new stop
+    number_first p w others e old new stop t = left_stops p _ e old new stop (number_stops memory w left.skip others old new stop t)
 
     -- bytes after their length
 
-    pub data_goes : (last : ℕ) (old new : Hand) → Taken Within (left.skip + 4) old new → last ≡ last_number w32 left.skip old.bytes new.bytes → Goes (and_then (left_at strict left) (passed_at (data_at w32))) (left_at strict (behind_part last)) Within old new
-    data_goes last old new t is = left_goes _ _ (data_passed w32) last old new (number_goes Within w32 left.skip skip_at old new last t is)
+    pub data_goes : (last : ℕ) (old new : Hand) → Taken (left.skip + 4) old new → last ≡ last_number w32 left.skip old.bytes new.bytes → Goes (and_then (left_at strict left) (passed_at (data_at w32))) (left_at strict (behind_part last)) old new
+    data_goes last old new t is = left_goes _ _ (data_passed w32) last old new (number_goes w32 left.skip skip_at old new last t is)
 
     -- a list: its count, and its elements
 
-    module _ (old middle new : Hand) (count : ℕ) (t : Taken Within (left.skip + 4) old middle) (is : count ≡ last_number w32 left.skip old.bytes middle.bytes) where
-      counted : Goes (and_then (skip_at left.skip) (pass_number w32 from_length)) (and_then (skip_at 0) (from_length count)) Within old middle
-      counted = goes_same Within _ _ _ _ old middle (λ place. refl) (λ place. sym (none_skipped (from_length count) place)) (number_goes Within w32 left.skip from_length old middle count t is)
+    module _ (old middle new : Hand) (count : ℕ) (t : Taken (left.skip + 4) old middle) (is : count ≡ last_number w32 left.skip old.bytes middle.bytes) where
+      counted : Goes (and_then (skip_at left.skip) (pass_number w32 from_length)) (and_then (skip_at 0) (from_length count)) old middle
+      counted = goes_same _ _ _ _ old middle (λ place. refl) (λ place. sym (none_skipped (from_length count) place)) (number_goes w32 left.skip from_length old middle count t is)
 
-      pub list_walk : (result : Result Left TakeFault) → IfOk result (λ next. next.good ≡ left.good) → IsWalk (and_then (skip_at 0) (from_length count)) (λ next. skip_at next.skip) Within Lacks middle new result
-          → IsWalk (and_then (left_at strict left) (passed_at list_at)) (left_at strict) Within Lacks old new result
-      list_walk result good h = left_walk _ _ list_passed old new result good (walk_then Within Lacks _ _ _ old middle new result counted h)
+      pub list_walk : (result : Result Left TakeFault) → IfOk result (λ next. next.good ≡ left.good) → IsWalk (and_then (skip_at 0) (from_length count)) (λ next. skip_at next.skip) memory middle new result
+          → IsWalk (and_then (left_at strict left) (passed_at list_at)) (left_at strict) memory old new result
+      list_walk result good h = left_walk _ _ list_passed old new result good (walk_then memory _ _ _ old middle new result counted h)
 
-    -- a principal: its type, the number of its components and the length of its realm, and what comes after
+    -- a principal: its type, the number of its components, the length of its realm, and what comes after
 
     abbrev name_start : Pass
     name_start = and_then (skip_at (left.skip + 4)) (pass_number w32 from_count)
@@ -159,15 +161,20 @@ module _ (Within : Hand → Type 0) (Lacks : TakeFault → Hand → ℕ → Type
     name_same : Same (and_then (skip_at left.skip) (and_then (skip_at 4) (pass_number w32 from_count))) name_start
     name_same = skip_more left.skip 4 (pass_number w32 from_count)
 
-    pub name_first : (old new : Hand) (stop : TakeFault) → TookFewer Within Lacks ((left.skip + 4) + 8) old new stop → Stops (and_then (left_at strict left) (passed_at name_at)) Within Lacks old new stop
-    name_first old new stop t = left_stops _ _ name_passed old new stop (stops_same Within Lacks _ _ old new stop name_same (pair_stops Within (left.skip + 4) from_realm Lacks old new stop t))
+    pub name_first : (old new : Hand) (stop : TakeFault) → TookFewer memory ((left.skip + 4) + 4) old new stop → Stops (and_then (left_at strict left) (passed_at name_at)) memory old new stop
+    name_first old new stop t = left_stops _ _ name_passed old new stop (stops_same memory _ _ old new stop name_same (number_stops memory w32 (left.skip + 4) from_count old new stop t))
 
-    module _ (old middle new : Hand) (count realm : ℕ) (start : Goes name_start (from_realm count realm) Within old middle) where
-      begun : Goes (and_then (skip_at left.skip) (and_then (skip_at 4) (pass_number w32 from_count))) (from_realm count realm) Within old middle
-      begun = goes_same Within _ _ _ _ old middle name_same (λ place. refl) start
+    module _ (old first : Hand) (count : ℕ) (t : Taken ((left.skip + 4) + 4) old first) (is : count ≡ last_number w32 (left.skip + 4) old.bytes first.bytes) where
+      begun : Goes (and_then (skip_at left.skip) (and_then (skip_at 4) (pass_number w32 from_count))) (and_then (skip_at 0) (from_count count)) old first
+      begun = goes_same _ _ _ _ old first name_same (λ place. sym (none_skipped (from_count count) place)) (number_goes w32 (left.skip + 4) from_count old first count t is)
 
-      pub name_walk : (result : Result Left TakeFault) → IfOk result (λ next. next.good ≡ left.good) → IsWalk (from_realm count realm) (λ next. skip_at next.skip) Within Lacks middle new result → IsWalk (and_then (left_at strict left) (passed_at name_at)) (left_at strict) Within Lacks old new result
-      name_walk result good h = left_walk _ _ name_passed old new result good (walk_then Within Lacks _ _ _ old middle new result begun h)
+      pub name_second : (new : Hand) (stop : TakeFault) → TookFewer memory (0 + 4) first new stop → Stops (and_then (left_at strict left) (passed_at name_at)) memory old new stop
+      name_second new stop few = left_stops _ _ name_passed old new stop (stops_then memory _ _ old first new stop begun (number_stops memory w32 0 (from_realm count) first new stop few))
+
+      pub name_walk : (middle new : Hand) (realm : ℕ) → Taken (0 + 4) first middle → realm ≡ last_number w32 0 first.bytes middle.bytes → (result : Result Left TakeFault) → IfOk result (λ next. next.good ≡ left.good)
+          → IsWalk (from_realm count realm) (λ next. skip_at next.skip) memory middle new result → IsWalk (and_then (left_at strict left) (passed_at name_at)) (left_at strict) memory old new result
+      name_walk middle new realm u also result good h =
+          left_walk _ _ name_passed old new result good (walk_then memory _ _ _ old middle new result (goes_then _ _ _ old first middle begun (number_goes w32 0 (from_realm count) first middle realm u also)) h)
 
     -- the byte of a flag
 
@@ -197,29 +204,29 @@ module _ (Within : Hand → Type 0) (Lacks : TakeFault → Hand → ℕ → Type
         by_cases true true false = refl
         by_cases true false flag = refl
 
-    pub flag_goes : (byte : ℕ) (old new : Hand) → Taken Within (left.skip + 1) old new → byte ≡ last_number w8 left.skip old.bytes new.bytes → Goes (and_then (left_at strict left) (passed_at (byte_at strict))) (left_at strict (behind_flag (is_flag byte))) Within old new
+    pub flag_goes : (byte : ℕ) (old new : Hand) → Taken (left.skip + 1) old new → byte ≡ last_number w8 left.skip old.bytes new.bytes → Goes (and_then (left_at strict left) (passed_at (byte_at strict))) (left_at strict (behind_flag (is_flag byte))) old new
     flag_goes byte old new t is =
-        goes_same Within _ _ _ _ old new (same_then (left_at strict left) _ _ byte_passed) (both_tested (is_flag byte))
-        (goes_guarded Within passes (skip_at left.skip) (pass_number w8 tested) (tested byte) old new (number_goes Within w8 left.skip tested old new byte t is))
+        goes_same _ _ _ _ old new (same_then (left_at strict left) _ _ byte_passed) (both_tested (is_flag byte))
+        (goes_guarded passes (skip_at left.skip) (pass_number w8 tested) (tested byte) old new (number_goes w8 left.skip tested old new byte t is))
 
     -- so many bytes, none of them taken yet
-    pub size_goes : (size : ℕ) (old : Hand) → length old.bytes ≤ old.peak → Within old → (p : Pass) → Same p (skip_at size) → Goes (and_then (left_at strict left) p) (left_at strict (behind_part (left.skip + size))) Within old old
+    pub size_goes : (size : ℕ) (old : Hand) → length old.bytes ≤ old.peak → old.given ≤ file_limit → (p : Pass) → Same p (skip_at size) → Goes (and_then (left_at strict left) p) (left_at strict (behind_part (left.skip + size))) old old
     size_goes size old peak within p e =
-        goes_same Within _ _ _ _ old old
+        goes_same _ _ _ _ old old
         (λ place. grouped (pass_if passes) (skip_at left.skip) p place ∙ same_then (pass_if passes) _ (skip_at (left.skip + size)) (λ next. part_same p (skip_at size) e next ∙ sym (skip_both left.skip size next)) place) (λ place. refl)
-        (goes_none Within (left_at strict (behind_part (left.skip + size))) old peak within)
+        (goes_none (left_at strict (behind_part (left.skip + size))) old peak within)
 
     -- two fields, one after the other
     module _ {X Y : Type 0} (one : Place → Option (X × Place)) (other : Place → Option (Y × Place)) where
       both_same : Same (and_then (left_at strict left) (passed_at (both_at one other))) (and_then (and_then (left_at strict left) (passed_at one)) (passed_at other))
       both_same place = same_then (left_at strict left) _ _ (both_passed one other) place ∙ sym (grouped (left_at strict left) (passed_at one) (passed_at other) place)
 
-      pub both_stop : (old new : Hand) (stop : TakeFault) → Stops (and_then (left_at strict left) (passed_at one)) Within Lacks old new stop → Stops (and_then (left_at strict left) (passed_at (both_at one other))) Within Lacks old new stop
-      both_stop old new stop h = stops_same Within Lacks _ _ old new stop both_same (stops_more Within Lacks _ (passed_at other) old new stop h)
+      pub both_stop : (old new : Hand) (stop : TakeFault) → Stops (and_then (left_at strict left) (passed_at one)) memory old new stop → Stops (and_then (left_at strict left) (passed_at (both_at one other))) memory old new stop
+      both_stop old new stop h = stops_same memory _ _ old new stop both_same (stops_more memory _ (passed_at other) old new stop h)
 
-      pub both_walk : (old middle new : Hand) (next : Left) (result : Result Left TakeFault) → Goes (and_then (left_at strict left) (passed_at one)) (left_at strict next) Within old middle
-          → IsWalk (and_then (left_at strict next) (passed_at other)) (left_at strict) Within Lacks middle new result → IsWalk (and_then (left_at strict left) (passed_at (both_at one other))) (left_at strict) Within Lacks old new result
-      both_walk old middle new next result g h = walk_same Within Lacks _ _ _ old new result both_same (walk_then Within Lacks _ (and_then (left_at strict next) (passed_at other)) _ old middle new result (goes_more Within _ (left_at strict next) (passed_at other) old middle g) h)
+      pub both_walk : (old middle new : Hand) (next : Left) (result : Result Left TakeFault) → Goes (and_then (left_at strict left) (passed_at one)) (left_at strict next) old middle
+          → IsWalk (and_then (left_at strict next) (passed_at other)) (left_at strict) memory middle new result → IsWalk (and_then (left_at strict left) (passed_at (both_at one other))) (left_at strict) memory old new result
+      both_walk old middle new next result g h = walk_same memory _ _ _ old new result both_same (walk_then memory _ (and_then (left_at strict next) (passed_at other)) _ old middle new result (goes_more _ (left_at strict next) (passed_at other) old middle g) h)
 
   -- ---- a whole part, whose last bytes were left
 
@@ -231,12 +238,12 @@ module _ (Within : Hand → Type 0) (Lacks : TakeFault → Hand → ℕ → Type
         by_case true = none_skipped p place
         by_case false = none_skipped p place
 
-    pub all_stop : (old new : Hand) (stop : TakeFault) → Stops (and_then (left_at strict start) p) Within Lacks old new stop → Stops p Within Lacks old new stop
-    all_stop old new stop h = stops_same Within Lacks _ _ old new stop started h
+    pub all_stop : (old new : Hand) (stop : TakeFault) → Stops (and_then (left_at strict start) p) memory old new stop → Stops p memory old new stop
+    all_stop old new stop h = stops_same memory _ _ old new stop started h
 
-    module _ (old middle new : Hand) (left : Left) (g : Goes (and_then (left_at strict start) p) (left_at strict left) Within old middle) where
-      pub all_walk : {T : Type 0} (result : Result T TakeFault) → IsTaken Within Lacks left.skip middle new result → IsWalk p (λ x. pass_if (allowed strict left.good)) Within Lacks old new result
-      all_walk (Ok x) t = goes_then Within p (left_at strict left) _ old middle new (goes_same Within _ _ _ _ old middle started (λ place. refl) g) (goes_if Within (allowed strict left.good) (skip_at left.skip) middle new (bytes_goes Within left.skip middle new t))
+    module _ (old middle new : Hand) (left : Left) (g : Goes (and_then (left_at strict start) p) (left_at strict left) old middle) where
+      pub all_walk : {T : Type 0} (result : Result T TakeFault) → IsTaken memory left.skip middle new result → IsWalk p (λ x. pass_if (allowed strict left.good)) memory old new result
+      all_walk (Ok x) t = goes_then p (left_at strict left) _ old middle new (goes_same _ _ _ _ old middle started (λ place. refl) g) (goes_if (allowed strict left.good) (skip_at left.skip) middle new (bytes_goes left.skip middle new t))
       all_walk (Err stop) t =
-          stops_then Within Lacks p (left_at strict left) old middle new stop (goes_same Within _ _ _ _ old middle started (λ place. refl) g)
-          (stops_if Within Lacks (allowed strict left.good) (skip_at left.skip) middle new stop (bytes_stops Within Lacks left.skip middle new stop t))
+          stops_then memory p (left_at strict left) old middle new stop (goes_same _ _ _ _ old middle started (λ place. refl) g)
+          (stops_if memory (allowed strict left.good) (skip_at left.skip) middle new stop (bytes_stops memory left.skip middle new stop t))

@@ -2,7 +2,7 @@
 -- clock offset, and configuration entries.
 use Rattle.std.specs.Prelude.{◌≡◌, ◌≢◌, ℕ, ℤ, List, ◌∷◌, ◌++◌, All, FitsSigned, codes}
 use Rattle.std.specs.Int.{w32}
-use Rattle.krb_name.specs.Cursor.{signed_bytes}
+use Rattle.krb_file.specs.Cursor.{signed_bytes}
 use Rattle.krb_ccache.specs.Types.{HeaderField, Credential}
 
 -- two signed numbers of 32 bits

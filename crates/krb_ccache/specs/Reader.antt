@@ -3,11 +3,11 @@
 use Rattle.std.specs.Prelude.{◌≡◌, ◌≢◌, ℕ, ◌+◌, ◌<◌, ◌≤◌, max, Bool, true, false, List, [], ◌∷◌, ◌++◌, length, Option, Some, None, Result, Ok, Err, IfErr, IfSome}
 use Rattle.std.specs.Int.{w8}
 use Rattle.std.specs.Io.KnownBytes.{Consumes, IsAtEnd}
-use Rattle.krb_name.specs.Cursor.{number_bytes}
+use Rattle.krb_file.specs.Cursor.{number_bytes}
 use Rattle.krb_ccache.specs.Types.{Principal, HeaderField, Credential, Layout, CacheFault, Read, OutOfMemory}
 use Rattle.krb_ccache.specs.Spelling.{marked_bytes}
 use Rattle.krb_ccache.specs.Value.{Cache, cache_of, FitsCredential}
-use Rattle.krb_name.specs.File.{file_limit, IsGiven}
+use Rattle.krb_file.specs.File.{file_limit, IsGiven}
 use Rattle.krb_ccache.specs.Format.{second_size, Spelled, Spells, credential_length, IsReached, IsCache, IsFaultOf}
 
 -- a reader: its source; the layout, the header and the default principal; how many bytes the source

@@ -3,7 +3,7 @@
 use Rattle.std.specs.Prelude.{ℕ, Bool, true, false, List, [], ◌++◌, length}
 use Rattle.std.specs.Int.{w8, w16, w32}
 use Rattle.std.specs.List.{flat_map}
-use Rattle.krb_name.specs.Cursor.{number_bytes, signed_bytes, data_bytes}
+use Rattle.krb_file.specs.Cursor.{number_bytes, signed_bytes, data_bytes}
 use Rattle.krb_ccache.specs.Types.{Principal, TypedBytes, HeaderField, Credential}
 
 -- ---- the header: its length, and then its fields

@@ -1,12 +1,12 @@
 //! A credential cache.
 
 ghost use Rattle.std.specs.Prelude.{◌≡◌, ◌≢◌, ◌⊎◌, ◌≤◌, ◌<◌, All, IsTrue, ◌↔◌, IfOk, IfErr, IfSome, IfNone, OnOk, OnErr, Some, Ok, Err, Result, SomeIff, None, length, drop};
-ghost use Rattle.krb_name.specs.Flow.{counted};
+ghost use Rattle.krb_file.specs.Flow.{counted};
 ghost use Rattle.krb_ccache.specs.Value.{Cache, cache_of, server_of, HasLengths, Fits};
 ghost use Rattle.krb_ccache.specs.Types.{CacheFault as CacheFaultValue};
 ghost use Rattle.krb_ccache.specs.Configuration.{IsConfiguration};
 ghost use Rattle.krb_ccache.specs.Fault.{offset_of, failed_reads};
-ghost use Rattle.krb_name.specs.File.{file_limit, ReadsFile};
+ghost use Rattle.krb_file.specs.File.{file_limit, ReadsFile};
 ghost use Rattle.krb_name.specs.Named.{IsFirstNamed, HasOtherName};
 ghost use Rattle.krb_ccache.specs.Format.{written, IsCache, IsFaultOf, IsAnswerOf};
 ghost use Rattle.krb_ccache.specs.Offset.{IsOffsetOf};
@@ -18,9 +18,10 @@ use crate::credential::{Credential, HeaderField};
 use crate::fault::CacheFault;
 use crate::layout::VERSION_4;
 use crate::part::{Part, behind_each, fits_each, write_each};
-use crate::stepping::{Start, begin, steps};
+use crate::stepping::{begin, steps};
 use crate::writing::{behind_header, header_fits, write_header, write_u16};
-use krb_name::{FILE_LIMIT, NamedList, Principal, SliceSource, SoughtName, Source, Window};
+use krb_file::{FILE_LIMIT, Feed, Slice, Source, Window};
+use krb_name::{NamedList, Principal, SoughtName};
 use std::alloc::{AllocError, Global};
 use std::marker::Model;
 
@@ -82,10 +83,9 @@ impl CCache {
     ///
     /// Finds a fault, and counts the credentials, before it allocates memory. Then allocates memory
     /// for their list at once, and for parts as they are read, never because of a count or a length
-    /// that the bytes don't bear out. Beside the parts it holds a copy of the bytes of one at a
-    /// time, and beside each credential a hash of its server's name, of 4 bytes. After the last
-    /// credential it allocates the rest of an index by server, of 16 bytes for each credential and 8
-    /// more, for `find_server`.
+    /// that the bytes don't bear out. Beside each credential it keeps a hash of its server's name, of
+    /// 4 bytes. After the last credential it allocates the rest of an index by server, of 16 bytes
+    /// for each credential and 8 more, for `find_server`.
     ///
     /// # Errors
     /// `OutOfMemory` if the bytes are a cache and there is no memory for it; else the first
@@ -115,7 +115,7 @@ impl CCache {
             IfSome (offset_of fault) (λ at. at ≤ length bytes.now)) }
     {
         let count = check(bytes)?;
-        match CCache::read_from(alloc, &mut SliceSource::new(bytes), count) {
+        match CCache::read_from(alloc, &mut Slice::new(bytes), count) {
             Ok(cache) => Ok(cache),
             Err(_) => Err(CacheFault::OutOfMemory),
         }
@@ -139,47 +139,29 @@ impl CCache {
         ensures failed { S.failure_count source.new
             ≡ counted (S.failure_count source.old) (failed_reads result) }
     {
-        CCache::read_from(alloc, source, 0)
-    }
-
-    // Reads a source, and allocates memory for so many credentials at once.
-    fn read_from<S: Source>(
-        alloc: Global,
-        source: &mut S,
-        expected: usize,
-    ) -> Result<CCache, CacheFault>
-        ensures reads { ReadsFile IsAnswerOf CacheFault.OutOfMemory CacheFault.Read
-            (S.remaining source.old) (S.remaining source.new) result }
-        ensures failed { S.failure_count source.new
-            ≡ counted (S.failure_count source.old) (failed_reads result) }
-    {
         let mut window = Window::new(alloc, source);
-        let answer = CCache::read_window(alloc, &mut window, expected);
+        let answer = CCache::read_from(alloc, &mut window, 0);
         let _source = window.into_source();
         answer
     }
 
-    fn read_window<S: Source>(
+    // Reads a cache to its end, and allocates memory for so many credentials at once.
+    fn read_from<F: Feed>(
         alloc: Global,
-        window: &mut Window<S>,
+        feed: &mut F,
         expected: usize,
     ) -> Result<CCache, CacheFault>
-        requires start { window.old.given ≡ 0 }
+        requires start { (F.hand feed.old).given ≡ 0 }
         ensures reads { ReadsFile IsAnswerOf CacheFault.OutOfMemory CacheFault.Read
-            (S.remaining window.old.source) (S.remaining window.new.source) result }
-        ensures failed { S.failure_count window.new.source
-            ≡ counted (S.failure_count window.old.source) (failed_reads result) }
-        ensures lent { S.lender window.new.source ≡ S.lender window.old.source }
+            (F.hand feed.old).source (F.hand feed.new).source result }
+        ensures failed { F.failure_count feed.new ≡ counted (F.failure_count feed.old) (failed_reads result) }
+        ensures lent { F.lender feed.new ≡ F.lender feed.old }
     {
-        let Start {
-            layout,
-            header,
-            default_principal,
-        } = begin(alloc, window)?;
-        let credentials = steps(alloc, layout, window, expected)?;
+        let start = begin(alloc, feed)?;
+        let credentials = steps(alloc, start.layout, feed, expected)?;
         Ok(CCache {
-            header,
-            default_principal,
+            header: start.header,
+            default_principal: start.default_principal,
             credentials: credentials.finish(alloc)?,
         })
     }

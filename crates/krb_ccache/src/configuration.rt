@@ -6,7 +6,8 @@ ghost use Rattle.krb_ccache.specs.Offset.{IsOffsetOf};
 
 use crate::credential::{Credential, HeaderField};
 use crate::header::OFFSET_TAG;
-use krb_name::{Bytes, FileCursor};
+use krb_file::FileCursor;
+use krb_name::Components;
 
 // The realm and the first component of the server of a configuration entry.
 const CONFIGURATION_REALM: &[u8] = b"X-CACHECONF:";
@@ -47,15 +48,14 @@ pub(crate) fn is_entry(credential: &Credential) -> bool
     ensures { IsTrue result ↔ IsConfiguration credential.now }
 {
     credential.server.realm.as_slice() == CONFIGURATION_REALM
-        && has_name(credential.server.components.as_slice())
+        && has_name(&credential.server.components)
 }
 
-#[tactic(auto, using(crate::proofs::OffsetLaws::begins_so))]
-fn has_name(components: &[Bytes]) -> bool
+fn has_name(components: &Components) -> bool
     ensures { IsTrue result ↔ BeginsWith components.now (codes "krb5_ccache_conf_data") }
 {
-    match components {
-        [first, ..] => first.as_slice() == CONFIGURATION_NAME,
-        [] => false,
+    match components.iter().next() {
+        Some(first) => first == CONFIGURATION_NAME,
+        None => false,
     }
 }

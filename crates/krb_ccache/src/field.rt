@@ -1,7 +1,8 @@
 //! Fields that stand one after another: how they are read, and how their bytes are taken.
 
 ghost use Rattle.std.specs.Prelude.{◌≡◌, ◌==◌, ◌+◌, ◌≤◌, ◌<◌, ◌^◌, Bool, true, max, Some, None, IfOk};
-ghost use Rattle.krb_name.specs.Flow.{counted};
+ghost use Rattle.krb_file.specs.File.{file_limit};
+ghost use Rattle.krb_file.specs.Flow.{counted};
 ghost use Rattle.krb_ccache.specs.Inner.Reading.{made_at, allowed};
 ghost use Rattle.krb_ccache.specs.Inner.Row.{Row, name_field, data_field, list_field, flag_field, number_field, both_fields, Raw, row_at, most_left};
 ghost use Rattle.krb_ccache.specs.Inner.Walking.{IsWalk, passed_at, and_then, pass_if, left_at, stopped_reads};
@@ -9,10 +10,10 @@ ghost use Rattle.krb_ccache.specs.Inner.Walking.{IsWalk, passed_at, and_then, pa
 use crate::item_fault::ItemFault;
 use crate::items::{read_data, read_list};
 use crate::layout::Layout;
-use crate::taker::Taker;
 use crate::typed::TypedList;
-use crate::walking::{Left, TakeFault, leave, number, take_last, take_many};
-use krb_name::{Bytes, FileCursor, Principal};
+use crate::walking::{Left, TakeFault, leave, take, take_last, take_many};
+use krb_file::{Feed, FileCursor};
+use krb_name::{Bytes, Principal};
 use std::alloc::Global;
 
 // How many bytes the type of a principal has.
@@ -38,27 +39,27 @@ pub(crate) trait Field: Sized {
             → made_at value (row_at fields true layout) cursor.old ≡ None };
 
     /// Takes what is left of the fields before it, and then this field except for its last bytes.
-    fn take<T: Taker>(layout: Layout, taker: &mut T, left: Left) -> Result<Left, TakeFault>
+    fn take<T: Feed>(layout: Layout, feed: &mut T, left: Left) -> Result<Left, TakeFault>
         requires few { max left.skip (2 ^ 32) + most_left fields < 2 ^ 64 }
-        requires within { T.Within (T.hand taker.old) }
+        requires within { (T.hand feed.old).given ≤ file_limit }
         ensures few { IfOk result (λ next. next.skip ≤ max left.skip (2 ^ 32) + most_left fields) }
         ensures walk { (strict : Bool) → IsWalk (and_then (left_at strict left) (passed_at (row_at fields strict layout))) (left_at strict)
-            T.Within T.Lacks (T.hand taker.old) (T.hand taker.new) result }
-        ensures failed { T.failures taker.new ≡ counted (T.failures taker.old) (stopped_reads result) }
-        ensures lent { T.lender taker.new ≡ T.lender taker.old };
+            T.allocates (T.hand feed.old) (T.hand feed.new) result }
+        ensures failed { T.failure_count feed.new ≡ counted (T.failure_count feed.old) (stopped_reads result) }
+        ensures lent { T.lender feed.new ≡ T.lender feed.old };
 }
 
 /// Takes all bytes of a field, and returns whether its flags are flags.
-pub(crate) fn take_all<F: Field, T: Taker>(layout: Layout, taker: &mut T) -> Result<bool, TakeFault>
+pub(crate) fn take_all<F: Field, T: Feed>(layout: Layout, feed: &mut T) -> Result<bool, TakeFault>
     requires few { 2 ^ 32 + most_left F.fields < 2 ^ 64 }
-    requires within { T.Within (T.hand taker.old) }
+    requires within { (T.hand feed.old).given ≤ file_limit }
     ensures walk { (strict : Bool) → IsWalk (passed_at (row_at F.fields strict layout)) (λ good. pass_if (allowed strict good))
-        T.Within T.Lacks (T.hand taker.old) (T.hand taker.new) result }
-    ensures failed { T.failures taker.new ≡ counted (T.failures taker.old) (stopped_reads result) }
-    ensures lent { T.lender taker.new ≡ T.lender taker.old }
+        T.allocates (T.hand feed.old) (T.hand feed.new) result }
+    ensures failed { T.failure_count feed.new ≡ counted (T.failure_count feed.old) (stopped_reads result) }
+    ensures lent { T.lender feed.new ≡ T.lender feed.old }
 {
-    let left = F::take(layout, taker, Left::none())?;
-    taker.take(left.skip)?;
+    let left = F::take(layout, feed, Left::none())?;
+    take(feed, left.skip)?;
     Ok(left.good)
 }
 
@@ -77,9 +78,9 @@ impl<A: Field + Drop, B: Field + Drop> Field for (A, B) {
         Ok((first, others))
     }
 
-    fn take<T: Taker>(layout: Layout, taker: &mut T, left: Left) -> Result<Left, TakeFault> {
-        let next = A::take(layout, taker, left)?;
-        B::take(layout, taker, next)
+    fn take<T: Feed>(layout: Layout, feed: &mut T, left: Left) -> Result<Left, TakeFault> {
+        let next = A::take(layout, feed, left)?;
+        B::take(layout, feed, next)
     }
 }
 
@@ -101,11 +102,10 @@ impl Field for Principal {
         })
     }
 
-    fn take<T: Taker>(_: Layout, taker: &mut T, left: Left) -> Result<Left, TakeFault> {
-        let start: [u8; 8] = take_last(taker, left.skip + NAME_TYPE)?;
-        let realm = number(&start[4..]);
-        let count = number(&start[..4]);
-        take_many(taker, realm, 0, count, left.good)
+    fn take<T: Feed>(_: Layout, feed: &mut T, left: Left) -> Result<Left, TakeFault> {
+        let count = u32::from_be_bytes(take_last(feed, left.skip + NAME_TYPE)?);
+        let realm = u32::from_be_bytes(take_last(feed, 0)?);
+        take_many(feed, realm, 0, count, left.good)
     }
 }
 
@@ -118,8 +118,8 @@ impl Field for Bytes {
         read_data(alloc, cursor)
     }
 
-    fn take<T: Taker>(_: Layout, taker: &mut T, left: Left) -> Result<Left, TakeFault> {
-        let last = u32::from_be_bytes(take_last(taker, left.skip)?);
+    fn take<T: Feed>(_: Layout, feed: &mut T, left: Left) -> Result<Left, TakeFault> {
+        let last = u32::from_be_bytes(take_last(feed, left.skip)?);
         Ok(Left {
             skip: last as usize,
             ..left
@@ -138,9 +138,9 @@ impl Field for TypedList {
         read_list(alloc, cursor, count)
     }
 
-    fn take<T: Taker>(_: Layout, taker: &mut T, left: Left) -> Result<Left, TakeFault> {
-        let count = u32::from_be_bytes(take_last(taker, left.skip)?);
-        take_many(taker, 0, KIND, count, left.good)
+    fn take<T: Feed>(_: Layout, feed: &mut T, left: Left) -> Result<Left, TakeFault> {
+        let count = u32::from_be_bytes(take_last(feed, left.skip)?);
+        take_many(feed, 0, KIND, count, left.good)
     }
 }
 
@@ -157,8 +157,8 @@ impl Field for bool {
         Ok(byte == 1)
     }
 
-    fn take<T: Taker>(_: Layout, taker: &mut T, left: Left) -> Result<Left, TakeFault> {
-        let [byte]: [u8; 1] = take_last(taker, left.skip)?;
+    fn take<T: Feed>(_: Layout, feed: &mut T, left: Left) -> Result<Left, TakeFault> {
+        let [byte]: [u8; 1] = take_last(feed, left.skip)?;
         Ok(Left {
             skip: 0,
             good: left.good & (byte <= 1),
@@ -176,7 +176,7 @@ impl Field for u32 {
     }
 
     #[tactic(auto, using(crate::proofs::WalkParts::number_passed))]
-    fn take<T: Taker>(_: Layout, taker: &mut T, left: Left) -> Result<Left, TakeFault> {
-        Ok(leave(taker, left, 4))
+    fn take<T: Feed>(_: Layout, feed: &mut T, left: Left) -> Result<Left, TakeFault> {
+        Ok(leave(feed, left, 4))
     }
 }

@@ -1,19 +1,17 @@
-//! What comes before the default principal of a cache.
+//! The header of a cache.
 
-ghost use Rattle.std.specs.Prelude.{◌≡◌, ◌<◌, ◌^◌, List, Err, None, Some, IfOk, IfErr, OnErr, length, [], ◌∷◌, ◌++◌, OnOk};
-ghost use Rattle.krb_name.specs.Field.{IsBytes};
+ghost use Rattle.std.specs.Prelude.{◌≡◌, ◌<◌, ◌^◌, List, Err, None, Some, IfOk, OnErr, length, [], ◌∷◌, ◌++◌, OnOk};
+ghost use Rattle.krb_file.specs.Field.{IsBytes};
 ghost use Rattle.krb_ccache.specs.Types.{HeaderField as HeaderFieldValue};
 ghost use Rattle.krb_ccache.specs.Spelling.{header_bytes};
 ghost use Rattle.krb_ccache.specs.Value.{FitsHeader};
-ghost use Rattle.krb_ccache.specs.Format.{head_bytes, FitsHead, IsFaultOf};
 ghost use Rattle.krb_ccache.specs.Inner.Reading.{field_at};
-ghost use Rattle.krb_ccache.specs.Inner.Standing.{Opened, Lies, IsMissing, Fills};
+ghost use Rattle.krb_ccache.specs.Inner.Standing.{Lies, IsMissing, Fills};
 
 use crate::credential::HeaderField;
-use crate::fault::CacheFault;
 use crate::item_fault::ItemFault;
-use crate::layout::{Layout, read_layout};
-use krb_name::{Bytes, FILE_LIMIT, FileCursor, Short};
+use krb_file::{FileCursor, Short};
+use krb_name::Bytes;
 use std::alloc::{AllocError, Global};
 use std::marker::Model;
 
@@ -22,44 +20,7 @@ pub(crate) const OFFSET_TAG: u16 = 1;
 
 pub(crate) const OFFSET_LENGTH: usize = 8;
 
-/// Moves past the version of a cache.
-///
-/// # Errors
-/// `TooLong` or `Version`.
-pub(crate) fn open<'a>(bytes: &'a [u8]) -> Result<(Layout, FileCursor<'a>), CacheFault>
-    ensures opened { IfOk result (λ opened. Opened opened.0 bytes.now opened.1) }
-    ensures fault { IfErr result (IsFaultOf bytes.now) }
-{
-    if bytes.len() > FILE_LIMIT {
-        return Err(CacheFault::TooLong);
-    }
-    let mut cursor = FileCursor::new(bytes);
-    match read_layout(&mut cursor) {
-        Ok(layout) => Ok((layout, cursor)),
-        Err(Short) => Err(CacheFault::Version),
-    }
-}
-
-/// Reads the header that begins here, if the layout has one, and moves past it.
-pub(crate) fn read_head(
-    alloc: Global,
-    layout: Layout,
-    cursor: &mut FileCursor<'_>,
-) -> Result<Vec<HeaderField>, ItemFault>
-    requires { IsBytes cursor.old.rest }
-    ensures read { IfOk result (λ header.
-        Lies (head_bytes layout) (FitsHead layout) cursor.old header.items cursor.new) }
-    ensures fits { IfOk result (λ header. FitsHeader header.items) }
-    ensures missing { result ≡ Err ItemFault.Missing
-        → IsMissing (head_bytes layout) (FitsHead layout) cursor.old.rest }
-{
-    match layout {
-        Layout::Version3 => Ok(Vec::new(alloc)),
-        Layout::Version4 => read_header(alloc, cursor),
-    }
-}
-
-// Reads the header that begins here, and moves past it.
+/// Reads the header that begins here, and moves past it.
 #[tactic(auto, using(crate::proofs::HeaderLaws::header_lies, crate::proofs::HeaderLaws::header_cut, crate::proofs::HeaderLaws::header_wrong))]
 pub(crate) fn read_header(
     alloc: Global,
@@ -90,6 +51,33 @@ fn read_fields(alloc: Global, body: &[u8]) -> Result<Vec<HeaderField>, ItemFault
         field.copy_to(alloc, &mut header)?;
     }
     Ok(header)
+}
+
+/// Moves past the header that begins here.
+#[tactic(auto, using(crate::proofs::HeaderLaws::header_lies, crate::proofs::HeaderLaws::header_cut, crate::proofs::HeaderLaws::header_wrong))]
+pub(crate) fn check_header(cursor: &mut FileCursor<'_>) -> Result<(), Short>
+    requires { IsBytes cursor.old.rest }
+    ensures ok { OnOk result ((header : List HeaderFieldValue)
+        × Lies header_bytes FitsHeader cursor.old header cursor.new) }
+    ensures missing { OnErr result (IsMissing header_bytes FitsHeader cursor.old.rest) }
+{
+    let body = cursor.read_data16()?;
+    check_fields(body)?;
+    Ok(())
+}
+
+// Returns `Ok` if fields fill the bytes of a header.
+#[tactic(auto, using(crate::proofs::HeaderLaws::start_of, crate::proofs::HeaderLaws::not_filled))]
+fn check_fields(body: &[u8]) -> Result<(), Short>
+    requires { length body.now < 2 ^ 16 }
+    ensures ok { OnOk result ((header : List HeaderFieldValue) × Fills body.now header) }
+    ensures missing { OnErr result ((header : List HeaderFieldValue) → ¬ Fills body.now header) }
+{
+    let mut cursor = FileCursor::new(body);
+    while !cursor.is_at_end() {
+        read_field(&mut cursor)?;
+    }
+    Ok(())
 }
 
 // Reads the field that begins here, and moves past it. On an error the position is unspecified.

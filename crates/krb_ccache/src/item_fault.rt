@@ -3,7 +3,7 @@
 ghost use Rattle.std.specs.Prelude.{◌≡◌};
 ghost use Rattle.krb_ccache.specs.declared.item_fault.ItemFault.TheVariants.{Missing, OutOfMemory};
 
-use krb_name::Short;
+use krb_file::Short;
 use std::alloc::AllocError;
 
 /// Why a part of a cache couldn't be read.

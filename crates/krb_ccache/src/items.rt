@@ -2,10 +2,11 @@
 
 ghost use Rattle.std.specs.Prelude.{◌≡◌, ℕ, List, [], ◌∷◌, ◌++◌, Option, None, Some, IfOk, OnOk};
 ghost use Rattle.std.specs.Int.{w32};
-ghost use Rattle.krb_name.specs.Cursor.{Place, data_at, times_at};
+ghost use Rattle.krb_file.specs.Cursor.{Place, data_at, times_at};
 
 use crate::item_fault::ItemFault;
-use krb_name::{Bytes, Components, FileCursor};
+use krb_file::FileCursor;
+use krb_name::{Bytes, Components};
 use std::alloc::{AllocError, Global};
 
 // Each call reads the part that begins here, copies it and moves past it. On an error the position
@@ -41,7 +42,7 @@ pub(crate) trait Listed: Sized {
         ensures missing { result ≡ Err ItemFault.Missing → element cursor.old ≡ None };
 }
 
-#[tactic(auto, using(krb_name::proofs::Repeated::times_goes_on, krb_name::proofs::Repeated::times_stops, krb_name::proofs::Repeated::times_done))]
+#[tactic(auto, using(krb_file::proofs::Repeated::times_goes_on, krb_file::proofs::Repeated::times_stops, krb_file::proofs::Repeated::times_done))]
 pub(crate) fn read_list<L: Listed + Drop>(
     alloc: Global,
     cursor: &mut FileCursor<'_>,
@@ -67,10 +68,11 @@ impl Listed for Components {
     ghost elements = { λ components. components };
 
     fn with_room(alloc: Global, count: usize) -> Result<Components, AllocError> {
-        Components::with_room(alloc, count)
+        // (room for short ones, so that most need no more)
+        Components::with_room(alloc, count, count.saturating_mul(12))
     }
 
-    fn read_next(&mut self, alloc: Global, cursor: &mut FileCursor<'_>) -> Result<(), ItemFault> {
-        Ok(self.push(read_data(alloc, cursor)?)?)
+    fn read_next(&mut self, _: Global, cursor: &mut FileCursor<'_>) -> Result<(), ItemFault> {
+        Ok(self.push(cursor.read_data32()?)?)
     }
 }

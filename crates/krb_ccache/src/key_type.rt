@@ -2,17 +2,16 @@
 
 ghost use Rattle.std.specs.Prelude.{FitsSigned};
 ghost use Rattle.std.specs.Int.{w16};
-ghost use Rattle.krb_name.specs.Cursor.{signed_bytes};
+ghost use Rattle.krb_file.specs.Cursor.{signed_bytes};
 ghost use Rattle.krb_ccache.specs.Inner.Row.{signed_field, second_field, both_fields};
 
 use crate::field::Field;
 use crate::item_fault::ItemFault;
 use crate::layout::Layout;
 use crate::part::Part;
-use crate::taker::Taker;
 use crate::walking::{Left, TakeFault, leave};
-use crate::writing::write_i16;
-use krb_name::FileCursor;
+use crate::writing::write_u16;
+use krb_file::{Feed, FileCursor};
 use std::alloc::{AllocError, Global};
 
 // How many bytes one copy has.
@@ -36,8 +35,8 @@ impl Field for KeyType {
     }
 
     #[tactic(auto, using(crate::proofs::WalkParts::key_type_passed))]
-    fn take<T: Taker>(layout: Layout, taker: &mut T, left: Left) -> Result<Left, TakeFault> {
-        Ok(leave(taker, left, SIZE + layout.second_size()))
+    fn take<T: Feed>(layout: Layout, feed: &mut T, left: Left) -> Result<Left, TakeFault> {
+        Ok(leave(feed, left, SIZE + layout.second_size()))
     }
 }
 
@@ -60,6 +59,6 @@ impl Part for KeyType {
     }
 
     fn write(&self, out: &mut Vec<u8>) -> Result<(), AllocError> {
-        write_i16(out, self.etype)
+        write_u16(out, self.etype.cast_unsigned())
     }
 }

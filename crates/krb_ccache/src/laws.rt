@@ -2,10 +2,10 @@
 //! the law.
 
 ghost use Rattle.std.specs.Prelude.{◌≡◌, ◌≢◌, ◌≤◌, ◌++◌, ℕ, ℤ, All, IfSome, List, None, Option, Some, Result, length};
-ghost use Rattle.krb_name.specs.Field.{IsBytes};
+ghost use Rattle.krb_file.specs.Field.{IsBytes};
 ghost use Rattle.krb_ccache.specs.Types.{HeaderField, CacheFault, Layout, Version4};
 ghost use Rattle.krb_ccache.specs.Configuration.{HoldsOffset};
-ghost use Rattle.krb_name.specs.File.{file_limit, IsGiven};
+ghost use Rattle.krb_file.specs.File.{file_limit, IsGiven};
 ghost use Rattle.krb_ccache.specs.Format.{version_of, written, IsCache, IsAnswerOf, IsFaultOf};
 ghost use Rattle.krb_ccache.specs.Fault.{offset_of};
 ghost use Rattle.krb_ccache.specs.Offset.{clock_offset};

@@ -4,7 +4,7 @@ ghost use Rattle.std.specs.Prelude.{◌≡◌, ◌≤◌, None, Some, IfOk, OnEr
 ghost use Rattle.krb_ccache.specs.Format.{second_size};
 ghost use Rattle.krb_ccache.specs.Inner.Reading.{layout_at};
 
-use krb_name::{FileCursor, Short};
+use krb_file::{FileCursor, Short};
 
 /// How the parts of a file are laid out: by its version.
 #[derive(Clone, Copy)]

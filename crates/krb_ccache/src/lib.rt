@@ -37,7 +37,6 @@ mod part;
 mod reader;
 mod row;
 mod stepping;
-mod taker;
 mod typed;
 mod walking;
 mod writing;

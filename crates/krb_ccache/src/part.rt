@@ -3,7 +3,7 @@
 ghost use Rattle.std.specs.Prelude.{◌≡◌, ◌<◌, ◌^◌, ◌++◌, ℕ, true, List, All, MatchBool, OnOk, length};
 ghost use Rattle.std.specs.Int.{w32};
 ghost use Rattle.std.specs.List.{flat_map};
-ghost use Rattle.krb_name.specs.Cursor.{data_bytes};
+ghost use Rattle.krb_file.specs.Cursor.{data_bytes};
 ghost use Rattle.krb_ccache.specs.Spelling.{field_bytes, name_bytes, typed_bytes, list_bytes, credential_bytes};
 ghost use Rattle.krb_ccache.specs.Value.{HasNameLengths, HasListLengths, HasCredentialLengths, FitsName, FitsList, FitsCredential};
 ghost use Rattle.krb_ccache.specs.Inner.Reading.{is_field};
@@ -12,7 +12,7 @@ ghost use Rattle.krb_ccache.specs.Inner.Standing.{FitsField, Leaves};
 use crate::credential::{Credential, HeaderField};
 use crate::header::{OFFSET_LENGTH, OFFSET_TAG};
 use crate::typed::{TypedBytes, TypedList};
-use crate::writing::{write_i32, write_u16, write_u32};
+use crate::writing::{write_bytes, write_u16, write_u32};
 use krb_name::{Bytes, Principal};
 use std::alloc::AllocError;
 
@@ -111,22 +111,21 @@ impl Part for Principal {
 
     fn fits(&self) -> bool {
         let _name_type = self.name_type;
-        self.components.len() <= MOST_32
-            && self.realm.fits()
-            && fits_each(self.components.as_slice())
+        let _spelled = self.components.spelled();
+        self.components.len() <= MOST_32 && self.realm.fits()
     }
 
     #[tactic(auto, using(crate::proofs::RoomLaws::sizes))]
     fn behind(&self, left: usize) -> Option<usize> {
         let rest = self.realm.behind(left.checked_sub(8)?)?;
-        behind_each(rest, self.components.as_slice())
+        rest.checked_sub(self.components.spelled().len())
     }
 
     fn write(&self, out: &mut Vec<u8>) -> Result<(), AllocError> {
-        write_i32(out, self.name_type)?;
+        write_u32(out, self.name_type.cast_unsigned())?;
         write_u32(out, self.components.len() as u32)?;
         self.realm.write(out)?;
-        write_each(out, self.components.as_slice())
+        write_bytes(out, self.components.spelled())
     }
 }
 

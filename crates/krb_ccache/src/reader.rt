@@ -1,10 +1,10 @@
 //! A reader that returns the credentials of a cache one at a time.
 
 ghost use Rattle.std.specs.Prelude.{◌≡◌, ◌+◌, ◌≤◌, ◌↔◌, ℕ, true, false, List, [], max, length, IsTrue, IfOk, IfErr, IfSome, MatchResult, OnErr, Option, Ok, Err, None};
-ghost use Rattle.krb_name.specs.Flow.{counted};
+ghost use Rattle.krb_file.specs.Flow.{counted};
 ghost use Rattle.krb_ccache.specs.Configuration.{IsConfiguration};
 ghost use Rattle.krb_ccache.specs.Fault.{failed_reads};
-ghost use Rattle.krb_name.specs.File.{file_limit, TakesFile, GivesWithin};
+ghost use Rattle.krb_file.specs.File.{file_limit, TakesFile, GivesWithin};
 ghost use Rattle.krb_ccache.specs.Format.{head_bytes, credential_length};
 ghost use Rattle.krb_ccache.specs.Offset.{IsOffsetOf};
 ghost use Rattle.krb_ccache.specs.Reader.{ended_by as ended_by_answer, ended_passed, passed, last_answer, with_credential, HasRead, Gave, GaveOne, PassedOne, HeldPart, StaysAtEnd, GaveFault, EndsFile, HasFileFault, StopsInFile};
@@ -13,11 +13,11 @@ ghost use Rattle.krb_ccache.specs.Value.{Cache, cache_of};
 ghost use Rattle.krb_ccache.specs.Types.{Credential as CredentialValue};
 
 use crate::configuration::{is_entry, offset_in};
-use crate::credential::{Credential, HeaderField};
+use crate::credential::Credential;
 use crate::fault::CacheFault;
-use crate::layout::Layout;
 use crate::stepping::{Start, begin, step, step_past};
-use krb_name::{Principal, Source, Window};
+use krb_file::{Source, Window};
+use krb_name::Principal;
 use std::alloc::Global;
 use std::marker::Model;
 
@@ -28,15 +28,13 @@ use std::marker::Model;
 #[derive(Drop)]
 pub struct CredentialReader<S> {
     window: Window<S>,
-    layout: Layout,
-    header: Vec<HeaderField>,
-    default_principal: Principal,
+    start: Start,
     ended: Option<Result<(), CacheFault>>,
 }
 
 impl<S> Model for CredentialReader<S> {
     ghost use Rattle.std.specs.Prelude.{◌≡◌, ◌≤◌, ◌+◌, None};
-    ghost use Rattle.krb_name.specs.File.{file_limit};
+    ghost use Rattle.krb_file.specs.File.{file_limit};
     ghost use Rattle.krb_ccache.specs.Reader.{Reading};
     ghost use Rattle.krb_ccache.specs.Value.{FitsHeader};
 
@@ -44,15 +42,15 @@ impl<S> Model for CredentialReader<S> {
 
     ghost view = { λ r. record {
       source = r.window.source;
-      layout = r.layout;
-      header = r.header.items;
-      default_principal = r.default_principal;
+      layout = r.start.layout;
+      header = r.start.header.items;
+      default_principal = r.start.default_principal;
       given = r.window.given;
       held = r.window.peak;
       ended = r.ended;
     } };
 
-    ghost invariant = { λ r. FitsHeader r.header.items
+    ghost invariant = { λ r. FitsHeader r.start.header.items
         × (r.window.peak ≤ file_limit) × (r.ended ≡ None → r.window.given ≤ file_limit)
         × (r.window.given ≤ file_limit + 1) };
 }
@@ -90,17 +88,9 @@ impl<S: Source> CredentialReader<S> {
     {
         let mut window = Window::new(alloc, source);
         match begin(alloc, &mut window) {
-            Ok(
-                Start {
-                    layout,
-                    header,
-                    default_principal,
-                },
-            ) => Ok(CredentialReader {
+            Ok(start) => Ok(CredentialReader {
                 window,
-                layout,
-                header,
-                default_principal,
+                start,
                 ended: None,
             }),
             Err(fault) => Err((window.into_source(), fault)),
@@ -156,7 +146,7 @@ impl<S: Source> CredentialReader<S> {
         if let Some(ended) = self.ended {
             return ended.map(|()| None);
         }
-        let answer = step(alloc, self.layout, &mut self.window);
+        let answer = step(alloc, self.start.layout, &mut self.window);
         self.ended = ended_by(is_there(&answer));
         answer
     }
@@ -201,7 +191,7 @@ impl<S: Source> CredentialReader<S> {
         if let Some(ended) = self.ended {
             return ended.map(|()| false);
         }
-        let answer = step_past(self.layout, &mut self.window);
+        let answer = step_past(self.start.layout, &mut self.window);
         self.ended = ended_by(answer);
         answer
     }
@@ -230,9 +220,7 @@ impl<S: Source> CredentialReader<S> {
     {
         let CredentialReader {
             window,
-            layout: _,
-            header: _,
-            default_principal: _,
+            start: _,
             ended: _,
         } = self;
         window.into_source()
@@ -242,14 +230,14 @@ impl<S: Source> CredentialReader<S> {
     pub fn default_principal(&self) -> &Principal
         ensures { result.now ≡ self.now.default_principal }
     {
-        &self.default_principal
+        &self.start.default_principal
     }
 
     /// Returns the KDC's clock offset, as `CCache::kdc_offset` does.
     pub fn kdc_offset(&self) -> Option<(i32, i32)>
         ensures { IsOffsetOf self.now.header result }
     {
-        offset_in(self.header.as_slice())
+        offset_in(self.start.header.as_slice())
     }
 
     /// Returns whether `credential` is a configuration entry, as `CCache::is_configuration` does.

@@ -2,7 +2,7 @@
 
 ghost use Rattle.std.specs.Prelude.{◌<◌, ◌^◌, ◌++◌};
 ghost use Rattle.std.specs.Int.{w32};
-ghost use Rattle.krb_name.specs.Cursor.{number_bytes};
+ghost use Rattle.krb_file.specs.Cursor.{number_bytes};
 ghost use Rattle.krb_ccache.specs.Spelling.{flag_bytes};
 
 use crate::part::Part;

@@ -5,7 +5,8 @@ ghost use Rattle.krb_ccache.specs.declared.typed.TypedBytes.{TypedBytes as Typed
 
 use crate::item_fault::ItemFault;
 use crate::items::{Listed, read_data};
-use krb_name::{Bytes, FileCursor};
+use krb_file::FileCursor;
+use krb_name::Bytes;
 use std::alloc::{AllocError, Global};
 use std::marker::Model;
 

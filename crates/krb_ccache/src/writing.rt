@@ -3,7 +3,7 @@
 
 ghost use Rattle.std.specs.Prelude.{◌≡◌, ◌++◌, MatchBool, OnOk, length};
 ghost use Rattle.std.specs.Int.{w16, w32};
-ghost use Rattle.krb_name.specs.Cursor.{number_bytes, signed_bytes};
+ghost use Rattle.krb_file.specs.Cursor.{number_bytes};
 ghost use Rattle.krb_ccache.specs.Spelling.{header_bytes};
 ghost use Rattle.krb_ccache.specs.Inner.Standing.{Leaves};
 ghost use Rattle.krb_ccache.specs.Value.{HasHeaderLengths, FitsHeader};
@@ -12,6 +12,13 @@ use crate::credential::HeaderField;
 use crate::part::{MOST_16, behind_each, fits_each, write_each};
 use byteorder::{BigEndian, ByteOrder};
 use std::alloc::AllocError;
+
+/// Writes bytes after what was written before.
+pub(crate) fn write_bytes(out: &mut Vec<u8>, bytes: &[u8]) -> Result<(), AllocError>
+    ensures { OnOk result (out.new.items ≡ out.old.items ++ bytes.now) }
+{
+    out.extend_from_slice(bytes)
+}
 
 pub(crate) fn write_u16(out: &mut Vec<u8>, number: u16) -> Result<(), AllocError>
     ensures { OnOk result (out.new.items ≡ out.old.items ++ number_bytes w16 number) }
@@ -27,18 +34,6 @@ pub(crate) fn write_u32(out: &mut Vec<u8>, number: u32) -> Result<(), AllocError
     let mut bytes = [0u8; 4];
     BigEndian::write_u32(&mut bytes, number);
     out.extend_from_slice(&bytes)
-}
-
-pub(crate) fn write_i16(out: &mut Vec<u8>, number: i16) -> Result<(), AllocError>
-    ensures { OnOk result (out.new.items ≡ out.old.items ++ signed_bytes w16 number) }
-{
-    write_u16(out, number.cast_unsigned())
-}
-
-pub(crate) fn write_i32(out: &mut Vec<u8>, number: i32) -> Result<(), AllocError>
-    ensures { OnOk result (out.new.items ≡ out.old.items ++ signed_bytes w32 number) }
-{
-    write_u32(out, number.cast_unsigned())
 }
 
 pub(crate) fn write_header(out: &mut Vec<u8>, header: &[HeaderField]) -> Result<(), AllocError>

@@ -15,9 +15,10 @@ use hex::FromHexError;
 use krb_ap::laws::{agreed_or_refused, built_or_prevented};
 use krb_ap::{Agreed, FinishFault, Pending, RequestFault, RequestOptions, make_request};
 use krb_ccache::CCache;
+use krb_file::Source;
 use krb_file_commands::Product;
 use krb_msg::{Moment, RawKey};
-use krb_name::{Principal, Source};
+use krb_name::Principal;
 use std::alloc::{AllocError, Global};
 
 // The request was sent with a confounder of its own, on which nothing of the reply depends.

@@ -17,10 +17,11 @@ use krb_ap::laws::built_or_prevented;
 use krb_ap::{ContextRequest, RequestFault, RequestOptions, make_request};
 use krb_call_lines::confounder_of;
 use krb_ccache::CCache;
+use krb_file::Source;
 use krb_file_commands::Product;
 use krb_gss::{Mechanism, WrapFault, Wrapping, wrap_request};
 use krb_msg::Moment;
-use krb_name::{Principal, Source};
+use krb_name::Principal;
 use std::alloc::{AllocError, Global};
 
 /// Reads a confounder: 16 bytes in hexadecimal. `None` unless there are 32 digits, of either case, and nothing else.

@@ -2,9 +2,10 @@
 
 use anyhow::Result;
 use krb_ccache::CCache;
+use krb_file::{ReadSource, WriteSink, write_all};
 use krb_index::{HashIndex, Maxima};
 use krb_keytab::{EntryReader, Keytab};
-use krb_name::{Bytes, Components, Principal, ReadSource, WriteSink, write_all};
+use krb_name::{Bytes, Components, Principal};
 use krb_readable::readable_keytab;
 use std::alloc::Global;
 use std::fs::File;
@@ -24,11 +25,17 @@ pub fn find_in_lists(alloc: Global) -> Result<()> {
     Ok(())
 }
 
+/// Writes bytes.
+pub fn write_bytes(rt: &HostRuntime) -> Result<()> {
+    write_all(&mut WriteSink::new(io::writer(rt)), b"host/web@EX")?;
+    Ok(())
+}
+
 /// Writes a name.
 pub fn write_name(rt: &HostRuntime, alloc: Global) -> Result<()> {
     let mut components = Components::new(alloc);
-    components.push(Bytes::from_slice(alloc, b"host")?)?;
-    components.push(Bytes::from_slice(alloc, b"web")?)?;
+    components.push(b"host")?;
+    components.push(b"web")?;
     let principal = Principal {
         realm: Bytes::from_slice(alloc, b"EX")?,
         name_type: 3,

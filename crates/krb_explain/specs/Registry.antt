@@ -3,7 +3,7 @@ use Rattle.std.specs.Prelude.{ℕ, ℤ, pos, List, [], ◌∷◌, ◌++◌, Opti
 use Rattle.std.specs.Int.{w32}
 use Rattle.std.specs.List.{flat_map}
 use Rattle.hex.specs.Hex.{encode_lower}
-use Rattle.krb_name.specs.Cursor.{number_bytes}
+use Rattle.krb_file.specs.Cursor.{number_bytes}
 use Rattle.krb_der.specs.Flags.{has_bit}
 use Rattle.krb_explain.specs.Named.{first_name}
 use Rattle.krb_readable.specs.Named.{name_in}

@@ -11,7 +11,7 @@ looks =
     ∷ (500, codes "the service's name as the client asks for it, with host name and realm; `krbtool list-keytab`")
     ∷ (600, codes "the types in the keytab")
     ∷ (700, codes "the key was changed at the KDC: add the new key to the keytab, and have the service read it; or the client's ticket is old")
-    ∷ (800, codes "the keytab's key isn't the KDC's of that version number")
+    ∷ (800, codes "the keytab's key isn't the KDC's of that version number; of two entries of one name, type and number the first is used")
     ∷ (900, codes "the type of session keys that the KDC makes")
     ∷ (1000, codes "what the client sent: `krbtool explain` shows the request; then the client's library and its version")
     ∷ (1100, codes "what the client sent: `krbtool explain` shows the request; then the client's library and its version")

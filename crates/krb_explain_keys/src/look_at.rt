@@ -38,7 +38,7 @@ static LOOKS: [Look; 18] = [
     ),
     Look(
         800,
-        "the keytab's key isn't the KDC's of that version number",
+        "the keytab's key isn't the KDC's of that version number; of two entries of one name, type and number the first is used",
     ),
     Look(900, "the type of session keys that the KDC makes"),
     Look(

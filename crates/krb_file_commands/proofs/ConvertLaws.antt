@@ -1,8 +1,8 @@
 -- A file that is written again, or is too long for that.
 use Rattle.std.proofs.Common.{◌≡◌, ◌⊎◌, ◌<◌, ◌≤◌, ℕ, List, Option, Result, Ok, Err, length, refl, sym, ap, subst, ◌∙◌, arith, inl, inr}
 use Rattle.std.specs.Prelude.{◌≢◌, ◌↔◌, ⊤, IfOk, IfErr, OnErr, OnOk}
-use Rattle.krb_name.specs.File.{ReadsFile, file_limit}
-use Rattle.krb_name.specs.Flow.{counted}
+use Rattle.krb_file.specs.File.{ReadsFile, file_limit}
+use Rattle.krb_file.specs.Flow.{counted}
 use Rattle.krb_keytab.specs.declared.fault.KeytabFault.{KeytabFault}
 use Rattle.krb_keytab.specs.declared.fault.KeytabFault.TheVariants as keytab
 use Rattle.krb_file_commands.specs.Converting.{IsUnwritten}

@@ -1,8 +1,8 @@
 -- What is made of a file that was read, or why nothing is.
 use Rattle.std.proofs.Common.{◌≡◌, ◌∙◌, ℕ, List, Option, Some, Result, Ok, Err, refl, ap, subst}
 use Rattle.std.specs.Prelude.{◌≢◌, ⊤, IfOk, IfErr, IfSome, OnOk}
-use Rattle.krb_name.specs.File.{ReadsFile, TakesFile}
-use Rattle.krb_name.specs.Flow.{counted}
+use Rattle.krb_file.specs.File.{ReadsFile, TakesFile}
+use Rattle.krb_file.specs.Flow.{counted}
 use Rattle.krb_keytab.specs.Entry.{KeytabEntry}
 use Rattle.krb_keytab.specs.Fault as keytab_fault
 use Rattle.krb_keytab.specs.Format as keytab

@@ -1,7 +1,7 @@
 -- A keytab that is edited: what was taken of it, and why it isn't changed.
 use Rattle.std.proofs.Common.{◌≡◌, ℕ, ◌<◌, List, length, Option, Some, None, Result, Ok, Err, ◌⊎◌, ◌∙◌, refl, sym, ap, subst, arith, inl, inr}
 use Rattle.std.specs.Prelude.{◌≢◌, ◌↔◌, IfSome}
-use Rattle.krb_name.specs.File.{file_limit}
+use Rattle.krb_file.specs.File.{file_limit}
 use Rattle.krb_keytab.specs.Edit.{MakesHole, LosesEntry, LacksEntry}
 use Rattle.krb_keytab.specs.Format.{IsFaultOf}
 use Rattle.krb_keytab.specs.declared.fault.KeytabFault.{KeytabFault}

@@ -15,14 +15,14 @@ use Rattle.krb_keytab.specs.declared.stage.Stage.TheVariants.{End, Failed}
 use Rattle.krb_ccache.specs.Format as cache
 use Rattle.krb_ccache.specs.Offset.{clock_offset}
 use Rattle.krb_ccache.specs.Reader as reads
-use Rattle.krb_name.specs.File.{file_limit, IsGiven, TakesFile, GivesWithin}
+use Rattle.krb_file.specs.File.{file_limit, IsGiven, TakesFile, GivesWithin}
 use Rattle.krb_ccache.specs.Value.{Cache}
 use Rattle.krb_ccache.specs.declared.credential.Credential.{Credential}
 use Rattle.krb_ccache.specs.declared.fault.CacheFault.{CacheFault}
 use Rattle.krb_file_commands.specs.Engine.{OfFile}
 use Rattle.krb_file_commands.specs.Lines.{keytab_line, keytab_lines, credential_line, head_lines, cache_lines}
 use Rattle.krb_file_commands.specs.Inner.Walk.{EntriesGiven, EntriesCounted, EntriesListed, CredentialsGiven, CredentialsCounted, CredentialsListed}
-use Rattle.krb_name.proofs.FileLaws.{gives_then, takes_file}
+use Rattle.krb_file.proofs.FileLaws.{gives_then, takes_file}
 
 -- ---- a keytab
 

@@ -1,9 +1,9 @@
 -- The bytes of a whole keytab that were taken from a source: what they are, and their fault.
 use Rattle.std.proofs.Common.{◌≡◌, ◌<◌, ◌≤◌, ◌+◌, ℕ, Bool, true, false, List, length, Option, Some, None, Result, Ok, Err, sym, subst, arith, inl, inr}
 use Rattle.std.specs.Prelude.{IfSome}
-use Rattle.krb_name.specs.File.{file_limit, TakesFile}
-use Rattle.krb_name.specs.Window.{AtHand, CameOf, Fills}
-use Rattle.krb_name.specs.declared.reading.ReadFault.{ReadFault}
+use Rattle.krb_file.specs.File.{file_limit, TakesFile}
+use Rattle.krb_file.specs.Window.{AtHand, CameOf, Fills}
+use Rattle.krb_file.specs.declared.reading.ReadFault.{ReadFault}
 use Rattle.krb_keytab.specs.Entry.{KeytabEntry}
 use Rattle.krb_keytab.specs.Format.{IsFaultOf, IsKeytab}
 use Rattle.krb_keytab.specs.declared.fault.KeytabFault.{KeytabFault}

@@ -1,6 +1,6 @@
 -- Why a file isn't written again.
 use Rattle.std.specs.Prelude.{◌≡◌, ◌⊎◌, ◌<◌, ℕ, List, length}
-use Rattle.krb_name.specs.File.{file_limit}
+use Rattle.krb_file.specs.File.{file_limit}
 
 -- the bytes aren't such a file, for this reason; or what it would be written as is too long
 abbrev pub IsUnwritten : {V F : Type 0} → (List ℕ → V → Type 0) → (List ℕ → F → Type 0) → F → (V → List ℕ) → List ℕ → F → Type 0

@@ -1,7 +1,7 @@
 -- What a command makes of the file that it reads, or why it makes nothing; and what of that its sink takes.
 use Rattle.std.specs.Prelude.{◌≡◌, ◌≢◌, ⊤, ℕ, List, Option, Some, Result, Ok, Err, IfOk, IfErr, IfSome, OnOk}
-use Rattle.krb_name.specs.File.{TakesFile}
-use Rattle.krb_name.specs.Flow.{counted}
+use Rattle.krb_file.specs.File.{TakesFile}
+use Rattle.krb_file.specs.Flow.{counted}
 use Rattle.krb_file_commands.specs.declared.engine.Ended.{Ended}
 use Rattle.krb_file_commands.specs.declared.engine.Ended.TheVariants.{Unmade, Write}
 

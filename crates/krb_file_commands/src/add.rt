@@ -1,13 +1,13 @@
 //! What `add-keys` makes: a keytab with the keys of another that it lacks.
 
 ghost use Rattle.std.specs.Prelude.{◌≡◌, ◌≢◌, ◌⊎◌, ◌++◌, ◌≤◌, ◌↔◌, ℕ, List, Some, IsTrue, IfOk, IfErr, IfSome, OnOk, length, take};
-ghost use Rattle.krb_name.specs.Flow.{counted};
+ghost use Rattle.krb_file.specs.Flow.{counted};
 ghost use Rattle.krb_keytab.specs.Edit.{WouldPass};
 ghost use Rattle.krb_keytab.specs.Entry.{KeytabEntry};
 ghost use Rattle.krb_keytab.specs.Format.{IsFaultOf, IsKeytab};
 ghost use Rattle.krb_keytab.specs.SameKey.{HasKeyOf};
 ghost use Rattle.krb_keytab.specs.declared.fault.KeytabFault.{KeytabFault};
-ghost use Rattle.krb_name.specs.File.{TakesFile};
+ghost use Rattle.krb_file.specs.File.{TakesFile};
 ghost use Rattle.krb_file_commands.specs.Adding.{Extends, IsExtended, IsOfHeld, IsUnextended, PassesLimit};
 ghost use Rattle.krb_file_commands.specs.Engine.{failed_by};
 ghost use Rattle.krb_file_commands.specs.Inner.Adding.{TakesEntry};
@@ -16,9 +16,9 @@ ghost use Rattle.krb_file_commands.specs.Status as status;
 
 use crate::fault::AddFault;
 use crate::whole::read_bytes;
+use krb_file::Source;
 use krb_keytab::laws::each_file_has_one_answer;
 use krb_keytab::{Entry, EntryAdder, KeyIndex, Keytab, KeytabFault};
-use krb_name::Source;
 use std::alloc::Global;
 
 /// Reads a keytab and another, and returns the bytes of the first with the keys of the other that it lacks.

@@ -11,8 +11,8 @@ use crate::count::Count;
 use crate::engine::Product;
 use crate::walk::{walk_ccache, walk_keytab};
 use krb_ccache::CacheFault;
+use krb_file::Source;
 use krb_keytab::KeytabFault;
-use krb_name::Source;
 use std::alloc::Global;
 
 /// `check-keytab` makes the line `ok N`: N is how many entries the keytab has. Holes aren't counted.

@@ -12,8 +12,8 @@ ghost use Rattle.krb_file_commands.specs.Status.{cache_reads, keytab_reads};
 
 use crate::engine::Product;
 use krb_ccache::{CCache, CacheFault};
+use krb_file::Source;
 use krb_keytab::{Keytab, KeytabFault};
-use krb_name::Source;
 use std::alloc::Global;
 
 /// `convert-keytab` makes the keytab's bytes, without holes and without what follows its entries. The entries and their order

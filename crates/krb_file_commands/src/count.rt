@@ -5,8 +5,8 @@ ghost use Rattle.krb_file_commands.specs.Lines.{ok_line};
 
 use crate::walk::{FromCredentials, FromEntries};
 use krb_ccache::{CacheFault, CredentialReader};
+use krb_file::Source;
 use krb_keytab::{EntryReader, KeytabFault};
-use krb_name::Source;
 use std::alloc::{AllocError, Global};
 
 /// Makes the line.

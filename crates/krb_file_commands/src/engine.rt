@@ -2,12 +2,12 @@
 
 ghost use Rattle.std.specs.Prelude.{◌≡◌, ◌≢◌, ⊤, ℕ, List, Option, Some, Err, IfOk, IfSome, length};
 ghost use Rattle.std.specs.Io.KnownBytes.{Appends, Keeps};
-ghost use Rattle.krb_name.specs.File.{TakesFile};
-ghost use Rattle.krb_name.specs.Flow.{counted, AppendsBeginning};
+ghost use Rattle.krb_file.specs.File.{TakesFile};
+ghost use Rattle.krb_file.specs.Flow.{counted, AppendsPart};
 ghost use Rattle.krb_file_commands.specs.Engine.{IfUnmade, IsUnmade, Makes, failed_reads, failed_writes};
 
 use crate::failure::Failure;
-use krb_name::{Sink, Source, write_all};
+use krb_file::{Sink, Source, write_all};
 use std::alloc::Global;
 
 /// Why a command ended early.
@@ -66,10 +66,10 @@ pub fn produce<P: Product, S: Source, T: Sink>(
         → S.remaining source.old ≡ Some given → P.faults product.now given e → IsUnmade result }
     ensures allowed { IfUnmade result (P.allows product.now (S.remaining source.old)) }
 
-    // If nothing is made, the sink is unchanged; if it fails, it took a beginning.
+    // If nothing is made, the sink is unchanged; if it fails, it took a part.
     ensures unmade { IfUnmade result (λ _. Keeps (T.taken sink.old) (T.taken sink.new)) }
     ensures begun { result ≡ Err Ended.Write → (bytes : List ℕ) × (P.makes product.now (S.remaining source.old) bytes
-        × AppendsBeginning (T.taken sink.old) (T.taken sink.new) bytes) }
+        × AppendsPart (T.taken sink.old) (T.taken sink.new) bytes) }
     ensures reads { S.failure_count source.new ≡ counted (S.failure_count source.old) (failed_reads P.failed_reads result) }
     ensures taken { TakesFile (S.remaining source.old) (S.remaining source.new) }
     ensures writes { T.failure_count sink.new ≡ counted (T.failure_count sink.old) (failed_writes result) }

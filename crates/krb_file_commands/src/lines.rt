@@ -5,8 +5,9 @@ ghost use Rattle.krb_file_commands.specs.Lines.{keytab_line, keytab_lines, head_
 
 use crate::walk::{FromCredentials, FromEntries};
 use krb_ccache::{CCache, CacheFault, Credential, CredentialReader};
+use krb_file::Source;
 use krb_keytab::{Entry, EntryReader, KeytabFault};
-use krb_name::{Principal, Source};
+use krb_name::Principal;
 use std::alloc::{AllocError, Global};
 use std::fmt::Write;
 

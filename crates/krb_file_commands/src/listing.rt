@@ -13,8 +13,8 @@ use crate::engine::Product;
 use crate::lines::Lines;
 use crate::walk::{walk_ccache, walk_keytab};
 use krb_ccache::{CCache, CacheFault};
+use krb_file::Source;
 use krb_keytab::{Keytab, KeytabFault};
-use krb_name::Source;
 use krb_readable::{readable_ccache, readable_keytab};
 use std::alloc::Global;
 

@@ -12,9 +12,10 @@ use crate::engine::Product;
 use crate::fault::PickFault;
 use crate::lines::write_entry;
 use crate::of_type::pick_of;
+use krb_file::Source;
 use krb_keytab::laws::{each_choice_is_one, each_file_has_one_answer};
 use krb_keytab::{Entry, Keytab, Picked};
-use krb_name::{Principal, Source};
+use krb_name::Principal;
 use std::alloc::{AllocError, Global};
 
 /// `pick-key` makes the line of the entry of a keytab that has the key of a ticket for `name`. `Keytab::pick` picks it if the type is 19 or

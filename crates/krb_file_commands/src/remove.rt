@@ -6,8 +6,8 @@ ghost use Rattle.krb_file_commands.specs.Status.{keytab_reads};
 
 use crate::engine::Product;
 use crate::whole::read_bytes;
+use krb_file::Source;
 use krb_keytab::{Keytab, KeytabFault};
-use krb_name::Source;
 use std::alloc::Global;
 
 /// `remove-key` makes the keytab's bytes with a hole in place of the entry `index`, which has the size of the entry's record and only

@@ -2,14 +2,14 @@
 
 ghost use Rattle.std.specs.Prelude.{◌≡◌, ◌≢◌, ◌≤◌, ◌⊎◌, None, IfErr, IfOk, OnOk};
 ghost use Rattle.krb_file_commands.specs.Status as status;
-ghost use Rattle.krb_name.specs.Flow.{source_failures};
+ghost use Rattle.krb_file.specs.Flow.{source_failures};
 
 use crate::engine::{Ended, Product, produce};
 use crate::failure::{FAILED, Failure};
 use crate::fault_lines::{FaultLine, fault_line, file_line, memory_line, same_line, write_line};
 use crate::new_file::{OWNER_ALONE, close_to_others};
 use crate::one_file::is_open_file;
-use krb_name::{ReadSource, WriteSink};
+use krb_file::{ReadSource, WriteSink};
 use std::fs::{File, OpenOptions};
 use std::io;
 use std::io::{BufReader, Read, Write};

@@ -8,8 +8,8 @@ ghost use Rattle.krb_file_commands.specs.Inner.Reading.{ReadsKeytab, ReadsCache}
 ghost use Rattle.krb_file_commands.specs.Inner.Walk.{IsOpened};
 
 use krb_ccache::{CacheFault, CredentialReader};
+use krb_file::Source;
 use krb_keytab::{EntryReader, KeytabFault};
-use krb_name::Source;
 use std::alloc::Global;
 
 /// What is made of the entries of a keytab.

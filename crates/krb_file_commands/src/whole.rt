@@ -1,14 +1,14 @@
 //! The bytes of a whole keytab.
 
 ghost use Rattle.std.specs.Prelude.{◌≡◌, ◌⊎◌, [], IfOk, IfErr, IfSome};
-ghost use Rattle.krb_name.specs.Flow.{counted};
-ghost use Rattle.krb_name.specs.File.{TakesFile};
+ghost use Rattle.krb_file.specs.Flow.{counted};
+ghost use Rattle.krb_file.specs.File.{TakesFile};
 ghost use Rattle.krb_file_commands.specs.Engine.{failed_by};
 ghost use Rattle.krb_file_commands.specs.Inner.Whole.{HoldsFile};
 ghost use Rattle.krb_file_commands.specs.Status.{keytab_reads};
 
+use krb_file::{FILE_LIMIT, Source, Window};
 use krb_keytab::KeytabFault;
-use krb_name::{FILE_LIMIT, Source, Window};
 use std::alloc::Global;
 
 /// Reads the bytes of a keytab from a source, to its end or to one byte past 16,777,216.

@@ -5,7 +5,7 @@ use Rattle.std.specs.Prelude.{All}
 use Rattle.std.proofs.lemmas.List.{length-append, take_at}
 use Rattle.std.proofs.lemmas.List.Elements.{All-push}
 use Rattle.krb_keytab.specs.Entry.{KeytabEntry, FitsEntry}
-use Rattle.krb_name.specs.File.{file_limit}
+use Rattle.krb_file.specs.File.{file_limit}
 use Rattle.krb_keytab.specs.Format.{version, KeytabRecord, hole, record_bytes, FitsRecord, entries_of, IsKeytab, IsFaultOf}
 use Rattle.krb_keytab.specs.Written.{padded_record, written_record, record_length}
 use Rattle.krb_keytab.specs.Edit.{IsMadeOf, LacksRoom, FillsHole, Appends, AddsEntry, GainsEntry, WouldPass}

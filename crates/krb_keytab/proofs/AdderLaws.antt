@@ -3,7 +3,7 @@ use Rattle.std.proofs.Common.{◌≡◌, ℕ, ◌+◌, ◌-◌, ◌<◌, ◌≤�
 use Rattle.std.specs.List.{flat_map}
 use Rattle.std.specs.Prelude.{All}
 use Rattle.std.proofs.lemmas.List.{length-append}
-use Rattle.krb_name.specs.File.{file_limit}
+use Rattle.krb_file.specs.File.{file_limit}
 use Rattle.krb_keytab.specs.Entry.{KeytabEntry, FitsEntry}
 use Rattle.krb_keytab.specs.Format.{version, KeytabRecord, hole, record_bytes}
 use Rattle.krb_keytab.specs.Written.{padded_record, written_record, record_length}

@@ -4,18 +4,18 @@ use Rattle.std.specs.Int.{w32}
 use Rattle.std.specs.Prelude.{FitsSigned}
 use Rattle.std.proofs.lemmas.Bool.{cases_lt}
 use Rattle.std.proofs.lemmas.List.{length-append, length-take, take-append-drop, drop_at}
-use Rattle.krb_name.specs.Cursor.{Place, signed_at, signed_bytes}
-use Rattle.krb_name.specs.Field.{IsBytes}
-use Rattle.krb_name.proofs.CursorLaws.{IsField-i32, IsBytes-take, IsBytes-drop}
+use Rattle.krb_file.specs.Cursor.{Place, signed_at, signed_bytes}
+use Rattle.krb_file.specs.Field.{IsBytes}
+use Rattle.krb_file.proofs.CursorLaws.{IsField-i32, IsBytes-take, IsBytes-drop}
 use Rattle.krb_keytab.specs.Entry.{KeytabEntry}
-use Rattle.krb_name.specs.File.{file_limit}
+use Rattle.krb_file.specs.File.{file_limit}
 use Rattle.krb_keytab.specs.Format.{version, IsReached, IsAnswerOf}
 use Rattle.krb_keytab.specs.Items.{LacksRecord, LacksVersion}
 use Rattle.krb_keytab.specs.Inner.Entry.{HoldsEntry, HoldsNone}
 use Rattle.krb_keytab.specs.Inner.Meeting.{IsWhole}
 use Rattle.krb_keytab.specs.declared.fault.KeytabFault.{KeytabFault}
 use Rattle.krb_keytab.specs.declared.fault.KeytabFault.TheVariants.{Version, Truncated, BadEntry, TooLong}
-use Rattle.krb_name.proofs.ShortLaws.{short_signed}
+use Rattle.krb_file.proofs.ShortLaws.{short_signed}
 use Rattle.krb_keytab.proofs.EntryLaws.{some_holds}
 use Rattle.krb_keytab.proofs.FileLaws.{reach_start, record_first}
 use Rattle.krb_keytab.proofs.MeetLaws.{cut_off, hole_whole, entry_whole, no_entry}

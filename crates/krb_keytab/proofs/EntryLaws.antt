@@ -2,10 +2,10 @@
 use Rattle.std.proofs.Common.{◌≡◌, ◌⊎◌, ℕ, ◌+◌, ◌<◌, ◌^◌, Bool, true, false, cond, leb, eqb, not, ◌&&◌, List, ◌++◌, length, take, Option, Some, None, refl, sym, ap, subst, ◌∙◌, inl, inr, arith, append_assoc}
 use Rattle.std.specs.Int.{w32, from_be_bytes}
 use Rattle.std.proofs.lemmas.List.Elements.{All-from_recursion, recursion_from_All}
-use Rattle.krb_name.specs.Cursor.{Place}
-use Rattle.krb_name.specs.Field.{IsBytes, Takes}
-use Rattle.krb_name.proofs.CursorLaws.{some_is, IsBytes-take}
-use Rattle.krb_name.proofs.Rows.{Spelling}
+use Rattle.krb_file.specs.Cursor.{Place}
+use Rattle.krb_file.specs.Field.{IsBytes, Takes}
+use Rattle.krb_file.proofs.CursorLaws.{some_is, IsBytes-take}
+use Rattle.krb_file.proofs.Rows.{Spelling}
 use Rattle.krb_keytab.specs.Entry.{KeytabEntry}
 use Rattle.krb_keytab.specs.Format.{entry, entry_bytes, full_kvno, IsEntry}
 use Rattle.krb_keytab.specs.Inner.Entry.{HoldsEntry, HoldsNone}

@@ -7,7 +7,7 @@ use Rattle.std.proofs.Math.Seq.{get_or-append_seam}
 use Rattle.std.proofs.lemmas.List.{length-append}
 use Rattle.std.proofs.lemmas.List.Concat.{flat_map-append}
 use Rattle.std.proofs.lemmas.List.Elements.{All-from_recursion}
-use Rattle.krb_name.specs.Cursor.{signed_bytes}
+use Rattle.krb_file.specs.Cursor.{signed_bytes}
 use Rattle.krb_keytab.specs.Entry.{KeytabEntry}
 use Rattle.krb_keytab.specs.Format.{version, KeytabRecord, hole, entry, entry_bytes, record_bytes, FitsRecord, IsReached}
 

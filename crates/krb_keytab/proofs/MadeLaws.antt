@@ -8,9 +8,9 @@ use Rattle.std.proofs.lemmas.Bool.{ne_eqb, le-leb}
 use Rattle.std.proofs.lemmas.Nat.{from_be_bytes-to_be_bytes_4}
 use Rattle.std.proofs.lemmas.List.{length-append, length-replicate}
 use Rattle.std.proofs.lemmas.List.Elements.{All-from_recursion, recursion_from_All}
-use Rattle.krb_name.specs.Cursor.{number_bytes, signed_bytes, data_bytes}
+use Rattle.krb_file.specs.Cursor.{number_bytes, signed_bytes, data_bytes}
 use Rattle.krb_keytab.specs.Entry.{KeytabEntry, LengthsFit, FitsEntry}
-use Rattle.krb_name.specs.File.{file_limit}
+use Rattle.krb_file.specs.File.{file_limit}
 use Rattle.krb_keytab.specs.Format.{version, full_kvno, KeytabRecord, record_bytes, FitsRecord, entries_of, IsKeytab, entry_bytes}
 use Rattle.krb_keytab.specs.Written.{padded_record, written_record, record_length, written}
 use Rattle.krb_keytab.specs.Edit.{IsMadeOf}

@@ -8,14 +8,15 @@ use Rattle.std.proofs.Math.Seq.{take-append-add}
 use Rattle.std.proofs.lemmas.Bool.{ltb-true}
 use Rattle.std.proofs.lemmas.Int.{to_z-of_z}
 use Rattle.std.proofs.lemmas.List.{length-append, length-take, nil_from_length}
-use Rattle.krb_name.specs.Cursor.{Place, signed_at, signed_bytes}
-use Rattle.krb_name.specs.Field.{IsBytes}
-use Rattle.krb_name.specs.Window.{AtHand, CameOf, Fills}
-use Rattle.krb_name.specs.declared.reading.ReadFault.{ReadFault}
-use Rattle.krb_name.specs.declared.reading.ReadFault.TheVariants as source
-use Rattle.krb_name.proofs.CursorLaws.{IsField-i32}
+use Rattle.krb_file.specs.Cursor.{Place, signed_at, signed_bytes}
+use Rattle.krb_file.specs.Field.{IsBytes}
+use Rattle.krb_file.specs.Window.{AtHand, CameOf, Fills}
+use Rattle.krb_file.specs.Hand.{Hand}
+use Rattle.krb_file.specs.declared.reading.ReadFault.{ReadFault}
+use Rattle.krb_file.specs.declared.reading.ReadFault.TheVariants as source
+use Rattle.krb_file.proofs.CursorLaws.{IsField-i32}
 use Rattle.krb_keytab.specs.Entry.{KeytabEntry}
-use Rattle.krb_name.specs.File.{file_limit}
+use Rattle.krb_file.specs.File.{file_limit}
 use Rattle.krb_keytab.specs.Fault.{source_fault}
 use Rattle.krb_keytab.specs.Format.{hole, entry, entry_bytes}
 use Rattle.krb_keytab.specs.Items.{LacksRecord, IsPartOfRecord}
@@ -24,8 +25,8 @@ use Rattle.krb_keytab.specs.Inner.Meeting.{Moves, Peaks, RanOut, RunsOutTo, IsWh
 use Rattle.krb_keytab.specs.declared.fault.KeytabFault.{KeytabFault}
 use Rattle.krb_keytab.specs.declared.fault.KeytabFault.TheVariants.{Truncated, BadEntry, TooLong, Read}
 use Rattle.krb_keytab.specs.declared.found.Found.{Found}
-use Rattle.krb_name.proofs.ShortLaws.{short_signed}
-use Rattle.krb_name.specs.declared.cursor.Short.{Short}
+use Rattle.krb_file.proofs.ShortLaws.{short_signed}
+use Rattle.krb_file.specs.declared.cursor.Short.{Short}
 
 -- ---- a source that runs out
 
@@ -177,12 +178,12 @@ pub fills_within : {S : Type 0} (from to : Option (List ℕ)) (old new : AtHand 
 fills_within from to old new count answer f = came_within answer count f.piece to f.came
 
 -- what was held, and what came after it until the source ran out
-pub held_out : {S T : Type 0} (IsPart : List ℕ → Type 0) {from mid to : Option (List ℕ)} (old : AtHand S) {between new : AtHand S} {count : ℕ} {came : Result Bool ReadFault} {last answer : Result T KeytabFault}
-    (f : Fills from mid (record old { bytes = [] }) between count came) (r : RunsOutTo mid to between new last answer) → IsPart f.piece → old.given + length f.piece ≤ file_limit
-    → Moves from to old new (f.piece ++ r.piece) × Peaks IsPart (f.piece ++ r.piece) old.peak new.peak
-held_out IsPart {from} {mid} {to} old {between} {new} f r part within = (
+pub held_out : {T : Type 0} (IsPart : List ℕ → Type 0) (old : Hand) {between new : Hand} {count : ℕ} {came : Result Bool ReadFault} {last answer : Result T KeytabFault}
+    (f : Fills old.source between.source (record old { bytes = [] }) between count came) (r : RunsOutTo between new last answer) → IsPart f.piece → old.given + length f.piece ≤ file_limit
+    → Moves old new (f.piece ++ r.piece) × Peaks IsPart (f.piece ++ r.piece) old.peak new.peak
+held_out IsPart old {between} {new} f r part within = (
   record {
-    consumed = Consumes-trans from mid to f.piece r.piece f.keeps.consumed r.moves.consumed;
+    consumed = Consumes-trans old.source between.source new.source f.piece r.piece f.keeps.consumed r.moves.consumed;
     given = omega (arith, f.keeps.given, r.moves.given, length-append f.piece r.piece);
     limit = λ l. r.moves.limit (omega (arith, f.keeps.given, within));
   },
@@ -195,10 +196,10 @@ lost : (left : Option (List ℕ)) (at : ℕ) (piece : List ℕ) (fault : ReadFau
 lost left at piece source.Read = tt
 lost left at piece source.OutOfMemory = tt
 
-module _ {S E : Type 0} (of_entry : KeytabEntry → E) (from to : Option (List ℕ)) (old new : AtHand S) (at count : ℕ) (fits : old.given + count ≤ file_limit) where
-  pub body_met : (came : Result Bool ReadFault) (f : Fills from to (record old { bytes = [] }) new count came) (answer : Result (Found E) KeytabFault) → Meets of_entry to at (signed_bytes w32 (pos count) ++ f.piece) new.peak answer → MeetsBody of_entry from to old new at (pos count) answer
+module _ {E : Type 0} (of_entry : KeytabEntry → E) (old new : Hand) (at count : ℕ) (fits : old.given + count ≤ file_limit) where
+  pub body_met : (came : Result Bool ReadFault) (f : Fills old.source new.source (record old { bytes = [] }) new count came) (answer : Result (Found E) KeytabFault) → Meets of_entry new.source at (signed_bytes w32 (pos count) ++ f.piece) new.peak answer → MeetsBody of_entry old new at (pos count) answer
   body_met came f answer meets =
-      let few = fills_within from to (record old { bytes = [] }) new count came f in
+      let few = fills_within old.source new.source (record old { bytes = [] }) new count came f in
       record {
         piece = f.piece;
         moves = record { consumed = f.keeps.consumed; given = f.keeps.given; limit = λ l. omega (arith, f.keeps.given, few, fits) };
@@ -206,37 +207,37 @@ module _ {S E : Type 0} (of_entry : KeytabEntry → E) (from to : Option (List �
         meets = meets;
       }
 
-  pub body_lost : (fault : ReadFault) → Fills from to (record old { bytes = [] }) new count (Err fault) → MeetsBody of_entry from to old new at (pos count) (Err (source_fault fault))
-  body_lost fault f = body_met (Err fault) f (Err (source_fault fault)) (lost to at (signed_bytes w32 (pos count) ++ f.piece) fault)
+  pub body_lost : (fault : ReadFault) → Fills old.source new.source (record old { bytes = [] }) new count (Err fault) → MeetsBody of_entry old new at (pos count) (Err (source_fault fault))
+  body_lost fault f = body_met (Err fault) f (Err (source_fault fault)) (lost new.source at (signed_bytes w32 (pos count) ++ f.piece) fault)
 
 -- a record of this size would pass the limit
-pub body_cut : {S E : Type 0} (of_entry : KeytabEntry → E) (from to : Option (List ℕ)) (old new : AtHand S) (at : ℕ) (size : ℤ) (answer : Result (Found E) KeytabFault) → FitsSigned w32 size → old.given ≡ at + 4 → old.given ≤ file_limit → file_limit - old.given < unsigned_abs size
-    → RunsOutTo from to old new (Err (Truncated at)) answer → MeetsBody of_entry from to old new at size answer
-body_cut of_entry from to old new at size answer fits here limit long r =
+pub body_cut : {E : Type 0} (of_entry : KeytabEntry → E) (old new : Hand) (at : ℕ) (size : ℤ) (answer : Result (Found E) KeytabFault) → FitsSigned w32 size → old.given ≡ at + 4 → old.given ≤ file_limit → file_limit - old.given < unsigned_abs size
+    → RunsOutTo old new (Err (Truncated at)) answer → MeetsBody of_entry old new at size answer
+body_cut of_entry old new at size answer fits here limit long r =
     let word : List ℕ = signed_bytes w32 size in
     record {
       piece = r.piece;
       moves = r.moves;
       peaks = peaks_kept _ r.piece _ _ (omega arith) r.peak;
-      meets = ran (Meets of_entry to at (word ++ r.piece) new.peak) (Err (Truncated at)) answer to at new.given word r.piece (Some (Truncated at)) r.ran (omega (arith, here, limit)) (omega (arith, r.moves.given, here, length-append word r.piece))
+      meets = ran (Meets of_entry new.source at (word ++ r.piece) new.peak) (Err (Truncated at)) answer new.source at new.given word r.piece (Some (Truncated at)) r.ran (omega (arith, here, limit)) (omega (arith, r.moves.given, here, length-append word r.piece))
           (λ more within. cut_off at size more fits (omega (arith, within, length-append word more, long, here))) (λ h. h) (λ h. h) tt;
     }
 
 -- ---- a record
 
-pub record_met : {S E : Type 0} (of_entry : KeytabEntry → E) (from mid to : Option (List ℕ)) (old between new : AtHand S) (at : ℕ) (size other : ℤ) (answer : Result (Found E) KeytabFault) → MeetsSizeAt from mid old between (Ok (Some size)) → at ≡ old.given → other ≡ size
-    → MeetsBody of_entry mid to between new at other answer → MeetsOne of_entry from to old new answer
-record_met of_entry from mid to old between new at size other answer first is same body =
-    let behind = subst (λ (z : ℤ). MeetsBody of_entry mid to between new at z answer) same body in
+pub record_met : {E : Type 0} (of_entry : KeytabEntry → E) (old between new : Hand) (at : ℕ) (size other : ℤ) (answer : Result (Found E) KeytabFault) → MeetsSizeAt old between (Ok (Some size)) → at ≡ old.given → other ≡ size
+    → MeetsBody of_entry between new at other answer → MeetsOne of_entry old new answer
+record_met of_entry old between new at size other answer first is same body =
+    let behind = subst (λ (z : ℤ). MeetsBody of_entry between new at z answer) same body in
     let word : List ℕ = signed_bytes w32 size in
-    let whole = Consumes-trans from mid to first.piece behind.piece first.moves.consumed behind.moves.consumed in
+    let whole = Consumes-trans old.source between.source new.source first.piece behind.piece first.moves.consumed behind.moves.consumed in
     record {
       piece = word ++ behind.piece;
       moves = record {
-        consumed = subst (λ (t : List ℕ). Consumes from to (t ++ behind.piece)) first.meets.piece_is whole;
+        consumed = subst (λ (t : List ℕ). Consumes old.source new.source (t ++ behind.piece)) first.meets.piece_is whole;
         given = omega (arith, first.moves.given, behind.moves.given, ap length first.meets.piece_is, length-append word behind.piece);
         limit = λ l. behind.moves.limit (first.moves.limit l);
       };
       peaks = peaks_on size behind.piece old.peak between.peak new.peak first.meets.fits (subst (λ (t : List ℕ). Peaks (λ part. length part ≤ 4) t old.peak between.peak) first.meets.piece_is first.peaks) behind.peaks;
-      meets = subst (λ (n : ℕ). Meets of_entry to n (word ++ behind.piece) new.peak answer) is behind.meets;
+      meets = subst (λ (n : ℕ). Meets of_entry new.source n (word ++ behind.piece) new.peak answer) is behind.meets;
     }

@@ -3,8 +3,8 @@ use Rattle.std.proofs.Common.{◌≡◌, ◌⊎◌, ℕ, ◌<◌, ◌≤◌, Lis
 use Rattle.std.specs.Prelude.{◌≢◌, IfSome}
 use Rattle.std.specs.Io.KnownBytes.{Consumes}
 use Rattle.krb_keytab.specs.Entry.{KeytabEntry}
-use Rattle.krb_name.specs.File.{file_limit, IsGiven}
-use Rattle.krb_name.proofs.FileLaws.{AnswersFiles}
+use Rattle.krb_file.specs.File.{file_limit, IsGiven}
+use Rattle.krb_file.proofs.FileLaws.{AnswersFiles}
 use Rattle.krb_keytab.specs.Format.{IsReached, IsFaultOf, IsAnswerOf, version, record_bytes, StandsAt}
 use Rattle.krb_keytab.specs.Items.{StopsSo, Concludes, StandsTo}
 use Rattle.krb_keytab.specs.Inner.Meeting.{IsFaulty}

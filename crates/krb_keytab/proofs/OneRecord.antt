@@ -3,8 +3,8 @@ use Rattle.std.proofs.Common.{◌≡◌, ◌⊎◌, ℕ, zero, suc, ℤ, pos, ne
 use Rattle.std.specs.Int.{w32}
 use Rattle.std.specs.Prelude.{FitsSigned, unsigned_abs}
 use Rattle.std.proofs.lemmas.List.{length-append, take_at, drop_at}
-use Rattle.krb_name.specs.Cursor.{Place, signed_at, signed_bytes}
-use Rattle.krb_name.proofs.CursorLaws.{some_is, IsField-i32}
+use Rattle.krb_file.specs.Cursor.{Place, signed_at, signed_bytes}
+use Rattle.krb_file.proofs.CursorLaws.{some_is, IsField-i32}
 use Rattle.krb_keytab.specs.Format.{KeytabRecord, hole, entry, entry_bytes, record_bytes, FitsRecord, IsEnd, IsCutOff, HoldsNoEntry}
 use Rattle.krb_keytab.specs.Items.{LacksRecord}
 use Rattle.krb_keytab.specs.declared.fault.KeytabFault.{KeytabFault}

@@ -68,6 +68,9 @@ pub flat_step : {X : Type 0} (f : X → List ℕ) (xs : List X) (i : ℕ) (x : X
 flat_step f xs i x below e =
     ap (flat_map f) (take_more xs i x below ∙ ap (λ y. take i xs ++ y ∷ []) (sym e)) ∙ flat_map-append f (take i xs) (x ∷ []) ∙ ap (λ (t : List ℕ). flat_map f (take i xs) ++ t) (append-nil (f x))
 
+pub one_further : {X : Type 0} (f : X → List ℕ) (front : List X) (x : X) → flat_map f (front ++ x ∷ []) ≡ flat_map f front ++ f x
+one_further f front x = flat_map-append f front (x ∷ []) ∙ ap (λ (t : List ℕ). flat_map f front ++ t) (append-nil (f x))
+
 -- ---- a part of a Vec
 
 pub vec_puts : (items slice part text : List ℕ) (from to len : ℕ) → slice ≡ items → length items ≡ len → from ≤ to → to ≤ length items → part ≡ text → length text ≡ to - from

@@ -1,12 +1,15 @@
 -- Reading the records of a file to their end.
-use Rattle.std.proofs.Common.{◌≡◌, ℕ, ◌+◌, ◌<◌, ◌≤◌, List, [], ◌∷◌, ◌++◌, length, Some, Result, Ok, Err, refl, sym, ap, subst, ◌∙◌, append_assoc, append-nil, arith}
+use Rattle.std.proofs.Common.{◌≡◌, ◌⊎◌, ℕ, ◌+◌, ◌<◌, ◌≤◌, List, [], ◌∷◌, ◌++◌, length, Some, Result, Ok, Err, refl, sym, ap, subst, ◌∙◌, append_assoc, append-nil, arith, inl, inr}
 use Rattle.std.specs.List.{flat_map}
 use Rattle.std.specs.Prelude.{◌≢◌, All}
 use Rattle.std.proofs.lemmas.List.{length-append}
 use Rattle.std.proofs.lemmas.List.Elements.{All-push}
-use Rattle.krb_name.specs.Window.{AtHand}
+use Rattle.krb_file.specs.Window.{AtHand}
+use Rattle.krb_file.specs.Hand.{slice_hand}
 use Rattle.krb_keytab.specs.Entry.{KeytabEntry}
-use Rattle.krb_name.specs.File.{file_limit}
+use Rattle.krb_keytab.specs.Fault.{failed_reads}
+use Rattle.krb_file.specs.Flow.{counted}
+use Rattle.krb_file.specs.File.{file_limit}
 use Rattle.krb_keytab.specs.Format.{version, KeytabRecord, hole, entry, record_bytes, FitsRecord, entries_of, IsReached, IsFaultOf}
 use Rattle.krb_keytab.specs.Inner.Finding.{LiesAt}
 use Rattle.krb_keytab.specs.Inner.Meeting.{nothing_of, Moves, IsWhole, MeetsLast, MeetsOne}
@@ -17,6 +20,17 @@ use Rattle.krb_keytab.specs.declared.found.Found.TheVariants.{Hole, Entry}
 use Rattle.krb_keytab.proofs.FileLaws.{record_first, flat_push}
 use Rattle.krb_keytab.proofs.StandLaws.{failed_stands}
 use Rattle.krb_keytab.proofs.ToldLaws.{fault_told}
+
+-- ---- bytes in memory, for which no memory lacks, and of which no read fails
+
+abbrev found_err : KeytabFault → Result (Found (Unit {0})) KeytabFault
+found_err fault = Err fault
+
+pub no_memory : (fault : KeytabFault) → (found_err fault ≡ Err OutOfMemory → ⊥ ⊎ ⊥) → fault ≢ OutOfMemory
+no_memory fault lacks = λ is. elim (lacks (ap found_err is)) [ inl never ↦ never | inr never ↦ never ]
+
+pub no_read : (fault : KeytabFault) → 0 ≡ counted 0 (failed_reads (found_err fault)) → fault ≢ Read
+no_read fault unfailed = λ is. let one : 0 ≡ counted 0 1 = unfailed ∙ ap (λ (f : KeytabFault). counted 0 (failed_reads (found_err f))) is in omega (arith, one)
 
 -- ---- the records that were read
 
@@ -34,10 +48,10 @@ pub record Passes (bytes : List ℕ) (place : AtHand (List ℕ)) (records : List
   pub limit : after.given ≤ file_limit
 
 abbrev Reads : AtHand (List ℕ) → AtHand (List ℕ) → Result (Found (Unit {0})) KeytabFault → Type 0
-Reads place after answer = MeetsOne nothing_of (Some place.source) (Some after.source) place after answer
+Reads place after answer = MeetsOne nothing_of (slice_hand place) (slice_hand after) answer
 
 module _ {bytes : List ℕ} {place : AtHand (List ℕ)} {records : List KeytabRecord} (after : AtHand (List ℕ)) (s : Spans bytes place records) where
-  pass : (one : KeytabRecord) (piece : List ℕ) → FitsRecord one → piece ≡ record_bytes one → Moves (Some place.source) (Some after.source) place after piece → place.given + length piece ≤ file_limit → Passes bytes place records one after
+  pass : (one : KeytabRecord) (piece : List ℕ) → FitsRecord one → piece ≡ record_bytes one → Moves (slice_hand place) (slice_hand after) piece → place.given + length piece ≤ file_limit → Passes bytes place records one after
   pass one piece fits is m limit =
       let flat = flat_push record_bytes records one in
       let before : List ℕ = flat_map record_bytes records in

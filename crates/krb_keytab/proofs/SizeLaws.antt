@@ -8,16 +8,12 @@ use Rattle.krb_keytab.specs.Entry.{KeytabEntry}
 use Rattle.krb_keytab.specs.Size.{name_size, IsLargestSize}
 
 -- what is counted of a component
-abbrev part : List ℕ → ℕ
+abbrev pub part : List ℕ → ℕ
 part component = length component + 1
 
-pub next_fits : (xs : List (List ℕ)) (i : ℕ) (x : List ℕ) → i < length xs → x ≡ get_or xs i x → length xs < 2 ^ 16
-    → All (λ component. length component < 2 ^ 16) xs → sum_by part (take i xs) + (length x + 1) ≤ 2 ^ 32
-next_fits xs i x lt is few short =
-    let more : sum_by part (take (i + 1) xs) ≡ sum_by part (take i xs) + part (get_or xs i x) = sum_by_more part xs i x lt in
-    let some : sum_by part (take (i + 1) xs) ≤ sum_by part xs = sum_by-take-le part xs (i + 1) in
+pub all_fit : (xs : List (List ℕ)) → length xs < 2 ^ 16 → All (λ component. length component < 2 ^ 16) xs → sum_by part xs ≤ 2 ^ 32
+all_fit xs few short =
     let all : sum_by part xs ≤ length xs * 2 ^ 16 = sum_by-le part (2 ^ 16) xs (λ k d at. omega (arith, short k d at)) in
-    let same : length x ≡ length (get_or xs i x) = ap length is in
     omega arith
 
 -- the largest of one entry more

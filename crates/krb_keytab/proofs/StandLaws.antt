@@ -7,10 +7,11 @@ use Rattle.std.proofs.KnownBytes.{Consumes-nil, Consumes-trans}
 use Rattle.std.proofs.lemmas.Bool.{cases_lt}
 use Rattle.std.proofs.lemmas.List.{length-append, take_at}
 use Rattle.std.proofs.lemmas.List.Elements.{All-push}
-use Rattle.krb_name.specs.Cursor.{signed_bytes}
-use Rattle.krb_name.specs.Window.{AtHand}
+use Rattle.krb_file.specs.Cursor.{signed_bytes}
+use Rattle.krb_file.specs.Window.{AtHand}
+use Rattle.krb_file.specs.Hand.{Hand, window_hand}
 use Rattle.krb_keytab.specs.Entry.{KeytabEntry}
-use Rattle.krb_name.specs.File.{file_limit}
+use Rattle.krb_file.specs.File.{file_limit}
 use Rattle.krb_keytab.specs.Format.{version, KeytabRecord, hole, entry, entry_bytes, record_bytes, FitsRecord, entries_of, IsReached}
 use Rattle.krb_keytab.specs.Items.{LacksVersion, LacksRecord, Stops, StopsSo, IsTooLong, Concludes, EndsWithEntry, StandsTo, IsPartOfRecord, HasMet, HasRead, EntriesRead, passed, stage_after, stage_passed, entries_after, GivesMore}
 use Rattle.krb_keytab.specs.Inner.Meeting.{Peaks, RanOut, OpensAt, MeetsVersion, IsWhole, IsLastAt, IsLongAt, MeetsLast, MeetsOne, Goes, PassesHoles, HasReached, IsFirst, MeetsBehind, MeetsNext, MeetsKept, MeetsFirst}
@@ -154,10 +155,10 @@ version_ran left given two later answer r g size lacks =
 
 -- ---- one step after the other
 
-goes_then : {S : Type 0} {A B C : List ℕ → List KeytabEntry → Type 0} (from mid to : Option (List ℕ)) (old between new : AtHand S) → Goes A B from mid old between → Goes B C mid to between new → Goes A C from to old new
-goes_then {C = C} from mid to old between new p q = record {
+goes_then : {A B C : List ℕ → List KeytabEntry → Type 0} (old between new : Hand) → Goes A B old between → Goes B C between new → Goes A C old new
+goes_then {C = C} old between new p q = record {
   piece = p.piece ++ q.piece;
-  moves = record { consumed = Consumes-trans from mid to p.piece q.piece p.moves.consumed q.moves.consumed; given = omega (arith, p.moves.given, q.moves.given, length-append p.piece q.piece); limit = λ l. q.moves.limit (p.moves.limit l) };
+  moves = record { consumed = Consumes-trans old.source between.source new.source p.piece q.piece p.moves.consumed q.moves.consumed; given = omega (arith, p.moves.given, q.moves.given, length-append p.piece q.piece); limit = λ l. q.moves.limit (p.moves.limit l) };
   grows = omega (arith, p.grows, q.grows);
   low = λ l. q.low (p.low l);
   stands = λ bytes entries b. subst (λ (t : List ℕ). C t entries) (append_assoc bytes p.piece q.piece) (q.stands (bytes ++ p.piece) entries (p.stands bytes entries b));
@@ -165,9 +166,9 @@ goes_then {C = C} from mid to old between new p q = record {
 }
 
 -- a record, or the end, or a fault
-goes_one : {S E : Type 0} {A : List ℕ → List KeytabEntry → Type 0} (of_entry : KeytabEntry → E) (from to : Option (List ℕ)) (old new : AtHand S) (found : Result (Found E) KeytabFault) (m : MeetsOne of_entry from to old new found)
-    → ((bytes : List ℕ) (entries : List KeytabEntry) → HasReached old.given bytes entries → A (bytes ++ m.piece) entries) → Goes (HasReached old.given) A from to old new
-goes_one of_entry from to old new found m stands = record {
+goes_one : {E : Type 0} {A : List ℕ → List KeytabEntry → Type 0} (of_entry : KeytabEntry → E) (old new : Hand) (found : Result (Found E) KeytabFault) (m : MeetsOne of_entry old new found)
+    → ((bytes : List ℕ) (entries : List KeytabEntry) → HasReached old.given bytes entries → A (bytes ++ m.piece) entries) → Goes (HasReached old.given) A old new
+goes_one of_entry old new found m stands = record {
   piece = m.piece;
   moves = m.moves;
   grows = m.peaks.grows;
@@ -178,10 +179,10 @@ goes_one of_entry from to old new found m stands = record {
 
 -- ---- holes, and then another answer
 
-pub passes_none : {S : Type 0} (from : Option (List ℕ)) (window : AtHand S) → PassesHoles from from window window
-passes_none from window = record {
+pub passes_none : (window : Hand) → PassesHoles window window
+passes_none window = record {
   piece = [];
-  moves = record { consumed = Consumes-nil from; given = omega arith; limit = λ l. l };
+  moves = record { consumed = Consumes-nil window.source; given = omega arith; limit = λ l. l };
   grows = omega arith;
   low = λ l. l;
   stands = λ bytes entries b. subst (λ (t : List ℕ). HasReached window.given t entries) (sym (append-nil bytes)) b;
@@ -191,9 +192,9 @@ passes_none from window = record {
 abbrev said_of : {E : Type 0} → Result (Option E) KeytabFault → Result (Option E) KeytabFault
 said_of said = said
 
-module _ {S E : Type 0} (of_entry : KeytabEntry → E) (from mid to : Option (List ℕ)) (old between new : AtHand S) (h : PassesHoles from mid old between) where
-  pub passes_hole : MeetsOne of_entry mid to between new (Ok Hole) → PassesHoles from to old new
-  passes_hole m = goes_then from mid to old between new h (goes_one of_entry mid to between new (Ok Hole) m (λ bytes entries b.
+module _ {E : Type 0} (of_entry : KeytabEntry → E) (old between new : Hand) (h : PassesHoles old between) where
+  pub passes_hole : MeetsOne of_entry between new (Ok Hole) → PassesHoles old new
+  passes_hole m = goes_then old between new h (goes_one of_entry between new (Ok Hole) m (λ bytes entries b.
       let whole : IsWhole (length bytes) m.piece [] = rw b.given_is at m.meets in
       record {
         given_is = omega (arith, m.moves.given, b.given_is, length-append bytes m.piece);
@@ -201,18 +202,18 @@ module _ {S E : Type 0} (of_entry : KeytabEntry → E) (from mid to : Option (Li
         reached = rw append-nil at (reach_whole bytes entries b.reached m.piece [] whole);
       }))
 
-  pub next_end : between.given ≤ file_limit → MeetsOne of_entry mid to between new (Ok End) → MeetsKept of_entry from to old new (Ok None)
+  pub next_end : between.given ≤ file_limit → MeetsOne of_entry between new (Ok End) → MeetsKept of_entry old new (Ok None)
   next_end limit m = record {
     answer = Ok None;
     said_is = refl;
     meets = record {
-      goes = goes_then from mid to old between new h (goes_one of_entry mid to between new (Ok End) m (λ bytes entries b. concludes bytes entries b.reached to m.piece None (rw b.given_is at m.meets)));
+      goes = goes_then old between new h (goes_one of_entry between new (Ok End) m (λ bytes entries b. concludes bytes entries b.reached new.source m.piece None (rw b.given_is at m.meets)));
       within = m.moves.limit (omega (arith, limit));
       more = tt;
     };
   }
 
-  pub next_kept : (kept : E) → MeetsOne of_entry mid to between new (Ok (Entry kept)) → MeetsKept of_entry from to old new (Ok (Some kept))
+  pub next_kept : (kept : E) → MeetsOne of_entry between new (Ok (Entry kept)) → MeetsKept of_entry old new (Ok (Some kept))
   next_kept kept m =
       let e = m.meets.0 in
       let whole : IsWhole between.given m.piece (e ∷ []) = m.meets.3 in
@@ -220,18 +221,18 @@ module _ {S E : Type 0} (of_entry : KeytabEntry → E) (from mid to : Option (Li
         answer = Ok (Some e);
         said_is = ap (λ (k : E). said_of (Ok (Some k))) m.meets.1;
         meets = record {
-          goes = goes_then from mid to old between new h (goes_one of_entry mid to between new (Ok (Entry kept)) m (λ bytes entries b. entry_stands bytes entries b.reached to new.peak m.piece e m.meets.2 (rw b.given_is at whole)));
+          goes = goes_then old between new h (goes_one of_entry between new (Ok (Entry kept)) m (λ bytes entries b. entry_stands bytes entries b.reached new.source new.peak m.piece e m.meets.2 (rw b.given_is at whole)));
           within = omega (arith, whole.limit, m.moves.given);
           more = (omega (arith, m.moves.given, h.moves.given, ap length whole.piece_is, record_first whole.one), omega (arith, whole.limit, m.moves.given));
         };
       }
 
-  pub next_fault : between.given ≤ file_limit → (fault : KeytabFault) → MeetsOne of_entry mid to between new (Err fault) → MeetsKept of_entry from to old new (Err fault)
+  pub next_fault : between.given ≤ file_limit → (fault : KeytabFault) → MeetsOne of_entry between new (Err fault) → MeetsKept of_entry old new (Err fault)
   next_fault limit fault m = record {
     answer = Err fault;
     said_is = refl;
     meets = record {
-      goes = goes_then from mid to old between new h (goes_one of_entry mid to between new (Err fault) m (λ bytes entries b. failed_stands bytes entries b.reached to new.peak m.piece fault b.limit (subst (λ (n : ℕ). MeetsLast to n m.piece (Some fault)) b.given_is m.meets)));
+      goes = goes_then old between new h (goes_one of_entry between new (Err fault) m (λ bytes entries b. failed_stands bytes entries b.reached new.source new.peak m.piece fault b.limit (subst (λ (n : ℕ). MeetsLast new.source n m.piece (Some fault)) b.given_is m.meets)));
       within = m.moves.limit (omega (arith, limit));
       more = tt;
     };
@@ -243,8 +244,8 @@ more_after : (old between new : ℕ) (answer : Result (Option KeytabEntry) Keyta
 more_after old between new (Ok (Some e)) within more = (omega (arith, within, more.0), more.1)
 more_after old between new _ within more = tt
 
-goes_first : {S : Type 0} {A : List ℕ → List KeytabEntry → Type 0} (from to : Option (List ℕ)) (old new : AtHand S) (opened : Result Unit KeytabFault) (o : OpensAt from to old new opened) → A o.piece [] → Goes IsFirst A from to old new
-goes_first from to old new opened o stands = record {
+goes_first : {A : List ℕ → List KeytabEntry → Type 0} (old new : Hand) (opened : Result Unit KeytabFault) (o : OpensAt old new opened) → A o.piece [] → Goes IsFirst A old new
+goes_first old new opened o stands = record {
   piece = o.piece;
   moves = o.moves;
   grows = o.peaks.grows;
@@ -253,16 +254,16 @@ goes_first from to old new opened o stands = record {
   met = λ bytes entries none was. rw none.0 (met_version o.piece old.peak new.peak o.peaks (rw none.0 at was));
 }
 
-pub first_next : {S : Type 0} (from mid to : Option (List ℕ)) (old between new : AtHand S) (opened : Unit) (answer : Result (Option KeytabEntry) KeytabFault) → OpensAt from mid old between (Ok opened) → old.given ≡ 0
-    → MeetsNext mid to between new answer → MeetsFirst from to old new answer
-first_next from mid to old between new opened answer o start n =
+pub first_next : (old between new : Hand) (opened : Unit) (answer : Result (Option KeytabEntry) KeytabFault) → OpensAt old between (Ok opened) → old.given ≡ 0
+    → MeetsNext between new answer → MeetsFirst old new answer
+first_next old between new opened answer o start n =
     let behind : HasReached between.given o.piece [] = record {
       given_is = omega (arith, o.moves.given, start);
       limit = omega (arith, ap length o.meets);
       reached = subst (λ (t : List ℕ). IsReached t (length t) [] []) (sym o.meets) (reach_start version [] refl);
     } in
     record {
-      goes = goes_then from mid to old between new (goes_first from mid old between (Ok opened) o behind) n.goes;
+      goes = goes_then old between new (goes_first old between (Ok opened) o behind) n.goes;
       within = n.within;
       more = more_after old.given between.given new.given answer (omega (arith, start)) n.more;
     }
@@ -274,9 +275,9 @@ version_stands left held piece Read m = inl refl
 version_stands left held piece OutOfMemory m = inl refl
 version_stands left held piece _ m = absurd m
 
-pub first_fault : {S : Type 0} (from to : Option (List ℕ)) (old new : AtHand S) (fault : KeytabFault) → OpensAt from to old new (Err fault) → old.given ≡ 0 → MeetsFirst from to old new (Err fault)
-first_fault from to old new fault o start = record {
-  goes = goes_first from to old new (Err fault) o (version_stands to new.peak o.piece fault o.meets);
+pub first_fault : (old new : Hand) (fault : KeytabFault) → OpensAt old new (Err fault) → old.given ≡ 0 → MeetsFirst old new (Err fault)
+first_fault old new fault o start = record {
+  goes = goes_first old new (Err fault) o (version_stands new.source new.peak o.piece fault o.meets);
   within = o.moves.limit (omega (arith, start));
   more = tt;
 }
@@ -288,9 +289,9 @@ abbrev HasReadOn : {S : Type 0} → Option (List ℕ) → Option (List ℕ) → 
 HasReadOn from to new answer bytes entries =
     (piece : List ℕ) × Consumes from to piece × HasRead to (record { source = new.source; held = new.peak; given = new.given; stage = stage_after answer }) (bytes ++ piece) (entries_after entries answer)
 
-read_behind : {S : Type 0} (CameBefore : List ℕ → List KeytabEntry → Type 0) (from to : Option (List ℕ)) (reader : EntriesRead S) (old new : AtHand S) (answer : Result (Option KeytabEntry) KeytabFault) → reader.held ≡ old.peak → MeetsBehind CameBefore from to old new answer
-    → (bytes : List ℕ) (entries : List KeytabEntry) → CameBefore bytes entries → old.given ≡ length bytes → HasRead from reader bytes entries → HasReadOn from to new answer bytes entries
-read_behind CameBefore from to reader old new answer held m bytes entries before here r = (
+read_behind : {S : Type 0} (left : S → Option (List ℕ)) (CameBefore : List ℕ → List KeytabEntry → Type 0) (reader : EntriesRead S) (old new : AtHand S) (answer : Result (Option KeytabEntry) KeytabFault) → reader.held ≡ old.peak → MeetsBehind CameBefore (window_hand left old) (window_hand left new) answer
+    → (bytes : List ℕ) (entries : List KeytabEntry) → CameBefore bytes entries → old.given ≡ length bytes → HasRead (left old.source) reader bytes entries → HasReadOn (left old.source) (left new.source) new answer bytes entries
+read_behind left CameBefore reader old new answer held m bytes entries before here r = (
   m.goes.piece,
   m.goes.moves.consumed,
   record {
@@ -300,18 +301,18 @@ read_behind CameBefore from to reader old new answer held m bytes entries before
   },
 )
 
-pub read_first : {S : Type 0} (from to : Option (List ℕ)) (reader : EntriesRead S) (old new : AtHand S) (answer : Result (Option KeytabEntry) KeytabFault) → reader.stage ≡ Start → reader.held ≡ old.peak → MeetsFirst from to old new answer → old.given ≡ 0
-    → (bytes : List ℕ) (entries : List KeytabEntry) → HasRead from reader bytes entries → HasReadOn from to new answer bytes entries
-read_first from to reader old new answer stage held m start bytes entries r =
-    let none = subst (λ (s : Stage). StandsTo from reader.held s bytes entries) stage r.stands in
-    read_behind IsFirst from to reader old new answer held m bytes entries none (omega (arith, start, ap length none.0)) r
+pub read_first : {S : Type 0} (left : S → Option (List ℕ)) (reader : EntriesRead S) (old new : AtHand S) (answer : Result (Option KeytabEntry) KeytabFault) → reader.stage ≡ Start → reader.held ≡ old.peak → MeetsFirst (window_hand left old) (window_hand left new) answer → old.given ≡ 0
+    → (bytes : List ℕ) (entries : List KeytabEntry) → HasRead (left old.source) reader bytes entries → HasReadOn (left old.source) (left new.source) new answer bytes entries
+read_first left reader old new answer stage held m start bytes entries r =
+    let none = subst (λ (s : Stage). StandsTo (left old.source) reader.held s bytes entries) stage r.stands in
+    read_behind left IsFirst reader old new answer held m bytes entries none (omega (arith, start, ap length none.0)) r
 
-pub read_next : {S : Type 0} (from to : Option (List ℕ)) (reader : EntriesRead S) (old new : AtHand S) (answer : Result (Option KeytabEntry) KeytabFault) → reader.stage ≡ Records → reader.held ≡ old.peak → reader.given ≡ old.given → MeetsNext from to old new answer
-    → (bytes : List ℕ) (entries : List KeytabEntry) → HasRead from reader bytes entries → HasReadOn from to new answer bytes entries
-read_next from to reader old new answer stage held given m bytes entries r =
-    let stands = subst (λ (s : Stage). StandsTo from reader.held s bytes entries) stage r.stands in
+pub read_next : {S : Type 0} (left : S → Option (List ℕ)) (reader : EntriesRead S) (old new : AtHand S) (answer : Result (Option KeytabEntry) KeytabFault) → reader.stage ≡ Records → reader.held ≡ old.peak → reader.given ≡ old.given → MeetsNext (window_hand left old) (window_hand left new) answer
+    → (bytes : List ℕ) (entries : List KeytabEntry) → HasRead (left old.source) reader bytes entries → HasReadOn (left old.source) (left new.source) new answer bytes entries
+read_next left reader old new answer stage held given m bytes entries r =
+    let stands = subst (λ (s : Stage). StandsTo (left old.source) reader.held s bytes entries) stage r.stands in
     let here : old.given ≡ length bytes = sym given ∙ r.given in
-    read_behind (HasReached old.given) from to reader old new answer held m bytes entries (ends_reached from reader.held old.given bytes entries here stands) here r
+    read_behind left (HasReached old.given) reader old new answer held m bytes entries (ends_reached (left old.source) reader.held old.given bytes entries here stands) here r
 
 -- the same answer, and no byte more
 pub read_again : {S : Type 0} (left : Option (List ℕ)) (reader : EntriesRead S) (bytes : List ℕ) (entries : List KeytabEntry) → HasRead left reader bytes entries → (piece : List ℕ) × Consumes left left piece × HasRead left reader (bytes ++ piece) entries

@@ -6,8 +6,8 @@ use Rattle.std.specs.Io.KnownBytes.{Consumes}
 use Rattle.std.proofs.lemmas.List.{take-append-le, take_all, length-append}
 use Rattle.std.proofs.lemmas.List.Concat.{flat_map-append}
 use Rattle.krb_keytab.specs.Entry.{KeytabEntry}
-use Rattle.krb_name.specs.File.{file_limit, TakesFile}
-use Rattle.krb_name.proofs.FileLaws.{answer_known}
+use Rattle.krb_file.specs.File.{file_limit, TakesFile}
+use Rattle.krb_file.proofs.FileLaws.{answer_known}
 use Rattle.krb_keytab.specs.Format.{version, record_bytes, entries_of, IsReached, IsKeytab, IsFaultOf}
 use Rattle.krb_keytab.specs.Items.{StopsSo, AreFirst, StandsTo}
 use Rattle.krb_keytab.specs.declared.fault.KeytabFault.{KeytabFault}
@@ -19,7 +19,7 @@ use Rattle.krb_keytab.proofs.OneSplit.{first_records, one_last}
 use Rattle.krb_keytab.proofs.OneAnswer.{keytab_answers, concluded, fault_of}
 use Rattle.krb_keytab.proofs.StandLaws.{ends_reached}
 use Rattle.std.proofs.KnownBytes.{Consumes-trans}
-use Rattle.krb_name.specs.Window.{AtHand}
+use Rattle.krb_file.specs.Hand.{Hand}
 use Rattle.krb_keytab.specs.Inner.Meeting.{MeetsNext, HasTaken, IsFound, IsFaulty}
 
 pub end_told : (whole bytes : List ℕ) (left : Option (List ℕ)) (held : ℕ) (entries : List KeytabEntry) → Consumes (Some whole) left bytes → StandsTo left held End bytes entries → IsKeytab whole entries
@@ -79,32 +79,32 @@ same_before whole bytes others left right held peak entries more fault other p q
     let two = stopped whole others right peak more other r s d b in
     (one_last (take file_limit whole) entries more one.0 two.0 one.1 two.1).0
 
-pub entry_taken : {S : Type 0} (from mid to : Option (List ℕ)) (old new : AtHand S) (entries more : List KeytabEntry) (e : KeytabEntry) → HasTaken from mid old.given entries → MeetsNext mid to old new (Ok (Some e)) → more ≡ entries ++ e ∷ []
-    → HasTaken from to new.given more
-entry_taken from mid to old new entries more e t m pushed =
+pub entry_taken : (from : Option (List ℕ)) (old new : Hand) (entries more : List KeytabEntry) (e : KeytabEntry) → HasTaken from old.source old.given entries → MeetsNext old new (Ok (Some e)) → more ≡ entries ++ e ∷ []
+    → HasTaken from new.source new.given more
+entry_taken from old new entries more e t m pushed =
     let m = m.goes in
     let all : List ℕ = t.bytes ++ m.piece in
     record {
       bytes = all;
-      taken = Consumes-trans from mid to t.bytes m.piece t.taken m.moves.consumed;
-      reached = rw pushed (ends_reached to new.peak new.given all (entries ++ e ∷ []) (omega (arith, m.moves.given, t.reached.given_is, length-append t.bytes m.piece)) (m.stands t.bytes entries t.reached));
+      taken = Consumes-trans from old.source new.source t.bytes m.piece t.taken m.moves.consumed;
+      reached = rw pushed (ends_reached new.source new.peak new.given all (entries ++ e ∷ []) (omega (arith, m.moves.given, t.reached.given_is, length-append t.bytes m.piece)) (m.stands t.bytes entries t.reached));
     }
 
-pub end_taken : {S : Type 0} (from mid to : Option (List ℕ)) (old new : AtHand S) (entries : List KeytabEntry) → HasTaken from mid old.given entries → MeetsNext mid to old new (Ok None) → IsFound from to entries
-end_taken from mid to old new entries t m =
-    concluded from to (t.bytes ++ m.goes.piece) entries None (Consumes-trans from mid to t.bytes m.goes.piece t.taken m.goes.moves.consumed) (m.goes.stands t.bytes entries t.reached)
+pub end_taken : (from : Option (List ℕ)) (old new : Hand) (entries : List KeytabEntry) → HasTaken from old.source old.given entries → MeetsNext old new (Ok None) → IsFound from new.source entries
+end_taken from old new entries t m =
+    concluded from new.source (t.bytes ++ m.goes.piece) entries None (Consumes-trans from old.source new.source t.bytes m.goes.piece t.taken m.goes.moves.consumed) (m.goes.stands t.bytes entries t.reached)
 
-pub next_faulty : {S : Type 0} (from mid to : Option (List ℕ)) (old new : AtHand S) (entries : List KeytabEntry) (fault : KeytabFault) → HasTaken from mid old.given entries → MeetsNext mid to old new (Err fault) → IsFaulty from to fault
-next_faulty from mid to old new entries fault t m =
-    fault_of from to new.peak (t.bytes ++ m.goes.piece) entries fault (Consumes-trans from mid to t.bytes m.goes.piece t.taken m.goes.moves.consumed) (m.goes.stands t.bytes entries t.reached)
+pub next_faulty : (from : Option (List ℕ)) (old new : Hand) (entries : List KeytabEntry) (fault : KeytabFault) → HasTaken from old.source old.given entries → MeetsNext old new (Err fault) → IsFaulty from new.source fault
+next_faulty from old new entries fault t m =
+    fault_of from new.source new.peak (t.bytes ++ m.goes.piece) entries fault (Consumes-trans from old.source new.source t.bytes m.goes.piece t.taken m.goes.moves.consumed) (m.goes.stands t.bytes entries t.reached)
 
 -- how much the source gave
-pub next_takes : {S : Type 0} (from mid to : Option (List ℕ)) (old new : AtHand S) (entries : List KeytabEntry) (answer : Result (Option KeytabEntry) KeytabFault) → HasTaken from mid old.given entries → MeetsNext mid to old new answer → TakesFile from to
-next_takes from mid to old new entries answer t m =
+pub next_takes : (from : Option (List ℕ)) (old new : Hand) (entries : List KeytabEntry) (answer : Result (Option KeytabEntry) KeytabFault) → HasTaken from old.source old.given entries → MeetsNext old new answer → TakesFile from new.source
+next_takes from old new entries answer t m =
     let m = m.goes in
     let here = t.reached in
     record {
       piece = t.bytes ++ m.piece;
-      taken = Consumes-trans from mid to t.bytes m.piece t.taken m.moves.consumed;
+      taken = Consumes-trans from old.source new.source t.bytes m.piece t.taken m.moves.consumed;
       within = let l = m.moves.limit (omega (arith, here.given_is, here.limit)) in omega (arith, l, m.moves.given, here.given_is, length-append t.bytes m.piece);
     }

@@ -2,8 +2,8 @@
 use Rattle.std.specs.Prelude.{ℕ, Option, Some, None, Result, Err}
 use Rattle.krb_keytab.specs.declared.fault.KeytabFault.{KeytabFault}
 use Rattle.krb_keytab.specs.declared.fault.KeytabFault.TheVariants.{Truncated, BadEntry, Read, OutOfMemory}
-use Rattle.krb_name.specs.declared.reading.ReadFault.{ReadFault}
-use Rattle.krb_name.specs.File.{fault_of_read}
+use Rattle.krb_file.specs.declared.reading.ReadFault.{ReadFault}
+use Rattle.krb_file.specs.File.{fault_of_read}
 
 -- the offset of the record at fault
 abbrev pub offset_of : KeytabFault → Option ℕ

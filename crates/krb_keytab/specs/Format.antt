@@ -3,8 +3,8 @@
 use Rattle.std.specs.Prelude.{◌≡◌, ◌≢◌, ◌⊎◌, ℕ, ◌+◌, ◌<◌, ◌≤◌, ◌^◌, ◌==◌, ◌&&◌, ℤ, pos, neg_ℤ, unsigned_abs, List, [], ◌∷◌, ◌++◌, length, take, Result, Ok, Err, not, nat_le, All, FitsSigned, if◌then◌else◌}
 use Rattle.std.specs.Int.{w8, w16, w32, from_be_bytes}
 use Rattle.std.specs.List.{flat_map}
-use Rattle.krb_name.specs.Cursor.{number_bytes, signed_bytes, data_bytes}
-use Rattle.krb_name.specs.File.{file_limit}
+use Rattle.krb_file.specs.Cursor.{number_bytes, signed_bytes, data_bytes}
+use Rattle.krb_file.specs.File.{file_limit}
 use Rattle.krb_keytab.specs.Entry.{KeytabEntry, FitsEntry}
 use Rattle.krb_keytab.specs.declared.fault.KeytabFault.{KeytabFault}
 use Rattle.krb_keytab.specs.declared.fault.KeytabFault.TheVariants.{Version, Truncated, BadEntry, TooLong}

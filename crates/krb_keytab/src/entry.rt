@@ -8,7 +8,7 @@ ghost use Rattle.krb_keytab.specs.Written.{record_length};
 
 use crate::part::Part;
 use crate::step::SIZE_LENGTH;
-use krb_name::{Bytes, Named, Principal};
+use krb_name::{Components, Named, Principal};
 use std::fmt;
 use std::hash::{FoldHasher, Hasher};
 use std::marker::Model;
@@ -109,7 +109,7 @@ impl Entry {
         ensures { result ≡ name_size self.now.principal }
     {
         let mut size = self.principal.realm.len();
-        for component in self.principal.components.as_slice() {
+        for component in self.principal.components.iter() {
             size += component.len() + 1;
         }
         size
@@ -199,11 +199,16 @@ fn lengths_fit(principal: &Principal, key: &[u8]) -> bool
     principal.components.len() <= MOST
         && principal.realm.len() <= MOST
         && key.len() <= MOST
-        && components_fit(principal.components.as_slice())
+        && components_fit(&principal.components)
 }
 
-fn components_fit(components: &[Bytes]) -> bool
+fn components_fit(components: &Components) -> bool
     ensures { IsTrue result ↔ All (λ component. length component < 2 ^ 16) components.now }
 {
-    components.iter().all(|component| component.len() <= MOST)
+    for component in components.iter() {
+        if component.len() > MOST {
+            return false;
+        }
+    }
+    true
 }

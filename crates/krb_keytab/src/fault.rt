@@ -3,7 +3,7 @@
 ghost use Rattle.std.specs.Prelude.{◌≡◌};
 ghost use Rattle.krb_keytab.specs.declared.fault.KeytabFault.TheVariants.{OutOfMemory};
 
-use krb_name::ReadFault;
+use krb_file::ReadFault;
 use std::alloc::AllocError;
 use thiserror::Error;
 

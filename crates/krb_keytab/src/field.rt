@@ -1,11 +1,10 @@
 //! Fields that stand one after another, read in place.
 
 ghost use Rattle.std.specs.Prelude.{◌≡◌, ◌<◌, ℕ, IfOk, OnErr, None, Some};
-ghost use Rattle.krb_name.proofs.CursorLaws.{IsField-u8, IsField-u16, IsField-u32, IsField-i16, IsField-i32, IsField-data16};
-ghost use Rattle.krb_name.proofs.Rows.{Spelling, spelling, followed};
+ghost use Rattle.krb_file.proofs.CursorLaws.{IsField-u8, IsField-u16, IsField-u32, IsField-i16, IsField-i32, IsField-data16};
+ghost use Rattle.krb_file.proofs.Rows.{Spelling, spelling, followed};
 
-use crate::listed::Listed;
-use krb_name::{FileCursor, Short};
+use krb_file::{FileCursor, Short};
 use std::marker::Model;
 
 /// A field of a record, or a row of fields in nested pairs, that borrows the record's bytes.

@@ -1,17 +1,14 @@
 //! Finding the record to edit. Each file is read to its end, so its faults come first.
 
-ghost use Rattle.std.specs.Prelude.{◌≡◌, ◌≢◌, ◌⊎◌, ◌≤◌, ◌∷◌, ◌++◌, [], ℕ, List, IfOk, IfErr, OnOk, OnErr, MatchResult, Some};
-ghost use Rattle.krb_name.specs.File.{file_limit};
+ghost use Rattle.std.specs.Prelude.{◌≡◌, ◌⊎◌, ◌≤◌, ◌∷◌, ◌++◌, [], ℕ, List, IfOk, IfErr, OnOk, OnErr, MatchResult, Some};
 ghost use Rattle.krb_keytab.specs.Entry.{KeytabEntry};
 ghost use Rattle.krb_keytab.specs.Format.{version, KeytabRecord, hole, entry, IsFaultOf};
 ghost use Rattle.krb_keytab.specs.Inner.Finding.{LiesAt, HasGathered, KeepsEntry, KeepsHole, IsFoundEntry, IsFoundRoom};
-ghost use Rattle.krb_keytab.specs.Inner.Meeting.{MeetsOne, nothing_of};
 
 use crate::fault::KeytabFault;
-use crate::feed::{Feed, Slice};
 use crate::found::{Found, Nothing};
 use crate::step::{read_record, read_version};
-use krb_name::FILE_LIMIT;
+use krb_file::{FILE_LIMIT, Feed, Slice};
 use std::alloc::AllocError;
 
 /// Where a record lies in a file: the offset of its size, and the offset after its last byte.
@@ -70,7 +67,7 @@ pub(crate) fn read_all<G: Gather>(bytes: &[u8], gathered: &mut G) -> Result<usiz
     let mut slice = open(bytes)?;
     'each_record: loop {
         let from = slice.given();
-        let found = next_record(&mut slice)?;
+        let found = read_record(&mut slice, &Nothing)?;
         let to = slice.given();
         match found {
             Found::End => return Ok(from),
@@ -92,17 +89,6 @@ fn open<'a>(bytes: &'a [u8]) -> Result<Slice<'a>, KeytabFault>
     let mut slice = Slice::new(bytes);
     read_version(&mut slice)?;
     Ok(slice)
-}
-
-// Reads the record that begins here.
-fn next_record(slice: &mut Slice) -> Result<Found<()>, KeytabFault>
-    requires { slice.old.given ≤ file_limit }
-    ensures meets { MeetsOne nothing_of (Some slice.old.source) (Some slice.new.source)
-        slice.old slice.new result }
-    ensures content { IfErr result (λ fault.
-        (fault ≢ KeytabFault.OutOfMemory) × (fault ≢ KeytabFault.Read)) }
-{
-    read_record(slice, &Nothing)
 }
 
 // The entry of this index, once more entries than that were counted.

@@ -1,25 +1,25 @@
 //! A keytab: the list of its entries.
 
 ghost use Rattle.std.specs.Prelude.{◌≡◌, ◌≢◌, ◌⊎◌, ◌≤◌, ◌<◌, ℕ, List, All, IfOk, IfErr, IfSome, OnOk, Some, Err, Result, length};
-ghost use Rattle.krb_name.specs.Flow.{counted};
+ghost use Rattle.krb_file.specs.Flow.{counted};
 ghost use Rattle.krb_keytab.specs.Entry.{KeytabEntry};
 ghost use Rattle.krb_keytab.specs.Fault.{offset_of, failed_reads};
 ghost use Rattle.krb_keytab.specs.Only.{KeepsOnly};
 ghost use Rattle.krb_keytab.specs.Pick.{IsPicked};
 ghost use Rattle.krb_keytab.specs.Size.{HasSizesWithin, IsLargestSize};
 ghost use Rattle.krb_name.specs.Name.{SameName};
-ghost use Rattle.krb_name.specs.File.{file_limit, ReadsFile};
+ghost use Rattle.krb_file.specs.File.{file_limit, ReadsFile};
 ghost use Rattle.krb_keytab.specs.Format.{IsKeytab, IsFaultOf, IsAnswerOf};
 ghost use Rattle.krb_keytab.specs.Written.{written};
 
 use crate::entry::Entry;
 use crate::fault::KeytabFault;
-use crate::feed::{Feed, Slice};
 use crate::finding::find_entry;
 use crate::pick::{Picked, pick_entry};
 use crate::step::{VERSION, read_entries};
 use crate::writing::put_record;
-use krb_name::{FILE_LIMIT, NamedList, NamedListBuilder, Principal, Source, Window};
+use krb_file::{FILE_LIMIT, Feed, Slice, Source, Window};
+use krb_name::{NamedList, NamedListBuilder, Principal};
 use std::alloc::{AllocError, Global};
 use std::fmt;
 use std::marker::Model;
@@ -113,9 +113,9 @@ impl Keytab {
 
     // Reads a keytab to its end.
     fn read_from<F: Feed>(alloc: Global, feed: &mut F) -> Result<Keytab, KeytabFault>
-        requires start { (F.at_hand feed.old).given ≡ 0 }
+        requires start { (F.hand feed.old).given ≡ 0 }
         ensures reads { ReadsFile IsAnswerOf KeytabFault.OutOfMemory KeytabFault.Read
-            (F.remaining feed.old) (F.remaining feed.new) result }
+            (F.hand feed.old).source (F.hand feed.new).source result }
         ensures failed { F.failure_count feed.new ≡ counted (F.failure_count feed.old) (failed_reads result) }
         ensures lent { F.lender feed.new ≡ F.lender feed.old }
     {

@@ -2,8 +2,8 @@
 
 ghost use Rattle.std.specs.Prelude.{◌≡◌, ◌%◌, ◌^◌, ◌++◌, IfOk, OnErr};
 ghost use Rattle.std.specs.Int.{w8, w16, w32};
-ghost use Rattle.krb_name.specs.Cursor.{number_bytes, signed_bytes, data_bytes};
-ghost use Rattle.krb_name.proofs.Rows.{Spelling};
+ghost use Rattle.krb_file.specs.Cursor.{number_bytes, signed_bytes, data_bytes};
+ghost use Rattle.krb_file.proofs.Rows.{Spelling};
 ghost use Rattle.krb_keytab.specs.Entry.{LengthsFit, FitsEntry};
 ghost use Rattle.krb_keytab.specs.Inner.Entry.{HoldsEntry, HoldsNone};
 ghost use Rattle.krb_keytab.specs.Inner.Putting.{body_bytes};
@@ -13,7 +13,8 @@ use crate::field::{Counted, Data, Field};
 use crate::listed::Listed;
 use crate::part::{Part, bytes_of_u16, bytes_of_u32};
 use crate::view::{EntryView, counting_kvno};
-use krb_name::{Bytes, FileCursor, Short};
+use krb_file::{FileCursor, Short};
+use krb_name::Components;
 
 /// The fields of an entry after the number of its components, which are a `C`: the realm, the
 /// components and a `D`. The rest of the record follows.
@@ -28,7 +29,7 @@ type Dated<'a> = DatedOf<'a, [u8; 4], [u8; 4], [u8; 1], [u8; 2]>;
 
 /// What is written of an entry after the size of its record, with numbers as bytes: the version
 /// number in 32 bits is the rest.
-type Body<'a> = (([u8; 2], FieldsOf<'a, &'a [Bytes], Dated<'a>>), [u8; 4]);
+type Body<'a> = (([u8; 2], FieldsOf<'a, &'a Components, Dated<'a>>), [u8; 4]);
 
 /// What has a layout: how its fields are read and spelled.
 pub(crate) trait Laid {
@@ -83,7 +84,7 @@ impl Entry {
     {
         let name = self.principal();
         let bytes = name.realm.as_slice();
-        let components = name.components.as_slice();
+        let components = &name.components;
         let count = bytes_of_u16(components.len() as u16);
         let others = (Data { bytes }, (components, self.dated()));
         ((count, others), bytes_of_u32(self.kvno()))

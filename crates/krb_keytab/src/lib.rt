@@ -19,7 +19,6 @@ mod adder;
 mod edit;
 mod entry;
 mod fault;
-mod feed;
 mod field;
 mod finding;
 mod found;

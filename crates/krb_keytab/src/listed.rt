@@ -2,14 +2,15 @@
 
 ghost use Rattle.std.specs.Prelude.{◌≡◌, ◌<◌, ◌^◌, IfOk, OnOk, OnErr, None, length};
 ghost use Rattle.std.specs.Int.{w16};
-ghost use Rattle.krb_name.specs.Cursor.{data_at, data_bytes, times_at};
-ghost use Rattle.krb_name.proofs.CursorLaws.{IsField-data16};
-ghost use Rattle.krb_name.proofs.Repeated.{IsField-times};
-ghost use Rattle.krb_name.proofs.Rows.{spelling};
+ghost use Rattle.krb_file.specs.Cursor.{data_at, data_bytes, times_at};
+ghost use Rattle.krb_file.proofs.CursorLaws.{IsField-data16};
+ghost use Rattle.krb_file.proofs.Repeated.{IsField-times};
+ghost use Rattle.krb_file.proofs.Rows.{spelling};
 ghost use Rattle.krb_keytab.specs.Inner.Entry.{listed, IsRead, IsPassed};
 
 use crate::field::Field;
-use krb_name::{Bytes, Components, FileCursor, Short};
+use krb_file::{FileCursor, Short};
+use krb_name::Components;
 use std::alloc::{AllocError, Global};
 use std::marker::Model;
 
@@ -17,6 +18,8 @@ use std::marker::Model;
 #[derive(Drop)]
 pub(crate) struct Listed<'a> {
     count: u16,
+    // How many bytes they take, with their lengths.
+    len: usize,
     // The components, and what comes after them.
     bytes: &'a [u8],
 }
@@ -38,25 +41,31 @@ impl<'a> Field<'a> for Listed<'a> {
     fn read(cursor: &mut FileCursor<'a>, count: u16) -> Result<Listed<'a>, Short> {
         let bytes = cursor.rest();
         skip_components(cursor, count)?;
-        Ok(Listed { count, bytes })
+        let len = bytes.len().saturating_sub(cursor.rest().len());
+        Ok(Listed { count, len, bytes })
     }
 }
 
 impl<'a> Listed<'a> {
     /// Copies the components.
-    #[tactic(auto, using(krb_name::proofs::Repeated::times_goes_on, krb_name::proofs::Repeated::times_stops, krb_name::proofs::Repeated::times_done))]
+    #[tactic(auto, using(krb_file::proofs::Repeated::times_goes_on, krb_file::proofs::Repeated::times_stops, krb_file::proofs::Repeated::times_done))]
     pub(crate) fn to_components(&self, alloc: Global) -> Result<Components, AllocError>
         ensures { IfOk result (λ components. components ≡ self.now) }
     {
         let count = self.count;
         let mut cursor = FileCursor::new(self.bytes);
-        let mut components = Components::with_room(alloc, usize::from(count))?;
+        let lengths = usize::from(count) * 2;
+        let mut components = Components::with_room(
+            alloc,
+            usize::from(count),
+            self.len.saturating_sub(lengths),
+        )?;
         for _ in 0..count {
             // Can't fail: the invariant says that `count` components are here.
             let Ok(component) = cursor.read_data16() else {
                 break;
             };
-            components.push(Bytes::from_slice(alloc, component)?)?;
+            components.push(component)?;
         }
         Ok(components)
     }

@@ -3,12 +3,12 @@
 ghost use Rattle.std.specs.Prelude.{◌≡◌, ◌+◌, ◌<◌, ◌≤◌, ◌^◌, ◌++◌, ℕ, ⊤, List, All, length};
 ghost use Rattle.std.specs.Int.{w16, w32};
 ghost use Rattle.std.specs.List.{flat_map};
-ghost use Rattle.krb_name.specs.Cursor.{number_bytes, data_bytes};
+ghost use Rattle.krb_file.specs.Cursor.{number_bytes, data_bytes};
 ghost use Rattle.krb_keytab.specs.Inner.Putting.{PutsTo};
 
 use crate::field::Data;
 use byteorder::{BigEndian, ByteOrder};
-use krb_name::Bytes;
+use krb_name::Components;
 
 /// A part of a record, or a row of parts in nested pairs.
 pub(crate) trait Part {
@@ -61,15 +61,14 @@ impl Part for Data<'_> {
     }
 }
 
-impl Part for &[Bytes] {
+impl Part for &Components {
     ghost spelled = { λ components. flat_map (data_bytes w16) components.now };
 
     ghost Fits = { λ components. All (λ component. length component < 2 ^ 16) components.now };
 
     fn size(&self) -> usize {
         let mut sum = 0;
-        for component in *self {
-            let bytes = component.as_slice();
+        for bytes in self.iter() {
             sum += Data { bytes }.size();
         }
         sum
@@ -77,8 +76,7 @@ impl Part for &[Bytes] {
 
     fn put(&self, out: &mut [u8], at: usize) -> usize {
         let mut end = at;
-        for component in *self {
-            let bytes = component.as_slice();
+        for bytes in self.iter() {
             end = Data { bytes }.put(out, end);
         }
         end

@@ -2,10 +2,10 @@
 
 ghost use Rattle.std.specs.Prelude.{◌≡◌, ◌+◌, ◌<◌, ◌≤◌, ℕ, true, List, [], ◌++◌, Option, None, Result, Ok, IfSome, if◌then◌else◌, is_some};
 ghost use Rattle.std.specs.Io.KnownBytes.{Consumes};
-ghost use Rattle.krb_name.specs.Flow.{counted};
+ghost use Rattle.krb_file.specs.Flow.{counted};
 ghost use Rattle.krb_keytab.specs.Entry.{KeytabEntry};
 ghost use Rattle.krb_keytab.specs.Fault.{failed_reads};
-ghost use Rattle.krb_name.specs.File.{file_limit};
+ghost use Rattle.krb_file.specs.File.{file_limit};
 ghost use Rattle.krb_keytab.specs.Items.{HasRead, passed, stage_after, stage_passed, entries_after, last_answer, GivesMore};
 ghost use Rattle.krb_keytab.specs.Inner.Meeting.{MeetsFirst};
 
@@ -13,7 +13,7 @@ use crate::entry::Entry;
 use crate::fault::KeytabFault;
 use crate::stage::Stage;
 use crate::step::{pass_entry, read_entry, read_version};
-use krb_name::{Source, Window};
+use krb_file::{Feed, Source, Window};
 use std::alloc::Global;
 use std::marker::Model;
 
@@ -39,7 +39,7 @@ pub struct EntryReader<S> {
 
 impl<S> Model for EntryReader<S> {
     ghost use Rattle.std.specs.Prelude.{◌≤◌};
-    ghost use Rattle.krb_name.specs.File.{file_limit};
+    ghost use Rattle.krb_file.specs.File.{file_limit};
     ghost use Rattle.krb_keytab.specs.Items.{EntriesRead};
     ghost use Rattle.krb_keytab.specs.Inner.Meeting.{IsWithin};
 
@@ -188,31 +188,24 @@ impl<S: Source> EntryReader<S> {
 }
 
 // Reads the version, and then on to the first entry.
-fn read_first<S: Source>(
-    alloc: Global,
-    window: &mut Window<S>,
-) -> Result<Option<Entry>, KeytabFault>
-    requires start { window.old.given ≡ 0 }
-    ensures meets { MeetsFirst (S.remaining window.old.source) (S.remaining window.new.source)
-        window.old window.new result }
-    ensures failed { S.failure_count window.new.source
-        ≡ counted (S.failure_count window.old.source) (failed_reads result) }
-    ensures lent { S.lender window.new.source ≡ S.lender window.old.source }
+fn read_first<F: Feed>(alloc: Global, feed: &mut F) -> Result<Option<Entry>, KeytabFault>
+    requires start { (F.hand feed.old).given ≡ 0 }
+    ensures meets { MeetsFirst (F.hand feed.old) (F.hand feed.new) result }
+    ensures failed { F.failure_count feed.new ≡ counted (F.failure_count feed.old) (failed_reads result) }
+    ensures lent { F.lender feed.new ≡ F.lender feed.old }
 {
-    read_version(window)?;
-    read_entry(alloc, window)
+    read_version(feed)?;
+    read_entry(alloc, feed)
 }
 
 // Reads the version, and then on to the first entry, and returns whether there is one.
-fn pass_first<S: Source>(window: &mut Window<S>) -> Result<bool, KeytabFault>
-    requires start { window.old.given ≡ 0 }
+fn pass_first<F: Feed>(feed: &mut F) -> Result<bool, KeytabFault>
+    requires start { (F.hand feed.old).given ≡ 0 }
     ensures meets { (answer : Result (Option KeytabEntry) KeytabFault) × (result ≡ passed answer)
-        × MeetsFirst (S.remaining window.old.source) (S.remaining window.new.source)
-        window.old window.new answer }
-    ensures failed { S.failure_count window.new.source
-        ≡ counted (S.failure_count window.old.source) (failed_reads result) }
-    ensures lent { S.lender window.new.source ≡ S.lender window.old.source }
+        × MeetsFirst (F.hand feed.old) (F.hand feed.new) answer }
+    ensures failed { F.failure_count feed.new ≡ counted (F.failure_count feed.old) (failed_reads result) }
+    ensures lent { F.lender feed.new ≡ F.lender feed.old }
 {
-    read_version(window)?;
-    pass_entry(window)
+    read_version(feed)?;
+    pass_entry(feed)
 }

@@ -1,23 +1,24 @@
 //! Reading a keytab record by record, with one record in memory.
 
-ghost use Rattle.std.specs.Prelude.{◌≡◌, ◌≢◌, ◌⊎◌, ◌+◌, ◌<◌, ◌≤◌, pos, neg_ℤ, true, false, FitsSigned, unsigned_abs, length, IfOk, IfErr, OnErr, MatchOption, None, Some, Err};
+ghost use Rattle.std.specs.Prelude.{◌≡◌, ◌≢◌, ◌⊎◌, ◌+◌, ◌^◌, ◌<◌, ◌≤◌, [], pos, neg_ℤ, true, false, FitsSigned, unsigned_abs, length, IfOk, IfErr, OnErr, MatchOption, None, Some, Err};
 ghost use Rattle.std.specs.Int.{w32};
-ghost use Rattle.krb_name.specs.Flow.{counted};
-ghost use Rattle.krb_name.specs.Cursor.{signed_bytes};
+ghost use Rattle.krb_file.specs.Flow.{counted, failed_reads as read_failures};
+ghost use Rattle.krb_file.specs.Window.{Fills};
+ghost use Rattle.krb_file.specs.Cursor.{signed_bytes};
 ghost use Rattle.krb_keytab.specs.Entry.{KeytabEntry};
 ghost use Rattle.krb_keytab.specs.Inner.Entry.{HoldsEntry, HoldsNone};
 ghost use Rattle.krb_keytab.specs.Items.{LacksVersion};
 ghost use Rattle.krb_keytab.specs.Fault.{failed_reads};
-ghost use Rattle.krb_name.specs.File.{file_limit, TakesFile};
+ghost use Rattle.krb_file.specs.File.{file_limit, TakesFile};
 ghost use Rattle.krb_keytab.specs.Format.{version};
 ghost use Rattle.krb_keytab.specs.Inner.Meeting.{MeetsOne, MeetsSizeAt, MeetsNext, MeetsKept, MeetsPast, OpensAt, RunsOutTo, MeetsBody, IsFewAt, IsFound, IsFaulty};
 
 use crate::entry::Entry;
 use crate::fault::KeytabFault;
-use crate::feed::Feed;
 use crate::found::{Found, Keep, Nothing};
 use crate::view::EntryView;
-use krb_name::{FILE_LIMIT, FileCursor, NamedListBuilder, Short, SourceFailed};
+use krb_file::{FILE_LIMIT, Feed, FileCursor, ReadFault, Short, SourceFailed};
+use krb_name::NamedListBuilder;
 use std::alloc::{AllocError, Global};
 
 /// The version of the format that is read and written. A keytab begins with it.
@@ -28,14 +29,13 @@ pub(crate) const SIZE_LENGTH: usize = 4;
 
 /// Reads the version of a file.
 pub(crate) fn read_version<F: Feed>(feed: &mut F) -> Result<(), KeytabFault>
-    requires start { (F.at_hand feed.old).given ≡ 0 }
-    ensures opens { OpensAt (F.remaining feed.old) (F.remaining feed.new)
-        (F.at_hand feed.old) (F.at_hand feed.new) result }
+    requires start { (F.hand feed.old).given ≡ 0 }
+    ensures opens { OpensAt (F.hand feed.old) (F.hand feed.new) result }
     ensures memory { result ≡ Err KeytabFault.OutOfMemory → F.allocates }
     ensures failed { F.failure_count feed.new ≡ counted (F.failure_count feed.old) (failed_reads result) }
     ensures lent { F.lender feed.new ≡ F.lender feed.old }
 {
-    let whole = feed.hold(VERSION.len())?;
+    let whole = hold(feed, VERSION.len())?;
     if is_version(feed.bytes()) {
         Ok(())
     } else if whole {
@@ -50,11 +50,11 @@ pub(crate) fn read_entries<F: Feed>(
     alloc: Global,
     feed: &mut F,
 ) -> Result<NamedListBuilder<Entry>, KeytabFault>
-    requires start { (F.at_hand feed.old).given ≡ 0 }
+    requires start { (F.hand feed.old).given ≡ 0 }
     ensures found { IfOk result (λ entries. IsFound
-        (F.remaining feed.old) (F.remaining feed.new) entries) }
-    ensures fault { IfErr result (IsFaulty (F.remaining feed.old) (F.remaining feed.new)) }
-    ensures taken { TakesFile (F.remaining feed.old) (F.remaining feed.new) }
+        (F.hand feed.old).source (F.hand feed.new).source entries) }
+    ensures fault { IfErr result (IsFaulty (F.hand feed.old).source (F.hand feed.new).source) }
+    ensures taken { TakesFile (F.hand feed.old).source (F.hand feed.new).source }
     ensures failed { F.failure_count feed.new ≡ counted (F.failure_count feed.old) (failed_reads result) }
     ensures lent { F.lender feed.new ≡ F.lender feed.old }
 {
@@ -70,9 +70,8 @@ pub(crate) fn read_entries<F: Feed>(
 
 /// Reads records up to the next entry and returns it, or none if the records have ended.
 pub(crate) fn read_entry<F: Feed>(alloc: Global, feed: &mut F) -> Result<Option<Entry>, KeytabFault>
-    requires limit { (F.at_hand feed.old).given ≤ file_limit }
-    ensures meets { MeetsNext (F.remaining feed.old) (F.remaining feed.new)
-        (F.at_hand feed.old) (F.at_hand feed.new) result }
+    requires limit { (F.hand feed.old).given ≤ file_limit }
+    ensures meets { MeetsNext (F.hand feed.old) (F.hand feed.new) result }
     ensures failed { F.failure_count feed.new ≡ counted (F.failure_count feed.old) (failed_reads result) }
     ensures lent { F.lender feed.new ≡ F.lender feed.old }
 {
@@ -82,9 +81,8 @@ pub(crate) fn read_entry<F: Feed>(alloc: Global, feed: &mut F) -> Result<Option<
 /// Reads records up to the next entry, and returns whether there is one. There is none if the
 /// records have ended.
 pub(crate) fn pass_entry<F: Feed>(feed: &mut F) -> Result<bool, KeytabFault>
-    requires limit { (F.at_hand feed.old).given ≤ file_limit }
-    ensures meets { MeetsPast (F.remaining feed.old) (F.remaining feed.new)
-        (F.at_hand feed.old) (F.at_hand feed.new) result }
+    requires limit { (F.hand feed.old).given ≤ file_limit }
+    ensures meets { MeetsPast (F.hand feed.old) (F.hand feed.new) result }
     ensures failed { F.failure_count feed.new ≡ counted (F.failure_count feed.old) (failed_reads result) }
     ensures lent { F.lender feed.new ≡ F.lender feed.old }
 {
@@ -94,9 +92,8 @@ pub(crate) fn pass_entry<F: Feed>(feed: &mut F) -> Result<bool, KeytabFault>
 // Reads records up to the next entry, and returns what is kept of it, or none if the records have
 // ended.
 fn next_entry<F: Feed, K: Keep>(feed: &mut F, keep: &K) -> Result<Option<K::Kept>, KeytabFault>
-    requires limit { (F.at_hand feed.old).given ≤ file_limit }
-    ensures meets { MeetsKept K.kept_of (F.remaining feed.old)
-        (F.remaining feed.new) (F.at_hand feed.old) (F.at_hand feed.new) result }
+    requires limit { (F.hand feed.old).given ≤ file_limit }
+    ensures meets { MeetsKept K.kept_of (F.hand feed.old) (F.hand feed.new) result }
     ensures failed { F.failure_count feed.new ≡ counted (F.failure_count feed.old) (failed_reads result) }
     ensures lent { F.lender feed.new ≡ F.lender feed.old }
 {
@@ -114,9 +111,8 @@ pub(crate) fn read_record<F: Feed, K: Keep>(
     feed: &mut F,
     keep: &K,
 ) -> Result<Found<K::Kept>, KeytabFault>
-    requires limit { (F.at_hand feed.old).given ≤ file_limit }
-    ensures meets { MeetsOne K.kept_of (F.remaining feed.old)
-        (F.remaining feed.new) (F.at_hand feed.old) (F.at_hand feed.new) result }
+    requires limit { (F.hand feed.old).given ≤ file_limit }
+    ensures meets { MeetsOne K.kept_of (F.hand feed.old) (F.hand feed.new) result }
     ensures memory { result ≡ Err KeytabFault.OutOfMemory → F.allocates ⊎ K.allocates }
     ensures failed { F.failure_count feed.new ≡ counted (F.failure_count feed.old) (failed_reads result) }
     ensures lent { F.lender feed.new ≡ F.lender feed.old }
@@ -138,15 +134,14 @@ pub(crate) fn read_record<F: Feed, K: Keep>(
 
 // Reads the size of a record; none if the records have ended.
 fn read_size<F: Feed>(feed: &mut F) -> Result<Option<i32>, KeytabFault>
-    requires limit { (F.at_hand feed.old).given ≤ file_limit }
-    ensures meets { MeetsSizeAt (F.remaining feed.old) (F.remaining feed.new)
-        (F.at_hand feed.old) (F.at_hand feed.new) result }
+    requires limit { (F.hand feed.old).given ≤ file_limit }
+    ensures meets { MeetsSizeAt (F.hand feed.old) (F.hand feed.new) result }
     ensures memory { result ≡ Err KeytabFault.OutOfMemory → F.allocates }
     ensures failed { F.failure_count feed.new ≡ counted (F.failure_count feed.old) (failed_reads result) }
     ensures lent { F.lender feed.new ≡ F.lender feed.old }
 {
     let at = feed.given();
-    let whole = feed.hold(SIZE_LENGTH.min(FILE_LIMIT - at))?;
+    let whole = hold(feed, SIZE_LENGTH.min(FILE_LIMIT - at))?;
     let Ok(size) = size_of(feed.bytes()) else {
         let last = last_behind(feed.bytes(), at);
         return if whole { conclude(feed, last) } else { last };
@@ -166,6 +161,19 @@ fn last_behind(few: &[u8], at: usize) -> Result<Option<i32>, KeytabFault>
     } else {
         Err(KeytabFault::Truncated { at })
     }
+}
+
+// Takes the next `count` bytes, holds them alone, and returns whether so many came.
+fn hold<F: Feed>(feed: &mut F, count: usize) -> Result<bool, ReadFault>
+    requires count { (F.hand feed.old).given + count < 2 ^ 64 }
+    ensures fills { Fills (F.hand feed.old).source (F.hand feed.new).source
+        (record (F.hand feed.old) { bytes = [] }) (F.hand feed.new) count result }
+    ensures memory { result ≡ Err ReadFault.OutOfMemory → F.allocates }
+    ensures failed { F.failure_count feed.new ≡ counted (F.failure_count feed.old) (read_failures result) }
+    ensures lent { F.lender feed.new ≡ F.lender feed.old }
+{
+    feed.clear();
+    feed.fill(count)
 }
 
 // Whether these are the bytes of the version.
@@ -193,13 +201,11 @@ fn pass_hole<F: Feed, E: Drop>(
     at: usize,
     count: usize,
 ) -> Result<Found<E>, KeytabFault>
-    requires at { (F.at_hand feed.old).given ≡ at + 4 }
+    requires at { (F.hand feed.old).given ≡ at + 4 }
     requires some { 0 < count }
     requires limit { at + 4 + count ≤ file_limit }
-    ensures meets { (of_entry : KeytabEntry → E) → MeetsBody of_entry
-        (F.remaining feed.old) (F.remaining feed.new)
-        (F.at_hand feed.old) (F.at_hand feed.new) at (neg_ℤ (pos count)) result }
-    ensures kept { (F.at_hand feed.new).bytes ≡ (F.at_hand feed.old).bytes }
+    ensures meets { (of_entry : KeytabEntry → E)
+        → MeetsBody of_entry (F.hand feed.old) (F.hand feed.new) at (neg_ℤ (pos count)) result }
     ensures memory { result ≢ Err KeytabFault.OutOfMemory }
     ensures failed { F.failure_count feed.new ≡ counted (F.failure_count feed.old) (failed_reads result) }
     ensures lent { F.lender feed.new ≡ F.lender feed.old }
@@ -218,16 +224,15 @@ fn read_content<F: Feed, K: Keep>(
     count: usize,
     keep: &K,
 ) -> Result<Found<K::Kept>, KeytabFault>
-    requires at { (F.at_hand feed.old).given ≡ at + 4 }
+    requires at { (F.hand feed.old).given ≡ at + 4 }
     requires some { 0 < count }
     requires limit { at + 4 + count ≤ file_limit }
-    ensures meets { MeetsBody K.kept_of (F.remaining feed.old) (F.remaining feed.new)
-        (F.at_hand feed.old) (F.at_hand feed.new) at (pos count) result }
+    ensures meets { MeetsBody K.kept_of (F.hand feed.old) (F.hand feed.new) at (pos count) result }
     ensures memory { result ≡ Err KeytabFault.OutOfMemory → F.allocates ⊎ K.allocates }
     ensures failed { F.failure_count feed.new ≡ counted (F.failure_count feed.old) (failed_reads result) }
     ensures lent { F.lender feed.new ≡ F.lender feed.old }
 {
-    if !feed.hold(count)? {
+    if !hold(feed, count)? {
         return Err(KeytabFault::Truncated { at });
     }
     match keep_of(feed.bytes(), keep)? {
@@ -250,10 +255,9 @@ fn keep_of<K: Keep>(body: &[u8], keep: &K) -> Result<Option<K::Kept>, AllocError
 
 // Answers `last` once the source has run out, and otherwise that there are too many bytes.
 fn conclude<F: Feed, T: Drop>(feed: &mut F, last: Result<T, KeytabFault>) -> Result<T, KeytabFault>
-    requires limit { (F.at_hand feed.old).given ≤ file_limit }
+    requires limit { (F.hand feed.old).given ≤ file_limit }
     requires last { failed_reads last ≡ 0 }
-    ensures runs_out { RunsOutTo (F.remaining feed.old) (F.remaining feed.new)
-        (F.at_hand feed.old) (F.at_hand feed.new) last result }
+    ensures runs_out { RunsOutTo (F.hand feed.old) (F.hand feed.new) last result }
     ensures memory { result ≡ Err KeytabFault.OutOfMemory → last ≡ Err KeytabFault.OutOfMemory }
     ensures failed { F.failure_count feed.new ≡ counted (F.failure_count feed.old) (failed_reads result) }
     ensures lent { F.lender feed.new ≡ F.lender feed.old }

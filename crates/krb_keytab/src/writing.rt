@@ -15,7 +15,7 @@ use crate::fault::KeytabFault;
 use crate::finding::Room;
 use crate::part::{Part, bytes_of_u32};
 use crate::step::SIZE_LENGTH;
-use krb_name::FILE_LIMIT;
+use krb_file::FILE_LIMIT;
 use std::alloc::AllocError;
 
 // Makes the bytes between two offsets a record of `entry`: its size, the entry, and zeros to the

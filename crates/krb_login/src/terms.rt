@@ -161,14 +161,15 @@ fn is_anonymous(accepted: &Accepted) -> bool
 fn is_named_anonymous(client: &Principal) -> bool
     ensures { IsTrue result ↔ (client.now.components ≡ anonymous_name) }
 {
-    match client.components.as_slice() {
-        [first, second] => is(first, b"WELLKNOWN") && is(second, b"ANONYMOUS"),
+    let mut components = client.components.iter();
+    match (components.next(), components.next(), components.next()) {
+        (Some(first), Some(second), None) => { is(first, b"WELLKNOWN") && is(second, b"ANONYMOUS") }
         _ => false,
     }
 }
 
-fn is(component: &Bytes, wanted: &[u8]) -> bool
+fn is(component: &[u8], wanted: &[u8]) -> bool
     ensures { IsTrue result ↔ (component.now ≡ wanted.now) }
 {
-    component.as_slice() == wanted
+    component == wanted
 }

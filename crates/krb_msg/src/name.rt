@@ -1,6 +1,6 @@
 //! A name without its realm.
 
-ghost use Rattle.std.specs.Prelude.{refl, ◌≡◌, IfOk};
+ghost use Rattle.std.specs.Prelude.{refl, ◌≡◌, IfOk, map};
 ghost use Rattle.std.specs.Option.{option_map};
 ghost use Rattle.krb_der.specs.Writing.{EncodesValue};
 ghost use Rattle.krb_msg.specs.Borrowed.{name_of};
@@ -13,7 +13,9 @@ use krb_der::{
     Cursor, Element, Encode, EncodeFault, Fault, Field, TextList, Writer, write_sequence,
 };
 use krb_name::{Bytes, Components, Principal};
+use smallvec::SmallVec;
 use std::alloc::{AllocError, Global};
+use std::convert::AsSlice;
 
 /// A `PrincipalName` (RFC 4120, section 5.2.2) of a message.
 #[derive(Debug, Drop)]
@@ -116,10 +118,34 @@ impl Encode for NameIn<'_> {
     }
 }
 
+// A component that is lent, to be written as a string.
+#[derive(Clone, Copy, Default)]
+struct Component<'a>(&'a [u8]);
+
+impl AsSlice<u8> for Component<'_> {
+    ghost items = { λ c. c.0.now };
+
+    fn as_slice(&self) -> &[u8] {
+        self.0
+    }
+}
+
+// The components, to be written. Up to four take no memory.
+fn lent(components: &Components) -> Result<SmallVec<Component<'_>, 4>, AllocError>
+    ensures { IfOk result (λ made. map (λ c. c.0.now) made.items ≡ components.now) }
+{
+    let mut made = SmallVec::new(components.allocator());
+    for component in components.iter() {
+        made.push(Component(component))?;
+    }
+    Ok(made)
+}
+
 fn write_name(name_type: &i32, components: &Components, out: &mut Writer) -> Result<(), EncodeFault>
     ensures { EncodesValue principal_name (name_value name_type.now components.now) result out.old out.new }
 {
-    let rest = (Field::<0xa1, _>(TextList(components.as_slice())), ());
+    let made = lent(components)?;
+    let rest = (Field::<0xa1, _>(TextList(made.as_slice())), ());
     let row = (Field::<0xa0, _>(name_type), rest);
     write_sequence(&row, out)
 }

@@ -7,7 +7,7 @@ ghost use Rattle.krb_der.specs.Computed.Listed.{AreListed, listed};
 ghost use Rattle.krb_msg.specs.Module.{sequence_of};
 
 use krb_der::{Cursor, Element, Fault, Text};
-use krb_name::{Bytes, Components};
+use krb_name::Components;
 use std::alloc::{AllocError, Global};
 use std::marker::Model;
 
@@ -43,11 +43,25 @@ impl<'a> Texts<'a> {
     pub fn to_owned(&self, alloc: Global) -> Result<Components, AllocError>
         ensures { IfOk result (λ made. made ≡ self.now) }
     {
-        let mut made = Components::new(alloc);
+        let (count, len) = self.room();
+        let mut made = Components::with_room(alloc, count, len)?;
         for text in self.iter() {
-            made.push(Bytes::from_slice(alloc, text)?)?;
+            made.push(text)?;
         }
         Ok(made)
+    }
+}
+
+impl Texts<'_> {
+    // How many texts there are, and how many bytes they have in all.
+    fn room(&self) -> (usize, usize) {
+        let mut count = 0usize;
+        let mut len = 0usize;
+        for text in self.iter() {
+            count = count.saturating_add(1);
+            len = len.saturating_add(text.len());
+        }
+        (count, len)
     }
 }
 

@@ -29,3 +29,11 @@ pub is_seam : (old new : List ℕ) (n : ℕ) → n ≡ length old → IsUtf8 old
 is_seam old new n whole old_is new_is continues =
     let boundary = IsCharBoundary-from_take new (length old) new_is (not_shorter old new continues) (subst IsUtf8 (sym (cut_back old new continues)) old_is) in
     subst (IsSplitPoint new) (sym whole) (boundary.0, λ some. boundary.1)
+
+-- what was gone on with is gone on with further
+pub further : (old now new : List ℕ) → Continues old now → Continues now new → Continues old new
+further old now new first continues = goes_on old now new first.more first.is continues
+
+-- and so is it if a part was written
+pub written : (old now new part : List ℕ) → Continues old now → new ≡ now ++ part → Continues old new
+written old now new part first is = further old now new first (record { more = part; is = is })

@@ -3,11 +3,11 @@ use Rattle.std.proofs.Common.{◌≡◌, ◌≢◌, ℕ, ◌+◌, ◌-◌, ◌*�
 use Rattle.std.proofs.lemmas.Bool.Decides.{nat_tests}
 use Rattle.std.proofs.lemmas.Bool.{eqb-true}
 use Rattle.std.proofs.lemmas.Option.{cond_some}
-use Rattle.krb_name.specs.Cursor.{◌>>=◌}
+use Rattle.krb_file.specs.Cursor.{◌>>=◌}
 use Rattle.krb_name.specs.Text.{is_special, is_printable, hex_digit, escaped_byte}
 use Rattle.krb_name.specs.Reading.{IsUnprintable, IsNoEscape, IsSeparator}
 use Rattle.krb_name.specs.Inner.Escapes.{hex_value, hex_byte, hex_at, escape_at, byte_at}
-use Rattle.krb_name.proofs.CursorLaws.{bind_some, some_is}
+use Rattle.krb_file.proofs.CursorLaws.{bind_some, some_is}
 
 -- which way a test went
 chosen : {A : Type 0} (b : Bool) (x y z : A) → cond b x y ≡ z → ((b ≡ true) × (x ≡ z)) ⊎ ((b ≡ false) × (y ≡ z))

@@ -1,6 +1,6 @@
 -- From the parts of a name's text to the answer for the whole.
 use Rattle.std.proofs.Common.{◌≡◌, ℕ, ℤ, inl, inr, List, [], ◌∷◌, ◌++◌, length, Ok, Err, ap, subst, ◌∙◌, append_assoc, append-nil, arith}
-use Rattle.krb_name.specs.Cursor.{Place}
+use Rattle.krb_file.specs.Cursor.{Place}
 use Rattle.krb_name.specs.Text.{escaped}
 use Rattle.krb_name.specs.Reading.{components_text, IsTextOf, IsReadAs}
 use Rattle.krb_name.specs.declared.text_fault.TextFault.{TextFault}

@@ -6,13 +6,13 @@ use Rattle.std.proofs.lemmas.List.Concat.{flat_map-cons}
 use Rattle.std.specs.List.{AllByRecursion}
 use Rattle.krb_name.specs.declared.text_fault.TextFault.{TextFault}
 use Rattle.krb_name.specs.declared.text_fault.TextFault.TheVariants.{BadText, NoRealm, OutOfMemory}
-use Rattle.krb_name.specs.Cursor.{Place}
-use Rattle.krb_name.specs.Field.{IsBytes}
+use Rattle.krb_file.specs.Cursor.{Place}
+use Rattle.krb_file.specs.Field.{IsBytes}
 use Rattle.krb_name.specs.Text.{escaped_byte, escaped}
 use Rattle.krb_name.specs.Reading.{AreComponents, components_text}
 use Rattle.krb_name.specs.Inner.Escapes.{byte_at}
 use Rattle.krb_name.specs.Inner.Names.{Advances, AtEnd, ReadsByte, ReadsBytes, ReadsSome, before_slashes, ReadsName, ReadsComponents, OffendsInName}
-use Rattle.krb_name.proofs.CursorLaws.{IsBytes-append}
+use Rattle.krb_file.proofs.CursorLaws.{IsBytes-append}
 use Rattle.krb_name.proofs.EscapeLaws.{byte_takes, none_offends}
 
 abbrev pub place_of : ℕ → List ℕ → Place

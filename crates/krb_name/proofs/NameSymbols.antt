@@ -4,7 +4,7 @@ use Rattle.std.specs.List.{AllByRecursion}
 use Rattle.std.proofs.lemmas.Bool.{eq-eqb}
 use Rattle.std.proofs.lemmas.Grind.{flat_map-append}
 use Rattle.std.proofs.lemmas.List.Folds.{flat_map-map}
-use Rattle.krb_name.specs.Field.{IsBytes}
+use Rattle.krb_file.specs.Field.{IsBytes}
 use Rattle.krb_name.specs.Text.{is_printable, escaped_byte, escaped}
 use Rattle.krb_name.specs.Reading.{AreComponents, components_text, IsUnprintable, IsNoEscape, IsSeparator}
 use Rattle.krb_name.proofs.Symbols.{Symbol, Byte, Slash, Sign, spelled, spelling, IsSymbol, AreSymbols, ArePlain, InOrder, InOrder-symbols, byte_begins}

@@ -2,4 +2,4 @@ pub mod Components
 pub mod Escapes
 pub mod Named
 pub mod Names
-pub mod Window
+pub mod Held

@@ -1,11 +1,5 @@
 pub mod Name
 pub mod Named
-pub mod Flow
-pub mod Cursor
-pub mod Field
 pub mod Text
 pub mod Reading
-pub mod Pieces
-pub mod Window
-pub mod File
 pub mod Inner

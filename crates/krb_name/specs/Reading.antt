@@ -2,7 +2,7 @@
 -- left, or no realm.
 use Rattle.std.specs.Prelude.{◌≡◌, ◌≢◌, ℕ, ◌<◌, ◌⊎◌, false, List, [], ◌∷◌, ◌++◌, length, map, Result, Ok, Err}
 use Rattle.std.specs.List.{join_with_byte, AllByRecursion}
-use Rattle.krb_name.specs.Field.{IsBytes}
+use Rattle.krb_file.specs.Field.{IsBytes}
 use Rattle.krb_name.specs.Name.{SameName}
 use Rattle.krb_name.specs.Text.{is_printable, escaped_byte, escaped, text_of}
 use Rattle.krb_name.specs.declared.principal.Principal.{Principal}
@@ -79,6 +79,14 @@ IsReadAs text (Ok principal) = IsTextOf text principal
 IsReadAs text (Err (BadText at)) = IsOffence text at
 IsReadAs text (Err NoRealm) = LacksRealm text
 IsReadAs text (Err OutOfMemory) = Unit {0}
+
+-- what is answered if the text is only checked: how many components the name has; memory doesn't run
+-- out, since nothing is kept
+abbrev pub IsCheckedAs : List ℕ → Result ℕ TextFault → Type 0
+IsCheckedAs text (Ok count) = (principal : Principal) × IsTextOf text principal × (count ≡ length principal.components)
+IsCheckedAs text (Err OutOfMemory) = ⊥
+IsCheckedAs text (Err (BadText at)) = IsOffence text at
+IsCheckedAs text (Err NoRealm) = LacksRealm text
 
 -- two answers for one text are the same, if memory didn't run out
 abbrev pub SameAnswer : Result Principal TextFault → Result Principal TextFault → Type 0

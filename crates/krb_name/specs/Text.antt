@@ -1,6 +1,6 @@
 -- The text of a principal: components, `@` and realm, with a backslash before what would be read
--- otherwise. It is the text that RFC 1964, section 2.1.1, gives a name, with every byte that isn't
--- printable in hex.
+-- otherwise. A name of printable bytes has the text that RFC 1964, section 2.1.1, gives it. Any other
+-- byte is written in hexadecimal.
 use Rattle.std.specs.Prelude.{ℕ, ◌+◌, ◌/◌, ◌%◌, ◌==◌, Bool, ◌||◌, ◌&&◌, List, [], ◌∷◌, ◌++◌, map, nat_lt, nat_le, if◌then◌else◌}
 use Rattle.std.specs.List.{flat_map, join_with_byte}
 use Rattle.krb_name.specs.declared.principal.Principal.{Principal}

@@ -37,6 +37,9 @@ impl Bytes {
     }
 
     /// Makes a copy of `bytes`.
+    ///
+    /// # Errors
+    /// `AllocError`: there is no memory for the copy.
     pub fn from_slice(alloc: Global, bytes: &[u8]) -> Result<Self, AllocError>
         ensures { IfOk result (λ made. made ≡ bytes.now) }
     {

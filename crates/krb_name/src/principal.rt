@@ -47,8 +47,8 @@ impl Principal {
     {
         let mut hasher = FoldHasher::default();
         hasher.write(self.realm.as_slice());
-        for component in self.components.as_slice() {
-            hasher.write(component.as_slice());
+        for component in self.components.iter() {
+            hasher.write(component);
         }
         (hasher.finish() % (1 << 32)) as u32
     }
@@ -57,8 +57,11 @@ impl Principal {
     ///
     /// In components and realm a `/`, `@` or `\` is written with a backslash before it. A byte
     /// outside 0x21 to 0x7e is written as `\x` and two hexadecimal digits in lower case. A name
-    /// without components is written like one with a single empty component. This is the form of
-    /// RFC 1964, section 2.1.1, with everything that isn't printable in hexadecimal.
+    /// without components is written like one with a single empty component. For a name of printable
+    /// bytes this is the form of RFC 1964, section 2.1.1, which has no hexadecimal.
+    ///
+    /// # Errors
+    /// `AllocError`: there is no memory for the text.
     pub fn to_text(&self, alloc: Global) -> Result<String, AllocError>
         ensures { IfOk result (λ text. string_bytes text ≡ text_of self.now) }
     {
@@ -88,7 +91,7 @@ impl Principal {
         ensures ok { OnOk result (string_bytes text.new ≡ string_bytes text.old ++ text_of self.now) }
         ensures err { OnErr result (Continues (string_bytes text.old) (string_bytes text.new)) }
     {
-        write_components(text, self.components.as_slice())?;
+        write_components(text, &self.components)?;
         text.push('@')?;
         write_escaped(text, self.realm.as_slice())
     }
@@ -96,7 +99,7 @@ impl Principal {
     // The length of the text if nothing in it is escaped, or one more.
     fn plain_len(&self) -> usize {
         let mut length = self.realm.len().saturating_add(1);
-        for component in self.components.as_slice() {
+        for component in self.components.iter() {
             length = length.saturating_add(component.len()).saturating_add(1);
         }
         length
@@ -104,18 +107,19 @@ impl Principal {
 }
 
 impl Principal {
-    ghost use Rattle.krb_name.specs.Reading.{IsReadAs, SameAnswer};
+    ghost use Rattle.krb_name.specs.Reading.{IsCheckedAs, IsReadAs, SameAnswer};
 
     /// Reads a name from the text that `to_text` writes for it, and gives it `name_type`.
     ///
-    /// A text is read exactly if it is the text of a name with at least one component.
+    /// A text is read exactly if it is the text of a name with at least one component, and there is
+    /// memory for the name.
     ///
     /// # Errors
     /// - `BadText`, at the offset of the first offence from the left: a byte outside 0x21 to 0x7e,
     ///   a backslash that doesn't begin an escape that `to_text` writes, or a bare `/` or `@` after
     ///   the first bare `@`.
     /// - `NoRealm`: there is no offence, and no bare `@` either.
-    /// - `OutOfMemory`: there is no memory for the name.
+    /// - `OutOfMemory`: there is no memory for the name, or a component has 4 GiB or more.
     pub fn from_text(alloc: Global, text: &str, name_type: i32) -> Result<Principal, TextFault>
         ensures read { IsReadAs text.now result }
         ensures only { (answer : Result Principal TextFault)
@@ -130,6 +134,20 @@ impl Principal {
             name_type,
             components,
         })
+    }
+
+    /// Checks whether `text` is the text of a name, and returns how many components the name has.
+    /// Allocates no memory.
+    ///
+    /// # Errors
+    /// `BadText` and `NoRealm`, as [`Principal::from_text`] says.
+    pub fn check_text(text: &str) -> Result<usize, TextFault>
+        ensures { IsCheckedAs text.now result }
+    {
+        let mut cursor = TextCursor::new(text);
+        let count = cursor.count_components()?;
+        cursor.skip_realm()?;
+        Ok(count)
     }
 }
 

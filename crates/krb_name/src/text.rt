@@ -5,32 +5,33 @@ ghost use Rattle.std.specs.List.{join_with_byte};
 ghost use Rattle.krb_name.specs.Text.{escaped_byte, escaped, hex_digit, hex_escape};
 ghost use Rattle.krb_name.specs.Inner.Components.{behind_slashes, Continues, IsPlain};
 
-use crate::bytes::Bytes;
+use crate::components::{Components, ComponentsIter};
 use std::alloc::AllocError;
 
 /// Writes the components with a `/` between each two.
 #[tactic(auto, using(crate::proofs::Continued::unchanged, crate::proofs::Continued::goes_on))]
-pub(crate) fn write_components(text: &mut String, components: &[Bytes]) -> Result<(), AllocError>
+pub(crate) fn write_components(text: &mut String, components: &Components) -> Result<(), AllocError>
     ensures ok { OnOk result (string_bytes text.new
         ≡ string_bytes text.old ++ join_with_byte 0x2f (map escaped components.now)) }
     ensures err { OnErr result (Continues (string_bytes text.old) (string_bytes text.new)) }
 {
-    let Some((first, others)) = components.split_first() else {
+    let mut others = components.iter();
+    let Some(first) = others.next() else {
         return Ok(());
     };
-    write_escaped(text, first.as_slice())?;
+    write_escaped(text, first)?;
     write_others(text, others)
 }
 
-#[tactic(auto, using(crate::proofs::Continued::unchanged, crate::proofs::Continued::goes_on))]
-fn write_others(text: &mut String, others: &[Bytes]) -> Result<(), AllocError>
+#[tactic(auto, using(crate::proofs::Continued::unchanged, crate::proofs::Continued::further, crate::proofs::Continued::written))]
+fn write_others(text: &mut String, others: ComponentsIter) -> Result<(), AllocError>
     ensures ok { OnOk result (string_bytes text.new
-        ≡ string_bytes text.old ++ behind_slashes others.now) }
+        ≡ string_bytes text.old ++ behind_slashes others.entry) }
     ensures err { OnErr result (Continues (string_bytes text.old) (string_bytes text.new)) }
 {
     for component in others {
         text.push('/')?;
-        write_escaped(text, component.as_slice())?;
+        write_escaped(text, component)?;
     }
     Ok(())
 }

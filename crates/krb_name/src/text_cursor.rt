@@ -1,8 +1,8 @@
 //! Reading the text of a name, symbol by symbol.
 
 ghost use Rattle.std.specs.Prelude.{◌≡◌, ◌⊎◌, ◌+◌, ◌<◌, ◌^◌, [], ◌∷◌, length, option_map, IfSome, IfNone, MatchBool, None};
-ghost use Rattle.krb_name.specs.Cursor.{Place};
-ghost use Rattle.krb_name.specs.Inner.Names.{Advances, AtEnd, ReadsByte, ReadsName, ReadsComponents, ReadsRealm};
+ghost use Rattle.krb_file.specs.Cursor.{Place};
+ghost use Rattle.krb_name.specs.Inner.Names.{Advances, AtEnd, CountsComponents, ReadsByte, ReadsName, ReadsComponents, ReadsRealm, SkipsName, SkipsRealm};
 ghost use Rattle.krb_name.specs.Inner.Escapes.{hex_value, hex_byte, hex_at, escape_at, byte_at};
 
 use crate::bytes::Bytes;
@@ -43,7 +43,7 @@ impl<'a> TextCursor<'a> {
     {
         let mut components = Components::new(alloc);
         loop {
-            components.push(self.read_name(alloc)?)?;
+            components.push(self.read_name(alloc)?.as_slice())?;
             match self.next_separator() {
                 Some(b'/') => {}
                 Some(_) => return Ok(components),
@@ -61,6 +61,44 @@ impl<'a> TextCursor<'a> {
             return Err(TextFault::BadText { at: self.at });
         }
         Ok(realm)
+    }
+
+    /// Passes over the components up to the first bare `@` and past it, and returns how many there
+    /// are.
+    pub(crate) fn count_components(&mut self) -> Result<usize, TextFault>
+        ensures { CountsComponents self.old self.new result }
+    {
+        let mut count = 0;
+        loop {
+            self.skip_name()?;
+            match self.next_separator() {
+                Some(b'/') => count += 1,
+                Some(_) => return Ok(count + 1),
+                None => return Err(TextFault::NoRealm),
+            }
+        }
+    }
+
+    /// Passes over the realm, which is all that is left.
+    pub(crate) fn skip_realm(&mut self) -> Result<(), TextFault>
+        ensures { SkipsRealm self.old self.new result }
+    {
+        self.skip_name()?;
+        if !self.rest.is_empty() {
+            return Err(TextFault::BadText { at: self.at });
+        }
+        Ok(())
+    }
+
+    // Passes over a component or the realm, up to a separator or the end.
+    fn skip_name(&mut self) -> Result<(), TextFault>
+        ensures { SkipsName self.old self.new result }
+    {
+        while let Some(_byte) = self.next_byte() {}
+        if !is_name_end(self.rest) {
+            return Err(TextFault::BadText { at: self.at });
+        }
+        Ok(())
     }
 
     // Reads a component or the realm, up to a separator or the end.
@@ -82,6 +120,7 @@ impl<'a> TextCursor<'a> {
         ensures some { IfSome result (λ byte. Advances self.old (byte ∷ []) self.new
             × ((byte ≡ 0x2f) ⊎ (byte ≡ 0x40))) }
         ensures none { IfNone result (AtEnd self.old.rest → self.old.rest ≡ []) }
+        ensures small { self.new.at < 2 ^ 64 }
         ensures stays { IfNone result (self.new ≡ self.old) }
     {
         let (first, rest) = self.rest.split_first()?;

@@ -3,6 +3,8 @@ pub mod CountLaws
 pub mod DropLaws
 pub mod HeldLaws
 pub mod KeepingLaws
+pub mod KeptLaws
+pub mod KeysLaws
 pub mod LimitLaws
 pub mod NamesLaws
 pub mod OnceLaws

@@ -8,8 +8,8 @@ use Rattle.std.specs.declared.cmp.Ordering.{Ordering}
 use Rattle.std.specs.declared.cmp.Ordering.TheVariants.{Less, Equal, Greater}
 use Rattle.std.specs.Cmp.{IsTotalOrder}
 use Rattle.std.specs.Option.{unwrap_or}
-use Rattle.std.specs.Map.{lookup}
-use Rattle.std.specs.BTreeMap.{BTreeMap, Updates, get, is_at}
+use Rattle.std.specs.Map.{keys_of, lookup, lookup_key, remove_entry}
+use Rattle.std.specs.BTreeMap.{BTreeMap, Updates, get, insert_entry, is_at}
 use Rattle.std.proofs.lemmas.Cmp.{tied_itself}
 use Rattle.std.proofs.lemmas.Int.{ints}
 use Rattle.std.proofs.lemmas.List.Sorted.{Contains-permutation, IsPermutation-sym, length_permutation, sum_by-IsPermutation}
@@ -17,14 +17,14 @@ use Rattle.std.proofs.lemmas.List.Elements.{All-contains}
 use Rattle.std.proofs.lemmas.Map.Views.{tells_apart}
 use Rattle.std.proofs.lemmas.List.Sums.{length-filter}
 use Rattle.krb_replay.specs.Stamp.{RealmAndName, Stamp}
-use Rattle.krb_replay.specs.Inner.Held.{AreCounted, AreTimed, is_before, is_recent, number_before, number_of, since}
-use Rattle.krb_replay.specs.Inner.Counts.{AddsOne}
+use Rattle.krb_replay.specs.Inner.Held.{AreTimed, is_before, is_recent, number_before, number_of, since}
 use Rattle.krb_replay.specs.Memory.{AddsStamp}
 use Rattle.krb_tally.specs.Times.{HasEqual, LacksEqual}
 use Rattle.krb_replay.specs.Inner.Order.{TwoNames, client_cmp, names_of, stamp_cmp, stamp_total}
-use Rattle.krb_replay.specs.Inner.Times.{AddsTime, HasNoEmpty, SameTimes, TakesTime, number_by, one_at, times_by}
+use Rattle.krb_replay.specs.Inner.Times.{AddsTime, HasNoEmpty, KeepsKeys, SameTimes, TakesTime, kept_by, number_by, one_at, times_by}
 use Rattle.krb_replay.proofs.DropLaws.{among_rest, first_or_rest}
 use Rattle.krb_replay.proofs.HeldLaws.{all_of_none, both_kept, filter_longer, late_is, weighed}
+use Rattle.krb_replay.proofs.KeysLaws.{inserted_other, inserted_own, none_found, removed_other, same_found}
 use Rattle.krb_replay.proofs.OrderLaws.{exact_stamps}
 
 -- as many pass in another order
@@ -83,6 +83,41 @@ module _ {K : Type 0} (cmp : K → K → Ordering) (total : IsTotalOrder cmp) wh
   no_empty_after old new key value updates apart none other =
       at_value (is_at (cmp key) other) (get cmp new other) (get cmp old other) value (updates.0 other) apart (none other)
 
+  -- a key that is kept has another value
+  pub keys_stay : (old new : BTreeMap K (List ℤ)) → keys_of new.entries ≡ keys_of old.entries → (key : K) → kept_by cmp new key ≡ kept_by cmp old key
+  keys_stay old new same key = ap (λ (found : Option K). unwrap_or found key) (same_found (is_at (cmp key)) old.entries new.entries same)
+
+  none_left : (times : List ℤ) → times ≡ [] → 0 < length (filter (λ (time : ℤ). true) times) → ⊥
+  none_left [] none some = absurd (omega arith)
+  none_left (x ∷ times) none some = absurd (cc)
+
+  kept_unless : (at : Bool) (old new : BTreeMap K (List ℤ)) (key other : K) → is_at (cmp key) other ≡ at → (at ≡ true → ⊥)
+      → (at ≡ false → lookup_key (is_at (cmp other)) new.entries ≡ lookup_key (is_at (cmp other)) old.entries) → kept_by cmp new other ≡ kept_by cmp old other
+  kept_unless true old new key other is apart same = absurd (apart refl)
+  kept_unless false old new key other is apart same = ap (λ (found : Option K). unwrap_or found other) (same refl)
+
+  -- a key that had no times is inserted
+  pub inserted_keeps : (old new : BTreeMap K (List ℤ)) (key : K) (now : List ℤ) → times_by cmp old key ≡ [] → new.entries ≡ insert_entry cmp old.entries key now → KeepsKeys cmp old new
+  inserted_keeps old new key now none is other had has =
+      kept_unless (is_at (cmp key) other) old new key other refl
+      (λ at. none_left (times_by cmp old other) (sym (same_key old key other at) ∙ none) had)
+      (λ apart. ap (λ (entries : List (K × List ℤ)). lookup_key (is_at (cmp other)) entries) is ∙ inserted_other cmp total key other now apart old.entries)
+
+  pub inserted_is : (old new : BTreeMap K (List ℤ)) (key : K) (now : List ℤ) → get cmp old key ≡ None → new.entries ≡ insert_entry cmp old.entries key now
+      → kept_by cmp new key ≡ kept_by cmp old key
+  inserted_is old new key now none is =
+      ap (λ (found : Option K). unwrap_or found key)
+      (ap (λ (entries : List (K × List ℤ)). lookup_key (is_at (cmp key)) entries) is
+      ∙ inserted_own cmp total key now old.entries (none_found (is_at (cmp key)) old.entries none))
+      ∙ sym (ap (λ (found : Option K). unwrap_or found key) (none_found (is_at (cmp key)) old.entries none))
+
+  -- a key is removed
+  pub removed_keeps : (old new : BTreeMap K (List ℤ)) (key : K) → Updates cmp old new key None → new.entries ≡ remove_entry (is_at (cmp key)) old.entries → KeepsKeys cmp old new
+  removed_keeps old new key updates is other had has =
+      kept_unless (is_at (cmp key) other) old new key other refl
+      (λ at. none_left (times_by cmp new other) (hit old new key other None updates at) has)
+      (λ apart. ap (λ (entries : List (K × List ℤ)). lookup_key (is_at (cmp other)) entries) is ∙ removed_other cmp total key other apart old.entries)
+
   pub own_times : (old new : BTreeMap K (List ℤ)) (key : K) (now : List ℤ) → Updates cmp old new key (Some now) → times_by cmp new key ≡ now
   own_times old new key now updates = hit old new key key (Some now) updates (ap is_eq (tied_itself total key))
 
@@ -99,10 +134,12 @@ module _ {K : Type 0} (cmp : K → K → Ordering) (total : IsTotalOrder cmp) wh
       omega arith
 
   pub more_times : (old new : BTreeMap K (List ℤ)) (key : K) (now : List ℤ) (time : ℤ) → Updates cmp old new key (Some now) → IsPermutation (time ∷ times_by cmp old key) now
-      → AddsTime cmp old new key time
-  more_times old new key now time updates moved = record {
+      → KeepsKeys cmp old new → kept_by cmp new key ≡ kept_by cmp old key → AddsTime cmp old new key time
+  more_times old new key now time updates moved keeps own = record {
     times = λ other passes. more_at (is_at (cmp key) other) old new key other now time passes updates moved refl;
     no_empty = no_empty_after old new key (Some now) updates (some_are_not_empty now (let longer = length_permutation (time ∷ times_by cmp old key) now moved in omega arith));
+    keys = keeps;
+    own = own;
   }
 
   less_at : (at : Bool) (old new : BTreeMap K (List ℤ)) (key other : K) (value : Option (List ℤ)) (time : ℤ) (passes : ℤ → Bool) → Updates cmp old new key value
@@ -118,10 +155,11 @@ module _ {K : Type 0} (cmp : K → K → Ordering) (total : IsTotalOrder cmp) wh
       omega arith
 
   pub less_times : (old new : BTreeMap K (List ℤ)) (key : K) (value : Option (List ℤ)) (time : ℤ) → Updates cmp old new key value
-      → IsPermutation (times_by cmp old key) (time ∷ unwrap_or value []) → value ≢ Some [] → TakesTime cmp old new key time
-  less_times old new key value time updates moved apart = record {
+      → IsPermutation (times_by cmp old key) (time ∷ unwrap_or value []) → value ≢ Some [] → KeepsKeys cmp old new → TakesTime cmp old new key time
+  less_times old new key value time updates moved apart keeps = record {
     times = λ other passes. less_at (is_at (cmp key) other) old new key other value time passes updates moved refl;
     no_empty = no_empty_after old new key value updates apart;
+    keys = keeps;
   }
 
   still_at : (at : Bool) (old new : BTreeMap K (List ℤ)) (key other : K) (passes : ℤ → Bool) (was : List ℤ) → Updates cmp old new key (Some was)
@@ -133,10 +171,11 @@ module _ {K : Type 0} (cmp : K → K → Ordering) (total : IsTotalOrder cmp) wh
 
   -- what was there is written again
   pub still_times : (old new : BTreeMap K (List ℤ)) (key : K) (was : List ℤ) → Updates cmp old new key (Some was) → times_by cmp old key ≡ was
-      → (HasNoEmpty cmp old → Some was ≢ Some []) → SameTimes cmp old new
-  still_times old new key was updates same apart = record {
+      → (HasNoEmpty cmp old → Some was ≢ Some []) → KeepsKeys cmp old new → SameTimes cmp old new
+  still_times old new key was updates same apart keeps = record {
     times = λ other passes. still_at (is_at (cmp key) other) old new key other passes was updates same refl;
     no_empty = λ none. no_empty_after old new key (Some was) updates (apart none) none;
+    keys = keeps;
   }
 
 same_get : {K : Type 0} (cmp : K → K → Ordering) (old new : BTreeMap K (List ℤ)) (other : K) → new.entries ≡ old.entries → get cmp new other ≡ get cmp old other
@@ -146,6 +185,7 @@ pub same_times : {K : Type 0} (cmp : K → K → Ordering) (old new : BTreeMap K
 same_times cmp old new same = record {
   times = λ other passes. ap (λ (found : Option (List ℤ)). length (filter passes (unwrap_or found []))) (same_get cmp old new other same);
   no_empty = λ none other empty. none other (sym (same_get cmp old new other same) ∙ empty);
+  keys = λ key had has. ap (λ entries. unwrap_or (lookup_key (is_at (cmp key)) entries) key) same;
 }
 
 -- one less, and then the same
@@ -154,6 +194,9 @@ pub less_then_same : {K : Type 0} (cmp : K → K → Ordering) (old mid new : BT
 less_then_same cmp old mid new key time less same = record {
   times = λ other passes. let now = less.times other passes in let still = same.times other passes in omega arith;
   no_empty = λ none. same.no_empty (less.no_empty none);
+  keys = λ other had has.
+      let still = same.times other (λ (time : ℤ). true) in
+      same.keys other (omega arith) has ∙ less.keys other had (omega arith);
 }
 
 -- the same, and then one less
@@ -162,6 +205,9 @@ pub same_then_less : {K : Type 0} (cmp : K → K → Ordering) (old mid new : BT
 same_then_less cmp old mid new key time same less = record {
   times = λ other passes. less.times other passes ∙ same.times other passes;
   no_empty = λ none. less.no_empty (same.no_empty none);
+  keys = λ other had has.
+      let still = same.times other (λ (time : ℤ). true) in
+      less.keys other (omega arith) has ∙ same.keys other had (omega arith);
 }
 
 -- one more, and one less
@@ -170,6 +216,9 @@ pub more_then_less : {K : Type 0} (cmp : K → K → Ordering) (old mid new : BT
 more_then_less cmp old mid new key time more less = record {
   times = λ other passes. let one = more.times other passes in let now = less.times other passes in omega arith;
   no_empty = λ none. less.no_empty (more.no_empty none);
+  keys = λ other had has.
+      let now = more.times other (λ (time : ℤ). true) in
+      less.keys other (omega arith) has ∙ more.keys other had (omega arith);
 }
 
 -- ---- a time among others
@@ -274,18 +323,6 @@ module _ (cmp : TwoNames → TwoNames → Ordering) where
         let swapped = swap_tests (passes first.time) (is_at (cmp (names_of first)) names) in
         omega arith;
     no_empty = takes.no_empty timed.no_empty;
-  }
-
-  -- the counts after one more stamp
-  pub counted_more : (old new : List Stamp) (before after : BTreeMap TwoNames ℕ) (added : Stamp) → AreCounted cmp old before → IsPermutation (added ∷ old) new
-      → AddsOne cmp before after (names_of added) → AreCounted cmp new after
-  counted_more old new before after added counted moved more = record {
-    each = λ names.
-        let one = one_more (λ (stamp : Stamp). is_at (cmp (names_of stamp)) names) added old new moved in
-        let was = counted.each names in
-        let now = more.counts names in
-        omega arith;
-    no_zero = more.no_zero counted.no_zero;
   }
 
   module _ (total : IsTotalOrder cmp) where

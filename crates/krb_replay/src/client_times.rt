@@ -1,6 +1,8 @@
 //! The times of each client's tuples.
 
 ghost use Rattle.std.specs.Prelude.{◌≡◌, ◌∷◌, [], Contains, IsTrue, OnErr, OnOk, false, length};
+ghost use Rattle.std.specs.BTreeMap.{btree_map_len, get_key};
+ghost use Rattle.std.specs.Option.{option_map};
 ghost use Rattle.krb_replay.specs.Inner.Held.{is_recent};
 ghost use Rattle.krb_replay.specs.Inner.Order.{TwoNames, client_cmp};
 ghost use Rattle.krb_replay.specs.Inner.Times.{AddsTime, HasNoEmpty, SameTimes, TakesTime, number_by, times_by};
@@ -11,7 +13,8 @@ use std::alloc::{AllocError, Global};
 use std::collections::BTreeMap;
 
 /// The times of each client's tuples, if it has any: in microseconds since 1970-01-01T00:00:00Z, and
-/// each as often as a tuple has it.
+/// each as often as a tuple has it. The names of a client's first tuple are kept, as long as it has
+/// any.
 #[derive(Debug, Drop)]
 pub(crate) struct ClientTimes {
     times: BTreeMap<ByClient, Times>,
@@ -26,6 +29,23 @@ impl ClientTimes {
         ClientTimes {
             times: BTreeMap::new(alloc),
             alloc,
+        }
+    }
+
+    /// Returns how many clients have tuples.
+    pub(crate) fn len(&self) -> usize
+        ensures { result ≡ btree_map_len self.now.times }
+    {
+        self.times.len()
+    }
+
+    /// Returns the names that are kept of the client, if it has tuples.
+    pub(crate) fn kept(&self, client: &ByClient) -> Option<&ByClient>
+        ensures { option_map (λ kept. kept.now) result ≡ get_key client_cmp self.now.times client.now }
+    {
+        match self.times.get_key_value(client) {
+            Some((kept, _)) => Some(kept),
+            None => None,
         }
     }
 
@@ -54,11 +74,8 @@ impl ClientTimes {
         ensures ok { OnOk result (AddsTime client_cmp self.old.times self.new.times client time) }
         ensures err { OnErr result (SameTimes client_cmp self.old.times self.new.times) }
     {
-        if self.of(&client) > 0 {
-            match self.times.get_mut(&client) {
-                Some(times) => return times.add(self.alloc, time),
-                None => return Err(AllocError),
-            }
+        if let Some(times) = self.times.get_mut(&client) {
+            return times.add(self.alloc, time);
         }
         self.times.insert(client, Times::new(time))?;
         Ok(())

@@ -1,7 +1,8 @@
 //! How many tuples each client has, or each pair of names.
 
 ghost use Rattle.std.specs.Prelude.{◌≡◌, ◌<◌, IfSome, OnErr, OnOk};
-ghost use Rattle.std.specs.BTreeMap.{btree_map_len};
+ghost use Rattle.std.specs.BTreeMap.{btree_map_len, get_key};
+ghost use Rattle.std.specs.Option.{option_map};
 ghost use Rattle.std.specs.declared.cmp.Ordering.TheVariants.{Equal};
 ghost use Rattle.krb_replay.specs.Inner.Counts.{AddsOne, HasNoZero, SameCounts, TakesOne, count_by};
 
@@ -43,7 +44,8 @@ impl<K: Ord + Drop> Counts<K> {
 
     /// Returns the equal key that is kept, if the key has tuples.
     pub(crate) fn kept(&self, key: &K) -> Option<&K>
-        ensures { IfSome result (λ kept. K.cmp key.now kept.now ≡ Equal) }
+        ensures equal { IfSome result (λ kept. K.cmp key.now kept.now ≡ Equal) }
+        ensures same { option_map (λ kept. kept.now) result ≡ get_key K.cmp self.now.counts key.now }
     {
         match self.counts.get_key_value(key) {
             Some((kept, _)) => Some(kept),

@@ -18,6 +18,7 @@
 mod client_times;
 mod counts;
 mod held;
+mod held_tuple;
 pub mod laws;
 mod limited;
 mod list;

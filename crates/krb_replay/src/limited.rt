@@ -1,6 +1,6 @@
 //! A memory that takes only so many tuples.
 
-ghost use Rattle.std.specs.Prelude.{◌≡◌, ◌⊎◌, ◌∷◌, ◌-ℤ◌, ◌↔◌, ℤ, IsErr, IsTrue, OnErr, OnOk, Some, pos};
+ghost use Rattle.std.specs.Prelude.{◌≡◌, ◌⊎◌, ◌∷◌, ◌-ℤ◌, ◌↔◌, ℤ, IsErr, IsOk, IsTrue, OnErr, OnOk, Some, pos};
 ghost use Rattle.krb_replay.specs.Limit.{CountsFirst, CountsOne, IsFull, IsPastAny, Reaches, counts_refusal, limited, limits_of};
 ghost use Rattle.krb_replay.specs.Memory.{AddsStamp, IsRecent, SameStamps, later_of};
 ghost use Rattle.krb_replay.specs.Stamp.{Stamp};
@@ -17,7 +17,8 @@ use std::marker::Model;
 /// Past a limit `remember` returns `AllocError`, and nothing changes except the count of refusals
 /// ([`LimitedMemory::refused`]). A tuple that is in the set already isn't refused. A tuple counts
 /// while it is in the set and its time isn't before the moment that [`ReplayMemory::expect`] was
-/// last given, less the skew. So what the next `advance` drops doesn't count any more.
+/// last given, or the latest moment if that is later, less the skew. So what the next `advance`
+/// drops doesn't count any more.
 #[derive(Debug, Drop)]
 pub struct LimitedMemory<M> {
     memory: M,
@@ -147,6 +148,7 @@ impl<M: ReplayMemory> ReplayMemory for LimitedMemory<M> {
     fn remember(&mut self, tuple: Tuple) -> Result<(), AllocError>
         ensures ok { OnOk result (AddsStamp (M.has self.old.memory) (M.has self.new.memory) tuple) }
         ensures err { OnErr result (SameStamps (M.has self.old.memory) (M.has self.new.memory)) }
+        ensures repeat { M.has self.old.memory tuple → IsOk result }
         ensures newest { M.newest self.new.memory ≡ M.newest self.old.memory }
 
         // A tuple past a limit is refused, and that is counted.

@@ -1,6 +1,6 @@
 //! What every memory of seen requests does.
 
-ghost use Rattle.std.specs.Prelude.{◌≡◌, ◌↔◌, ◌⊎◌, ◌-ℤ◌, ℕ, ℤ, pos, Bool, List, Option, Some, IsErr, IsTrue, OnOk, OnErr};
+ghost use Rattle.std.specs.Prelude.{◌≡◌, ◌↔◌, ◌⊎◌, ◌-ℤ◌, ℕ, ℤ, pos, Bool, List, Option, Some, IsErr, IsOk, IsTrue, OnOk, OnErr};
 ghost use Rattle.std.specs.Option.{option_map};
 ghost use Rattle.krb_replay.specs.Limit.{CountsFirst, CountsOne, HasAtLeast, IsPastAny, Limits, Since};
 ghost use Rattle.krb_replay.specs.Stamp.{Stamp};
@@ -13,7 +13,7 @@ use std::alloc::AllocError;
 
 /// A memory of seen requests: a set of tuples, and the latest moment that it was given.
 ///
-/// No call has a condition. Only `remember` allocates memory.
+/// No call has a condition. Only `remember` allocates memory. (That isn't proved.)
 pub trait ReplayMemory {
     /// Whether `advance` drops nothing.
     const KEEPS: bool;
@@ -56,14 +56,16 @@ pub trait ReplayMemory {
         ensures limits { limits self.new ≡ limits self.old }
         ensures refusals { refusals self.new ≡ refusals self.old };
 
-    /// Adds the tuple to the set, and changes nothing else.
+    /// Adds the tuple to the set, and changes nothing else. A tuple that the set has already is no
+    /// error.
     ///
     /// # Errors
     /// `AllocError`: there is no memory for the tuple; or the memory has a limit, which is reached,
-    /// and doesn't have the tuple yet. The memory is unchanged.
+    /// and counts that. The set and the latest moment are unchanged.
     fn remember(&mut self, tuple: Tuple) -> Result<(), AllocError>
         ensures ok { OnOk result (AddsStamp (has self.old) (has self.new) tuple) }
         ensures err { OnErr result (SameStamps (has self.old) (has self.new)) }
+        ensures repeat { has self.old tuple → IsOk result }
         ensures newest { newest self.new ≡ newest self.old }
 
         // A tuple past a limit is refused, and the first limit that is reached counts that. Nothing

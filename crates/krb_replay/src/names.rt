@@ -3,7 +3,7 @@
 ghost use Rattle.std.specs.Prelude.{◌≡◌, IfOk};
 ghost use Rattle.krb_replay.specs.Bytes.{HasLengths, name_bytes};
 ghost use Rattle.krb_replay.specs.Inner.Names.{hash_of};
-ghost use Rattle.krb_replay.specs.Inner.Order.{bytes_cmp, name_cmp};
+ghost use Rattle.krb_replay.specs.Inner.Order.{bytes_cmp, name_cmp, pair_cmp};
 ghost use Rattle.krb_replay.specs.Stamp.{name_of};
 
 use crate::stamp_bytes::write_name;
@@ -80,24 +80,34 @@ impl Names {
         self.server().cmp(&other.server())
     }
 
-    /// Compares the names of the clients, by their hashes first. So a tree over them is filled
-    /// evenly, also if clients come in the order of their names.
-    pub(crate) fn compare_clients(&self, other: &Names) -> Ordering
-        ensures { result ≡ name_cmp self.now.1 other.now.1 }
-    {
-        match self.hash().cmp(&other.hash()) {
-            Ordering::Equal => self.compare_client_bytes(other),
-            apart => apart,
-        }
-    }
-
-    fn hash(&self) -> u32
+    /// Returns the hash of the client's name.
+    pub(crate) fn client_hash(&self) -> u32
         ensures { result ≡ hash_of self.now.1 }
     {
         self.client_hash
     }
 
-    fn compare_client_bytes(&self, other: &Names) -> Ordering
+    /// Compares the clients, by the hashes of their names first, and then the services.
+    pub(crate) fn compare(&self, other: &Names) -> Ordering
+        ensures { result ≡ pair_cmp self.now other.now }
+    {
+        match self.compare_clients(other) {
+            Ordering::Equal => self.compare_servers(other),
+            apart => apart,
+        }
+    }
+
+    fn compare_clients(&self, other: &Names) -> Ordering
+        ensures { result ≡ name_cmp self.now.1 other.now.1 }
+    {
+        match self.client_hash().cmp(&other.client_hash()) {
+            Ordering::Equal => self.compare_client_bytes(other),
+            apart => apart,
+        }
+    }
+
+    /// Compares the names of the clients by their bytes alone.
+    pub(crate) fn compare_client_bytes(&self, other: &Names) -> Ordering
         ensures { result ≡ bytes_cmp self.now.1 other.now.1 }
     {
         self.client().cmp(&other.client())
@@ -108,7 +118,7 @@ impl Names {
 // for than is used.
 fn size_of(name: &Principal) -> usize {
     let mut size = name.realm.len().saturating_add(16);
-    for component in name.components.as_slice() {
+    for component in name.components.iter() {
         size = size.saturating_add(component.len()).saturating_add(8);
     }
     size

@@ -6,28 +6,37 @@ ghost use Rattle.std.specs.Cmp.{partial_order_from_own_ties};
 ghost use Rattle.std.specs.Cmp.Rules.{comparing};
 ghost use Rattle.std.specs.Ordering.{as_partial_cmp, eq_by_cmp};
 ghost use Rattle.krb_replay.specs.Stamp.{name_of};
-ghost use Rattle.krb_replay.specs.Inner.Order.{client_cmp, client_total, pair_cmp, pair_total};
+ghost use Rattle.krb_replay.specs.Inner.Order.{client_cmp, client_total, name_cmp, pair_cmp, pair_total};
 
 use crate::names::Names;
 use krb_name::Principal;
 use std::alloc::{AllocError, Global};
 use std::cmp::Ordering;
 use std::marker::Model;
+use std::mem::size_of;
 use std::rc::Rc;
 
 /// The names of a service and a client. All that share them hold one copy, which is freed with the
-/// last of them.
+/// last of them. A hash of the client's name stands beside the reference, so that the names are read
+/// only for clients of one hash.
 #[derive(Debug, Drop)]
 pub(crate) struct Pair {
+    client_hash: u32,
     names: Rc<Names>,
 }
 
+const _: () = prove!(size_of::<Pair>() == 16);
+
 impl Model for Pair {
+    ghost use Rattle.std.specs.Prelude.{◌≡◌};
+    ghost use Rattle.krb_replay.specs.Inner.Names.{hash_of};
     ghost use Rattle.krb_replay.specs.Inner.Order.{TwoNames};
 
     ghost Value = { TwoNames };
 
     ghost view = { λ pair. pair.names.value };
+
+    ghost invariant = { λ pair. pair.client_hash ≡ hash_of pair.names.value.1 };
 }
 
 impl Pair {
@@ -40,9 +49,17 @@ impl Pair {
         ensures { IfOk result (λ pair. pair ≡ (name_of server.now, name_of client.now)) }
     {
         let names = Names::new(alloc, server, client)?;
-        Ok(Pair {
-            names: Rc::new(alloc, names)?,
-        })
+        Ok(Pair::of(Rc::new(alloc, names)?))
+    }
+
+    /// Makes a pair of names that may have other holders.
+    pub(crate) fn of(names: Rc<Names>) -> Pair
+        ensures { result ≡ names.value }
+    {
+        Pair {
+            client_hash: names.client_hash(),
+            names,
+        }
     }
 
     /// Returns one more holder of the same names. Allocates no memory. It fails only if there are
@@ -51,14 +68,34 @@ impl Pair {
         ensures { IfOk result (λ pair. pair ≡ self.now) }
     {
         Ok(Pair {
+            client_hash: self.client_hash,
             names: self.names.clone()?,
         })
+    }
+
+    /// Returns one more reference to the names. Allocates no memory. It fails only if there are too
+    /// many to count.
+    pub(crate) fn share_names(&self) -> Result<Rc<Names>, AllocError>
+        ensures { IfOk result (λ names. names.value ≡ self.now) }
+    {
+        self.names.clone()
     }
 
     pub(crate) fn names(&self) -> &Names
         ensures { result.now ≡ self.now }
     {
         &self.names
+    }
+
+    /// Compares the clients, by the hashes of their names first. So a tree over them is filled
+    /// evenly, also if clients come in the order of their names.
+    fn compare_clients(&self, other: &Pair) -> Ordering
+        ensures { result ≡ name_cmp self.now.1 other.now.1 }
+    {
+        match self.client_hash.cmp(&other.client_hash) {
+            Ordering::Equal => self.names().compare_client_bytes(other.names()),
+            apart => apart,
+        }
     }
 }
 
@@ -72,7 +109,7 @@ impl Ord for Pair {
     ghost matches_eq = { Prim.search (comparing, rules) };
 
     fn cmp(&self, other: &Pair) -> Ordering {
-        match self.names().compare_clients(other.names()) {
+        match self.compare_clients(other) {
             Ordering::Equal => self.names().compare_servers(other.names()),
             apart => apart,
         }
@@ -141,7 +178,7 @@ impl Ord for ByClient {
     ghost matches_eq = { Prim.search (comparing, rules) };
 
     fn cmp(&self, other: &ByClient) -> Ordering {
-        self.pair.names().compare_clients(other.pair.names())
+        self.pair.compare_clients(&other.pair)
     }
 }
 

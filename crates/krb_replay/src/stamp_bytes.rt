@@ -6,7 +6,7 @@ ghost use Rattle.std.specs.List.{flat_map};
 ghost use Rattle.krb_replay.specs.Bytes.{HasLengths, name_bytes, number_bytes, text_bytes};
 ghost use Rattle.krb_replay.specs.Stamp.{name_of};
 
-use krb_name::{Bytes, Principal};
+use krb_name::{Components, Principal};
 use krb_time::Moment;
 use std::alloc::AllocError;
 
@@ -24,19 +24,19 @@ pub(crate) fn write_time(out: &mut Vec<u8>, time: Moment) -> Result<(), AllocErr
     write_number(out, time.micros().cast_unsigned())
 }
 
-fn write_text(out: &mut Vec<u8>, text: &Bytes) -> Result<(), AllocError>
+fn write_text(out: &mut Vec<u8>, text: &[u8]) -> Result<(), AllocError>
     ensures written { OnOk result (out.new.items ≡ out.old.items ++ text_bytes text.now) }
     ensures fits { length text.now < 2 ^ 64 }
 {
     write_number(out, text.len() as u64)?;
-    out.extend_from_slice(text.as_slice())
+    out.extend_from_slice(text)
 }
 
-fn write_components(out: &mut Vec<u8>, components: &[Bytes]) -> Result<(), AllocError>
+fn write_components(out: &mut Vec<u8>, components: &Components) -> Result<(), AllocError>
     ensures written { OnOk result (out.new.items ≡ out.old.items ++ flat_map text_bytes components.now) }
     ensures fit { OnOk result (All (λ component. length component < 2 ^ 64) components.now) }
 {
-    for component in components {
+    for component in components.iter() {
         write_text(out, component)?;
     }
     Ok(())
@@ -47,7 +47,7 @@ pub(crate) fn write_name(out: &mut Vec<u8>, name: &Principal) -> Result<(), Allo
     ensures written { OnOk result (out.new.items ≡ out.old.items ++ name_bytes (name_of name.now)) }
     ensures fits { OnOk result (HasLengths (name_of name.now)) }
 {
-    write_text(out, &name.realm)?;
+    write_text(out, name.realm.as_slice())?;
     write_number(out, name.components.len() as u64)?;
-    write_components(out, name.components.as_slice())
+    write_components(out, &name.components)
 }

@@ -85,8 +85,9 @@ impl TimedMemory {
     /// order of their times, and the lists of buckets take less than 1 byte for each. Not counted
     /// is the room of a bucket's freed tuples, until its last one is freed: at most 10,000 bytes, and
     /// 5,000 for each client. Names as short as `host/web@EX` and `alice@EX` take 170 bytes, and each
-    /// further letter 1 more. A client's third tuple takes 40 bytes more, for the list of its times.
-    /// The heap's own headers aren't counted.
+    /// further letter 1 more. A client's third tuple takes about 50 bytes more, for the list of its
+    /// times; so does its second, if it is more than 71 minutes from the first. The heap's own headers
+    /// aren't counted.
     pub fn bytes(&self) -> usize
         ensures least { min (28 * held_of self.now) (2 ^ 64 - 1) ≤ result }
         ensures most { result ≤ 228 * held_of self.now }
@@ -96,7 +97,7 @@ impl TimedMemory {
 }
 
 impl ReplayMemory for TimedMemory {
-    ghost use Rattle.std.specs.Prelude.{◌+◌, ◌-◌, ◌≤◌, ◌≤ℤ◌, ◌-ℤ◌, pos, Contains, OnErr, OnOk, Some};
+    ghost use Rattle.std.specs.Prelude.{◌+◌, ◌-◌, ◌≤◌, ◌≤ℤ◌, ◌-ℤ◌, pos, Contains, IsOk, OnErr, OnOk, Some};
     ghost use Rattle.krb_replay.specs.Memory.{AddsStamp, FreesSome, IsRecent, SameStamps, earlier_of, held_of, later_of};
     ghost use Rattle.krb_replay.specs.Stamp.{Stamp};
 
@@ -141,6 +142,7 @@ impl ReplayMemory for TimedMemory {
     fn remember(&mut self, tuple: Tuple) -> Result<(), AllocError>
         ensures ok { OnOk result (AddsStamp (Contains self.old.stamps) (Contains self.new.stamps) tuple) }
         ensures err { OnErr result (SameStamps (Contains self.old.stamps) (Contains self.new.stamps)) }
+        ensures repeat { Contains self.old.stamps tuple → IsOk result }
         ensures unchanged { OnErr result (self.new.stamps ≡ self.old.stamps) }
         ensures newest { self.new.latest ≡ self.old.latest }
         ensures oldest { self.new.oldest ≡ earlier_of self.old.oldest tuple.time }

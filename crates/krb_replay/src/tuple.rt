@@ -13,6 +13,7 @@ ghost use Rattle.std.specs.Option.{option_map};
 ghost use Rattle.krb_replay.specs.Inner.Held.{is_of};
 ghost use Rattle.krb_replay.specs.Inner.Order.{names_of, stamp_by_time, stamp_cmp, stamp_total};
 
+use crate::held_tuple::HeldTuple;
 use crate::pair::{ByClient, Pair};
 use crate::skew::Skew;
 use crate::stamp_bytes::write_time;
@@ -31,16 +32,22 @@ use std::marker::Model;
 /// order.
 #[derive(Debug, Drop)]
 pub struct Tuple {
-    time: Moment,
+    // What a memory keeps.
+    held: HeldTuple,
+    // The same names, by which it looks for others that have them.
     names: ByClient,
 }
 
 impl Model for Tuple {
+    ghost use Rattle.std.specs.Prelude.{◌≡◌};
+    ghost use Rattle.krb_replay.specs.Inner.Order.{names_of};
     ghost use Rattle.krb_replay.specs.Stamp.{Stamp};
 
     ghost Value = { Stamp };
 
-    ghost view = { λ tuple. record { server = tuple.names.0; client = tuple.names.1; time = tuple.time } };
+    ghost view = { λ tuple. tuple.held };
+
+    ghost invariant = { λ tuple. tuple.names ≡ names_of tuple.held };
 }
 
 impl Tuple {
@@ -48,7 +55,7 @@ impl Tuple {
     /// copied, without their types, and freed.
     ///
     /// # Errors
-    /// `AllocError`: there is no memory for the names, or the server's takes 4 GiB or more.
+    /// `AllocError`: there is no memory for the names.
     pub fn new(
         alloc: Global,
         server: Principal,
@@ -69,7 +76,7 @@ impl Tuple {
     /// copied, without their types.
     ///
     /// # Errors
-    /// `AllocError`: there is no memory for the names, or the server's takes 4 GiB or more.
+    /// `AllocError`: there is no memory for the names.
     pub fn of(
         alloc: Global,
         server: &Principal,
@@ -83,9 +90,10 @@ impl Tuple {
           time = micros_of ctime cusec;
         }) }
     {
+        let names = Pair::new(alloc, server, client)?;
         Ok(Tuple {
-            time: Moment::at(ctime, cusec),
-            names: ByClient::new(Pair::new(alloc, server, client)?),
+            held: HeldTuple::new(Moment::at(ctime, cusec), names.share_names()?),
+            names: ByClient::new(names),
         })
     }
 
@@ -93,7 +101,14 @@ impl Tuple {
     pub fn time(&self) -> Moment
         ensures { result ≡ self.now.time }
     {
-        self.time
+        self.held.time()
+    }
+
+    /// Returns what a memory keeps.
+    pub(crate) fn held(&self) -> &HeldTuple
+        ensures { result.now ≡ self.now }
+    {
+        &self.held
     }
 
     /// Returns the names.
@@ -103,11 +118,12 @@ impl Tuple {
         &self.names
     }
 
-    /// Returns one more holder of the names. Allocates no memory.
-    pub(crate) fn share_names(&self) -> Result<ByClient, AllocError>
-        ensures { IfOk result (λ names. names ≡ names_of self.now) }
+    /// Returns what a memory keeps, and the names.
+    pub(crate) fn into_parts(self) -> (HeldTuple, ByClient)
+        ensures held { result.0 ≡ self }
+        ensures names { result.1 ≡ names_of self }
     {
-        Ok(ByClient::new(self.names.pair().share()?))
+        (self.held, self.names)
     }
 
     /// Returns whether the tuple has the same client as another one, if there is another.
@@ -121,14 +137,14 @@ impl Tuple {
     }
 
     /// Returns the tuple of the same time that holds `names`.
-    pub(crate) fn with_names(self, names: Pair) -> Tuple
+    pub(crate) fn with_names(self, names: Pair) -> Result<Tuple, AllocError>
         requires { names ≡ names_of self }
-        ensures { result ≡ self }
+        ensures { IfOk result (λ tuple. tuple ≡ self) }
     {
-        Tuple {
-            time: self.time,
+        Ok(Tuple {
+            held: HeldTuple::new(self.time(), names.share_names()?),
             names: ByClient::new(names),
-        }
+        })
     }
 
     /// Writes the tuple as one string of bytes, for a store that several services share. Two tuples
@@ -149,7 +165,7 @@ impl Tuple {
         let names = self.names.pair().names();
         out.extend_from_slice(names.server())?;
         out.extend_from_slice(names.client())?;
-        write_time(&mut out, self.time)?;
+        write_time(&mut out, self.time())?;
         Ok(out)
     }
 
@@ -182,8 +198,7 @@ impl Timed for Tuple {
     ghost by_time = { stamp_by_time };
 
     fn timestamp(&self) -> i64 {
-        let time = self.time();
-        time.micros()
+        self.held.timestamp()
     }
 }
 
@@ -197,11 +212,7 @@ impl Ord for Tuple {
     ghost matches_eq = { Prim.search (comparing, rules) };
 
     fn cmp(&self, other: &Tuple) -> Ordering {
-        match self.time.cmp(&other.time) {
-            Ordering::Equal => {}
-            apart => return apart,
-        }
-        self.names.pair().cmp(other.names.pair())
+        self.held.cmp(&other.held)
     }
 }
 

@@ -1,8 +1,8 @@
 -- What `explain` makes of a text that was read, or why it makes nothing.
 use Rattle.std.proofs.Common.{◌≡◌, ◌≢◌, ◌≤◌, ◌∙◌, ℕ, List, length, Option, Some, Result, Ok, Err, ap, refl, sym, subst, arith}
 use Rattle.std.specs.Prelude.{⊤, IfSome}
-use Rattle.krb_name.specs.File.{TakesFile, file_limit}
-use Rattle.krb_name.specs.Flow.{counted}
+use Rattle.krb_file.specs.File.{TakesFile, file_limit}
+use Rattle.krb_file.specs.Flow.{counted}
 use Rattle.krb_explain.specs.Input.{read_of}
 use Rattle.krb_explain.specs.Explained.{IsExplanation}
 use Rattle.krb_explain.specs.declared.input.InputFault.{InputFault}

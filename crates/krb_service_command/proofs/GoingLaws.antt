@@ -7,8 +7,8 @@ use Rattle.std.proofs.lemmas.Grind.{flat_map-append}
 use Rattle.std.proofs.lemmas.List.Concat.{flat_map-cons}
 use Rattle.std.proofs.lemmas.List.{length-append, length-take}
 use Rattle.std.proofs.lemmas.List.Elements.{All-append}
-use Rattle.krb_name.specs.File.{TakesAtMost}
-use Rattle.krb_name.specs.Flow.{AppendsBeginning}
+use Rattle.krb_file.specs.File.{TakesAtMost}
+use Rattle.krb_file.specs.Flow.{AppendsBeginning}
 use Rattle.krb_replay.specs.Stamp.{Stamp}
 use Rattle.krb_ap.specs.Setup.{Setup, Arrival}
 use Rattle.krb_ap.specs.Service.{Service, Stands}

@@ -3,7 +3,7 @@ use Rattle.std.specs.Prelude.{◌≡◌, ◌≢◌, ◌⊎◌, ◌<◌, ◌≤�
 use Rattle.std.specs.List.{flat_map}
 use Rattle.std.specs.Fmt.{decimal, signed_decimal}
 use Rattle.std.specs.Io.KnownBytes.{Appends, Consumes}
-use Rattle.krb_name.specs.Flow.{counted}
+use Rattle.krb_file.specs.Flow.{counted}
 use Rattle.krb_name.specs.Text.{text_of}
 use Rattle.krb_replay.specs.Stamp.{Stamp}
 use Rattle.krb_ap.specs.Setup.{Setup, Arrival, arrival}

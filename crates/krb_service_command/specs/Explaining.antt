@@ -1,6 +1,6 @@
 -- What `explain` prints of a text, or why it prints nothing.
 use Rattle.std.specs.Prelude.{◌≡◌, ⊤, ℕ, ◌<◌, ◌≤◌, List, length, Option, Some, None, IfSome, Ok, Err, codes}
-use Rattle.krb_name.specs.File.{file_limit}
+use Rattle.krb_file.specs.File.{file_limit}
 use Rattle.krb_explain.specs.Explained.{IsExplanation}
 use Rattle.krb_explain.specs.Input.{read_of}
 use Rattle.krb_explain.specs.declared.input.InputFault.{InputFault}

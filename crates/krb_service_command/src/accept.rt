@@ -2,8 +2,8 @@
 
 ghost use Rattle.std.specs.Prelude.{◌≡◌, ◌≢◌, ◌⊎◌, ◌<◌, ◌≤◌, ◌++◌, ◌∷◌, [], ℕ, List, All, Ok, Err, Some, IfOk, IfErr, OnOk, OnErr, length, take, is_ok, if◌then◌else◌};
 ghost use Rattle.std.specs.Io.KnownBytes.{Consumes, IsAtEnd, Keeps};
-ghost use Rattle.krb_name.specs.Flow.{counted};
-ghost use Rattle.krb_name.specs.File.{TakesAtMost};
+ghost use Rattle.krb_file.specs.Flow.{counted};
+ghost use Rattle.krb_file.specs.File.{TakesAtMost};
 ghost use Rattle.krb_ap.specs.Setup.{Arrival};
 ghost use Rattle.krb_ap.specs.History.{StandsFor};
 ghost use Rattle.krb_ap.specs.Service.{Stands};
@@ -18,7 +18,8 @@ use crate::answering::{LineOutcome, print_answer, status_of_outcome};
 use crate::fault::ServiceFault;
 use krb_ap::Acceptor;
 use krb_call_lines::{Form, PartLine, SpelledCall, cut_at, take_request};
-use krb_name::{Principal, Sink, Source};
+use krb_file::{Sink, Source};
+use krb_name::Principal;
 use krb_replay::ReplayMemory;
 use std::alloc::{AllocError, Global};
 

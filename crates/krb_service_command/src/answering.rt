@@ -3,7 +3,7 @@
 ghost use Rattle.std.specs.Prelude.{◌≡◌, ◌≢◌, ◌≤◌, ◌⊎◌, ◌++◌, ◌∷◌, IfOk, IfErr, OnOk, OnErr, codes, string_bytes};
 ghost use Rattle.std.specs.Fmt.{decimal, signed_decimal};
 ghost use Rattle.std.specs.Io.KnownBytes.{Appends};
-ghost use Rattle.krb_name.specs.Flow.{counted, AppendsBeginning};
+ghost use Rattle.krb_file.specs.Flow.{counted, AppendsBeginning};
 ghost use Rattle.krb_service_command.specs.Answering.{accepted_line, answer_line, call_status, call_text, mutual_text, outcome_status, refused_line};
 ghost use Rattle.krb_service_command.specs.Status.{failed_writes};
 
@@ -11,9 +11,9 @@ use crate::answer_end::{AnswerEnd, LineAnswer, status_of_end, write_end};
 use crate::fault::ServiceFault;
 use krb_ap::{Accepted, Outcome, Refusal};
 use krb_call_lines::bad_token_text;
+use krb_file::{Sink, write_all};
 use krb_file_commands::{FAILED, REFUSED};
 use krb_gss::TokenFault;
-use krb_name::{Sink, write_all};
 use std::alloc::{AllocError, Global};
 
 /// What becomes of a line.

@@ -6,8 +6,8 @@ ghost use Rattle.krb_service_command.specs.Explaining.{IsExplainedText, IsUnexpl
 use crate::explain_fault::ExplainFault;
 use crate::text::read_message;
 use krb_explain::explain;
+use krb_file::Source;
 use krb_file_commands::Product;
-use krb_name::Source;
 use std::alloc::Global;
 
 /// `explain` makes a page about the message that a text spells (`krb_explain`).

@@ -12,11 +12,11 @@ use crate::opening::opened_source;
 use crate::task::{name_of, second_in, skew_of};
 use crate::text::read_message;
 use krb_command_line::ExplainWords;
+use krb_file::{ReadSource, SliceSource, Source, WriteSink};
 use krb_file_commands::{
     FAILED, WRONG_WORDS, complain, complain_of, file_line, produce, run_product,
 };
 use krb_msg::Seconds;
-use krb_name::{ReadSource, SliceSource, Source, WriteSink};
 use std::io;
 use std::io::Input;
 use std::rt::Files;

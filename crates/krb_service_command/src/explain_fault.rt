@@ -2,13 +2,13 @@
 
 ghost use Rattle.std.specs.Prelude.{◌≡◌};
 ghost use Rattle.krb_explain.specs.declared.input.InputFault.TheVariants.{OutOfMemory};
-ghost use Rattle.krb_name.specs.File.{fault_of_read};
+ghost use Rattle.krb_file.specs.File.{fault_of_read};
 ghost use Rattle.krb_service_command.specs.Explaining.{explain_status, explain_text, input_text};
 ghost use Rattle.krb_service_command.specs.declared.explain_fault.ExplainFault.TheVariants.{Text, Read};
 
 use krb_explain::InputFault;
+use krb_file::ReadFault;
 use krb_file_commands::{FAILED, Failure, FailureText, REFUSED};
-use krb_name::ReadFault;
 use std::alloc::AllocError;
 
 /// Why nothing is explained.

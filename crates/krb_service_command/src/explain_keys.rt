@@ -6,10 +6,11 @@ ghost use Rattle.krb_file_commands.specs.Status.{keytab_reads};
 ghost use Rattle.krb_service_command.specs.Explaining.{IsKeyedPage, IsServedBy, MakesKeyedPage};
 
 use krb_explain_keys::explain_with_keys;
+use krb_file::Source;
 use krb_file_commands::Product;
 use krb_keytab::{Keytab, KeytabFault};
 use krb_msg::Seconds;
-use krb_name::{Principal, Source};
+use krb_name::Principal;
 use krb_replay::Skew;
 use std::alloc::Global;
 

@@ -4,8 +4,8 @@ ghost use Rattle.std.specs.Prelude.{◌≡◌};
 ghost use Rattle.krb_service_command.specs.Status.{status_of, subject_of, text_of};
 ghost use Rattle.krb_service_command.specs.declared.fault.ServiceFault.TheVariants.{Input, Write, OutOfMemory};
 
+use krb_file::{SinkFailed, SourceFailed};
 use krb_file_commands::{FAILED, Failure, FailureText};
-use krb_name::{SinkFailed, SourceFailed};
 use std::alloc::AllocError;
 
 /// Why a service ended early.

@@ -2,8 +2,8 @@
 
 ghost use Rattle.std.specs.Prelude.{◌≡◌, IfErr};
 
+use krb_file::ReadSource;
 use krb_file_commands::{open_file, source_of};
-use krb_name::ReadSource;
 use std::io::BufReader;
 use std::rt::Files;
 

@@ -1,15 +1,15 @@
 //! The text that is given to `explain`.
 
 ghost use Rattle.std.specs.Prelude.{◌≡◌, [], IfOk, IfErr, IfSome};
-ghost use Rattle.krb_name.specs.Flow.{counted};
-ghost use Rattle.krb_name.specs.File.{TakesFile};
+ghost use Rattle.krb_file.specs.Flow.{counted};
+ghost use Rattle.krb_file.specs.File.{TakesFile};
 ghost use Rattle.krb_file_commands.specs.Engine.{failed_by};
 ghost use Rattle.krb_service_command.specs.Explaining.{IsUnread, IsWholeText, explain_reads};
 ghost use Rattle.krb_service_command.specs.Inner.Message.{ReadsMessage};
 
 use crate::explain_fault::ExplainFault;
 use krb_explain::message_bytes;
-use krb_name::{FILE_LIMIT, Source, Window};
+use krb_file::{FILE_LIMIT, Source, Window};
 use std::alloc::Global;
 
 /// Reads a text from a source, and returns the bytes that it spells.

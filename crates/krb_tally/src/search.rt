@@ -2,7 +2,7 @@
 
 ghost use Rattle.std.specs.Prelude.{◌-◌, ◌≤◌, ◌<◌, ℕ, false, true};
 
-// Among more places than these, the ends are looked at first.
+// Among more places than these, the places near the ends are looked at first.
 const MANY: usize = 512;
 
 // How many places are near an end.
@@ -34,8 +34,9 @@ struct Part {
     high: usize,
 }
 
-// Returns the part in which a search ends. Most items come nearly in order and go in order, so most
-// searches among many end near the last place or near the first. What is there was read a moment ago.
+// Returns the part in which a search ends. Most items come in order or nearly so, and go in order. So
+// most searches end after the last place, and most others among many near the last place or near the
+// first. What is there was read a moment ago, and what is in the middle wasn't.
 fn part_of<P: Fn(usize) -> bool>(count: usize, passes: &P) -> Part
     requires { (at : ℕ) → at < count → P.pre passes.now at }
     ensures order { result.low ≤ result.high }
@@ -43,6 +44,12 @@ fn part_of<P: Fn(usize) -> bool>(count: usize, passes: &P) -> Part
     ensures last { 0 < result.low → P.post passes.now (result.low - 1) true }
     ensures next { result.high < count → P.post passes.now result.high false }
 {
+    if count == 0 || passes(count - 1) {
+        return Part {
+            low: count,
+            high: count,
+        };
+    }
     if count <= MANY {
         return Part {
             low: 0,

@@ -18,8 +18,10 @@ use std::marker::Model;
 /// buckets if each was later than the one before, and in at most about 60,000 otherwise, if none is
 /// removed from the middle.
 ///
-/// Each of many items takes its size and at most an eighth more. Memory is freed with the bucket that
-/// it was for. (How items are kept, how long a call takes and how much memory, no contract says.)
+/// Each of many items takes its size and at most an eighth more, if none is removed. A bucket is freed
+/// with its last item. Until then it keeps the room of those that were removed. The list of buckets
+/// keeps its greatest size. (How items are kept, how long a call takes and how much memory, no contract
+/// says.)
 #[derive(Debug, Drop)]
 pub struct Tally<T: Timed> {
     // They follow each other in order.

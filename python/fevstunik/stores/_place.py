@@ -22,6 +22,8 @@ class Place:
         self.boot = BOOT.read_text().strip() if boot is None else boot
         if not _NAME.fullmatch(self.boot):
             raise ValueError(f"a boot is named by letters, digits and hyphens, not {self.boot!r}")
+        if os.path.basename(os.fspath(path)) in ("", ".", ".."):
+            raise ValueError(f"the path of a store is that of a file, not {os.fspath(path)!r}")
         given = Path(os.path.abspath(path))
         self.folder, self._name, self._checked = given.parent.resolve(), given.name, is_checked
         self.path = self.folder / f"{self._name}.boot-{self.boot}"

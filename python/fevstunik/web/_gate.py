@@ -15,7 +15,6 @@ from .._codes import Code
 from .._errors import Fault, StoreFailed
 from .._login import Login
 from .._service import Refused
-from .._shown import fit_for_a_line
 from .._tokens import GoOn
 from ._answers import Answer, Headers
 from ._credentials import BadHeader, TooLong, token_of
@@ -149,8 +148,7 @@ class Gate:
             return self._let_in(decision)
         if isinstance(decision, GoOn):
             return Answer(HTTPStatus.UNAUTHORIZED, "GO_ON", (_header(decision.reply),)), Event("GO_ON", "the negotiation goes on")
-        why = "" if decision.__cause__ is None else f": {fit_for_a_line(str(decision.__cause__))}"
-        event = Event(decision.cause.name, f"{decision}{why}", asked=decision.asked)
+        event = Event(decision.cause.name, str(decision), asked=decision.asked)
         if decision.may_pass:
             return Answer(HTTPStatus.SERVICE_UNAVAILABLE, event.cause, (self._terms.retry,)), event
         if decision.cause in _NOT_ALLOWED:

@@ -22,7 +22,7 @@ class Negotiate:
     """Logs users in, in front of an application over WSGI or ASGI.
 
     keytab        the path of the keytab with the service's keys. It is read again when it changes
-    service       the name that is served, as ``HTTP/www.example.com@EXAMPLE.COM``, or None for each name of the keytab
+    service       the name that is served, as ``HTTP/www.example.com@EXAMPLE.COM``
     store         what remembers requests for all processes, and over restarts: a path, or a store of fevstunik.stores. Without it each
                   process refuses everybody for the skew, from its first request on
     users         who is let in, and by which names: by default clients of the service's realm, as ``alice@EXAMPLE.COM``
@@ -38,6 +38,7 @@ class Negotiate:
     limit, limit_for_client
                   the most requests that are remembered, as for Service
     retry_after   after how many seconds a client that is answered 503 is to try again
+    any_name      True to serve each name of the keytab, as for Service. The service is None then
 
     If the keytab has no key of type 19 or 20 for the service, it raises ValueError; invalid files raise Fault, ValueError or OSError, and a
     store's file that isn't safe StoreFailed.
@@ -58,9 +59,13 @@ class Negotiate:
                  sessions: Sessions | None = None, certificates: Iterable[Path] = (), bindings: str = "check",
                  exempt: Iterable[str] = (), proxies: Iterable[str] = (), token_limit: int = 65_536, skew: int = 300,
                  first_life: bool = False, limit: int | None = None, limit_for_client: int | None = None,
-                 retry_after: int = 60) -> None:
+                 retry_after: int = 60, any_name: bool = False) -> None:
         path, data = os.fspath(keytab), content(os.fspath(keytab))
-        keytab_for(data, service)
+        if service is not None or any_name:
+            keytab_for(data, service)
+        for name, number, least in ("token_limit", token_limit, 1), ("retry_after", retry_after, 0):
+            if not isinstance(number, int) or number < least:
+                raise ValueError(f"{name} is a whole number from {least} on, not {number!r}")
         _check("users", users, Users)
         _check("sessions", sessions, Sessions)
         users = users if users is not None else Users({it: "{user}@{realm}" for it in realms_of(data, service)})
@@ -69,7 +74,7 @@ class Negotiate:
                       networks_of(_listed("proxies", proxies)), token_limit, ("Retry-After", str(retry_after)))
         given: dict[str, Any] = {
             "skew": skew, "first_life": first_life, "limit": limit, "limit_for_client": limit_for_client,
-            "anonymous": users.anonymous, "realms": users.realms, "store": _opened(store, skew)}
+            "anonymous": users.anonymous, "realms": users.realms, "store": _opened(store, skew), "any_name": any_name}
         # (wrong terms are found here, and not at the first request)
         Serving(path, data, service, {**given, "store": None}).close()
         cookies = None if sessions is None else Cookies(sessions, service or "", users)

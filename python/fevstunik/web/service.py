@@ -11,6 +11,7 @@ from __future__ import annotations
 
 import logging
 import os
+import re
 import tomllib
 from collections.abc import Callable, Iterable
 from typing import Any
@@ -53,7 +54,7 @@ def negotiate_of(config: dict[str, Any]) -> Negotiate:
     >>> negotiate_of({"keytab": "examples/service.keytab", "service": "host/web@EX", "users": {"realm": {}}})
     Traceback (most recent call last):
         ...
-    ValueError: the configuration is wrong: Users.__init__() got an unexpected keyword argument 'realm'...
+    ValueError: the configuration is wrong: there is no term `realm`
     """
     given: dict[str, Any] = {"proxies": _PROXIES, **config}
     if "exempt" in given:
@@ -68,7 +69,8 @@ def negotiate_of(config: dict[str, Any]) -> Negotiate:
             given["store"] = _STORES[kind](where)
         return Negotiate(**given)
     except (TypeError, KeyError, AttributeError) as error:
-        raise ValueError(f"the configuration is wrong: {error}") from None
+        unknown = re.search(r"unexpected keyword argument '(.*)'", str(error))
+        raise ValueError(f"the configuration is wrong: {f'there is no term `{unknown[1]}`' if unknown else error}") from None
 
 
 def _answer(environ: dict[str, Any], start_response: Callable[..., Any]) -> Iterable[bytes]:

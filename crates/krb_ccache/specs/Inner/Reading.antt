@@ -1,7 +1,7 @@
 -- What is read of the parts of a cache, and the place after it; nothing, if they aren't there.
 use Rattle.std.specs.Prelude.{ℕ, ◌==◌, ◌&&◌, ◌||◌, not, Bool, true, ℤ, List, length, Option, Some, None, nat_le, if◌then◌else◌}
 use Rattle.std.specs.Int.{w8, w16, w32}
-use Rattle.krb_name.specs.Cursor.{Place, ◌>>=◌, number_at, signed_at, data_at, times_at}
+use Rattle.krb_file.specs.Cursor.{Place, ◌>>=◌, number_at, signed_at, data_at, times_at}
 use Rattle.krb_ccache.specs.Types.{Principal, TypedBytes, HeaderField, Layout, Version3, Version4}
 
 -- ---- ways to join readings

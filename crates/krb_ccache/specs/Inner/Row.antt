@@ -1,7 +1,7 @@
 -- Rows of fields: what their bytes say, how they are read, and how they are spelled.
 use Rattle.std.specs.Prelude.{◌≡◌, ℕ, ◌+◌, ◌<◌, ◌^◌, ℤ, Bool, true, List, ◌++◌, length, Option, FitsSigned}
 use Rattle.std.specs.Int.{w8, w16, w32}
-use Rattle.krb_name.specs.Cursor.{Place, bytes_at, number_at, signed_at, data_at, number_bytes, signed_bytes, data_bytes}
+use Rattle.krb_file.specs.Cursor.{Place, bytes_at, number_at, signed_at, data_at, number_bytes, signed_bytes, data_bytes}
 use Rattle.krb_ccache.specs.Types.{Principal, TypedBytes, Layout}
 use Rattle.krb_ccache.specs.Spelling.{name_bytes, list_bytes}
 use Rattle.krb_ccache.specs.Value.{FitsName, FitsList}

@@ -1,14 +1,13 @@
 -- What it means that parts of a cache stand at a place, or don't.
-use Rattle.std.specs.Prelude.{◌≡◌, ◌≢◌, ℕ, ◌<◌, ◌≤◌, ◌^◌, true, List, [], ◌++◌, length, All, ◌-◌, Option, SomeIff}
+use Rattle.std.specs.Prelude.{◌≡◌, ◌≢◌, ℕ, ◌<◌, ◌≤◌, ◌^◌, true, List, ◌++◌, length, All, ◌-◌, Option, SomeIff}
 use Rattle.std.specs.List.{flat_map}
-use Rattle.krb_name.specs.Cursor.{Place}
-use Rattle.krb_name.specs.Field.{IsBytes, Takes}
-use Rattle.krb_name.specs.File.{file_limit}
-use Rattle.krb_ccache.specs.Types.{HeaderField, Credential, Layout, CacheFault, BadItem}
+use Rattle.krb_file.specs.Cursor.{Place}
+use Rattle.krb_file.specs.Field.{Takes}
+use Rattle.krb_ccache.specs.Types.{HeaderField, Credential, Layout}
 use Rattle.krb_ccache.specs.Spelling.{fields_bytes}
 use Rattle.krb_ccache.specs.Value.{FitsHeader}
 use Rattle.krb_ccache.specs.Inner.Reading.{is_field}
-use Rattle.krb_ccache.specs.Format.{version_of, Spelled, Spells}
+use Rattle.krb_ccache.specs.Format.{Spelled, Spells}
 
 -- a thing that is in range lies between two places
 pub record Lies {X : Type 0} (spelled : X → List ℕ) (InRange : X → Type 0) (place : Place) (x : X) (behind : Place) : Type 0 where
@@ -23,13 +22,6 @@ pub record Reaches {X : Type 0} (spelled : X → List ℕ) (InRange : X → Type
 -- no thing that is in range stands at the front
 abbrev pub IsMissing : {X : Type 0} → (X → List ℕ) → (X → Type 0) → List ℕ → Type 0
 IsMissing {X} spelled InRange bytes = (x : X) (others : List ℕ) → InRange x → bytes ≢ spelled x ++ others
-
--- a file within the limit begins with the version of this layout, and the place is after it
-pub record Opened (layout : Layout) (bytes : List ℕ) (place : Place) : Type 0 where
-  pub limit : length bytes ≤ file_limit
-  pub at : place.at ≡ 2
-  pub rest : bytes ≡ version_of layout ++ place.rest
-  pub fits : IsBytes place.rest
 
 -- a field of a header fits into it
 abbrev pub FitsField : HeaderField → Type 0
@@ -50,15 +42,6 @@ spelled_as bytes credential = record { bytes = bytes; credential = credential }
 -- a credential lies between two places
 abbrev pub LiesOne : Layout → Place → Credential → Place → Type 0
 LiesOne layout place credential behind = (bytes : List ℕ) × Lies bytes_of (Spells layout) place (spelled_as bytes credential) behind
-
--- after whole credentials there are bytes, and no credential at their front
-pub record StopsBy (layout : Layout) (place : Place) (fault : CacheFault) : Type 0 where
-  pub credentials : List Spelled
-  pub behind : Place
-  pub reaches : Reaches bytes_of (Spells layout) place credentials behind
-  pub fault_is : fault ≡ BadItem behind.at
-  pub more : behind.rest ≢ []
-  pub missing : IsMissing bytes_of (Spells layout) behind.rest
 
 -- the room that so many bytes leave, if there are as many
 abbrev pub Leaves : ℕ → ℕ → Option ℕ → Type 0

@@ -1,50 +1,27 @@
 -- How far a part of a cache reaches whose bytes come piece by piece: as far as the bytes before say.
-use Rattle.std.specs.Prelude.{◌≡◌, ℕ, zero, suc, ◌+◌, ◌-◌, ◌<◌, ◌≤◌, Bool, List, ◌++◌, length, take, drop, Option, Some, None, Result, Ok, Err, if◌then◌else◌}
+use Rattle.std.specs.Prelude.{◌≡◌, ℕ, zero, suc, ◌+◌, ◌-◌, ◌<◌, ◌≤◌, Bool, List, ◌++◌, length, drop, Option, Some, None, Result, Ok, Err, if◌then◌else◌}
 use Rattle.std.specs.Int.{Width, w8, w32, from_be_bytes}
 use Rattle.std.specs.Io.KnownBytes.{IsAtEnd}
-use Rattle.krb_name.specs.Cursor.{Place, ◌>>=◌, bytes_at, number_at, number_bytes}
-use Rattle.krb_name.specs.Window.{AtHand, Keeps}
+use Rattle.krb_file.specs.Cursor.{Place, ◌>>=◌, bytes_at, number_at, number_bytes}
+use Rattle.krb_file.specs.Window.{Keeps}
+use Rattle.krb_file.specs.Hand.{Hand}
 use Rattle.krb_ccache.specs.Types.{Credential, Layout}
 use Rattle.krb_ccache.specs.Spelling.{marked_bytes}
 use Rattle.krb_ccache.specs.Format.{second_size}
 use Rattle.krb_ccache.specs.Value.{FitsCredential}
-use Rattle.krb_name.specs.File.{file_limit}
+use Rattle.krb_file.specs.File.{file_limit}
 use Rattle.krb_ccache.specs.declared.walking.Left.{Left}
 use Rattle.krb_ccache.specs.declared.walking.TakeFault.{TakeFault}
-use Rattle.krb_ccache.specs.declared.walking.TakeFault.TheVariants.{End, Long, Read}
+use Rattle.krb_ccache.specs.declared.walking.TakeFault.TheVariants.{End, Long, Read, OutOfMemory}
 use Rattle.krb_ccache.specs.Inner.Reading.{allowed}
 
--- ---- what is taken
-
--- the bytes that were taken, and what is left, if that is known
-abbrev pub Hand : Type 0
-Hand = AtHand (Option (List ℕ))
-
--- of a source: no more than a file may have
-abbrev pub window_hand : {S : Type 0} → (S → Option (List ℕ)) → AtHand S → Hand
-window_hand left window = record { source = left window.source; bytes = window.bytes; peak = window.peak; given = window.given }
-
-abbrev pub window_within : Hand → Type 0
-window_within hand = hand.given ≤ file_limit
-
--- why so many bytes can't come: the source is at its end, or they would pass the limit of a file
-abbrev pub CantCome : TakeFault → Option (List ℕ) → ℕ → ℕ → Type 0
-CantCome End to given count = IsAtEnd to × (0 < count)
-CantCome Long to given count = file_limit < given + count
-CantCome _ to given count = Unit {0}
-
-abbrev pub window_lacks : TakeFault → Hand → ℕ → Type 0
-window_lacks stop hand count = CantCome stop hand.source hand.given count
-
--- of bytes in memory
-abbrev pub bytes_hand : List ℕ → ℕ → Hand
-bytes_hand bytes at = record { source = Some (drop at bytes); bytes = take at bytes; peak = at; given = at }
-
-abbrev pub bytes_within : Hand → Type 0
-bytes_within hand = Unit {0}
-
-abbrev pub bytes_lacks : TakeFault → Hand → ℕ → Type 0
-bytes_lacks stop hand count = (left : List ℕ) × (hand.source ≡ Some left) × (length left < count)
+-- why so many bytes can't come: the source is at its end, or they would pass the limit of a file, or
+-- memory may be lacking
+abbrev pub CantCome : Type 0 → TakeFault → Option (List ℕ) → ℕ → ℕ → Type 0
+CantCome memory End to given count = IsAtEnd to × (0 < count)
+CantCome memory Long to given count = file_limit < given + count
+CantCome memory Read to given count = Unit {0}
+CantCome memory OutOfMemory to given count = memory
 
 -- ---- what is passed over
 
@@ -93,50 +70,50 @@ left_at strict left = and_then (pass_if (allowed strict left.good)) (skip_at lef
 
 -- bytes were taken; what was to be passed over from the first of them on is now what is to be from
 -- there on
-pub record Goes (before after : Pass) (Within : Hand → Type 0) (old new : Hand) : Type 0 where
+pub record Goes (before after : Pass) (old new : Hand) : Type 0 where
   pub piece : List ℕ
   pub keeps : Keeps old.source new.source old new piece
-  pub within : Within new
+  pub within : new.given ≤ file_limit
   pub same : (at : ℕ) (rest : List ℕ) → before (record { at = at; rest = piece ++ rest }) ≡ after (record { at = at + length piece; rest = rest })
 
 -- bytes were taken, but not the others that have to come before anything is passed over
-pub record Stops (before : Pass) (Within : Hand → Type 0) (Lacks : TakeFault → Hand → ℕ → Type 0) (old new : Hand) (stop : TakeFault) : Type 0 where
+pub record Stops (before : Pass) (memory : Type 0) (old new : Hand) (stop : TakeFault) : Type 0 where
   pub piece : List ℕ
   pub keeps : Keeps old.source new.source old new piece
-  pub within : Within new
+  pub within : new.given ≤ file_limit
   pub count : ℕ
   pub some : 0 < count
   pub none : (at : ℕ) (rest : List ℕ) → length rest < count → before (record { at = at; rest = piece ++ rest }) ≡ None
-  pub lacks : Lacks stop new count
+  pub lacks : CantCome memory stop new.source new.given count
 
-abbrev pub IsWalk : {T : Type 0} → Pass → (T → Pass) → (Hand → Type 0) → (TakeFault → Hand → ℕ → Type 0) → Hand → Hand → Result T TakeFault → Type 0
-IsWalk before after Within Lacks old new (Ok x) = Goes before (after x) Within old new
-IsWalk before after Within Lacks old new (Err stop) = Stops before Within Lacks old new stop
+abbrev pub IsWalk : {T : Type 0} → Pass → (T → Pass) → Type 0 → Hand → Hand → Result T TakeFault → Type 0
+IsWalk before after memory old new (Ok x) = Goes before (after x) old new
+IsWalk before after memory old new (Err stop) = Stops before memory old new stop
 
 -- a whole part was asked for
-abbrev pub IsWhole : {T : Type 0} → Pass → (Hand → Type 0) → (TakeFault → Hand → ℕ → Type 0) → Hand → Hand → Result T TakeFault → Type 0
-IsWhole before Within Lacks old new result = IsWalk before (λ x. pass_none) Within Lacks old new result
+abbrev pub IsWhole : {T : Type 0} → Pass → Type 0 → Hand → Hand → Result T TakeFault → Type 0
+IsWhole before memory old new result = IsWalk before (λ x. pass_none) memory old new result
 
 -- ---- what is taken at once
 
 -- so many bytes were taken
-pub record Taken (Within : Hand → Type 0) (count : ℕ) (old new : Hand) : Type 0 where
+pub record Taken (count : ℕ) (old new : Hand) : Type 0 where
   pub piece : List ℕ
   pub keeps : Keeps old.source new.source old new piece
-  pub within : Within new
+  pub within : new.given ≤ file_limit
   pub length_is : length piece ≡ count
 
 -- fewer were, and the others can't be
-pub record TookFewer (Within : Hand → Type 0) (Lacks : TakeFault → Hand → ℕ → Type 0) (count : ℕ) (old new : Hand) (stop : TakeFault) : Type 0 where
+pub record TookFewer (memory : Type 0) (count : ℕ) (old new : Hand) (stop : TakeFault) : Type 0 where
   pub piece : List ℕ
   pub keeps : Keeps old.source new.source old new piece
-  pub within : Within new
+  pub within : new.given ≤ file_limit
   pub fewer : length piece < count
-  pub lacks : Lacks stop new (count - length piece)
+  pub lacks : CantCome memory stop new.source new.given (count - length piece)
 
-abbrev pub IsTaken : {T : Type 0} → (Hand → Type 0) → (TakeFault → Hand → ℕ → Type 0) → ℕ → Hand → Hand → Result T TakeFault → Type 0
-IsTaken Within Lacks count old new (Ok _) = Taken Within count old new
-IsTaken Within Lacks count old new (Err stop) = TookFewer Within Lacks count old new stop
+abbrev pub IsTaken : {T : Type 0} → Type 0 → ℕ → Hand → Hand → Result T TakeFault → Type 0
+IsTaken memory count old new (Ok _) = Taken count old new
+IsTaken memory count old new (Err stop) = TookFewer memory count old new stop
 
 -- the number that the last bytes at hand are, after so many others
 abbrev pub last_number : Width → ℕ → List ℕ → List ℕ → ℕ
@@ -162,20 +139,20 @@ abbrev pub Wants : {X : Type 0} → (X → List ℕ) → (X → Type 0) → List
 Wants {X} spelled InRange bytes count = (x : X) (more others : List ℕ) → InRange x → bytes ++ more ≡ spelled x ++ others → length bytes + count ≤ length (spelled x)
 
 -- the source gave as many bytes as a thing has, and they are at hand
-pub record Walks {X S : Type 0} (spelled : X → List ℕ) (InRange : X → Type 0) (left : S → Option (List ℕ)) (old new : AtHand S) : Type 0 where
+pub record Walks {X : Type 0} (spelled : X → List ℕ) (InRange : X → Type 0) (old new : Hand) : Type 0 where
   pub piece : List ℕ
-  pub keeps : Keeps (left old.source) (left new.source) old new piece
+  pub keeps : Keeps old.source new.source old new piece
   pub within : new.given ≤ file_limit
   pub spans : Spans spelled InRange piece
 
 -- the source gave no more bytes than a thing has, and the next can't come
-pub record Halts {X S : Type 0} (spelled : X → List ℕ) (InRange : X → Type 0) (left : S → Option (List ℕ)) (old new : AtHand S) (stop : TakeFault) : Type 0 where
+pub record Halts {X : Type 0} (spelled : X → List ℕ) (InRange : X → Type 0) (memory : Type 0) (old new : Hand) (stop : TakeFault) : Type 0 where
   pub piece : List ℕ
-  pub keeps : Keeps (left old.source) (left new.source) old new piece
+  pub keeps : Keeps old.source new.source old new piece
   pub within : new.given ≤ file_limit
   pub count : ℕ
   pub wants : Wants spelled InRange piece count
-  pub cant_come : CantCome stop (left new.source) new.given count
+  pub cant_come : CantCome memory stop new.source new.given count
 
 -- a credential with any bytes after its encryption type and any byte for `is_skey`
 pub record Marked : Type 0 where

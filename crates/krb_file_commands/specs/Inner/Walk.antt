@@ -5,7 +5,7 @@ use Rattle.krb_ccache.specs.Reader as cache
 use Rattle.krb_ccache.specs.Value.{Cache, cache_of}
 use Rattle.krb_keytab.specs.Entry.{KeytabEntry}
 use Rattle.krb_keytab.specs.Items.{EntriesRead, HasRead}
-use Rattle.krb_name.specs.File.{GivesWithin}
+use Rattle.krb_file.specs.File.{GivesWithin}
 use Rattle.krb_file_commands.specs.Lines.{keytab_lines, cache_lines}
 
 -- a reader of a keytab has given entries of which this holds

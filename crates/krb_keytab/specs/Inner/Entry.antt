@@ -1,7 +1,7 @@
 -- What it means that bytes are those of an entry, and that strings were read from them.
 use Rattle.std.specs.Prelude.{◌≡◌, ◌≢◌, ℕ, List, [], Option, Some, None}
 use Rattle.std.specs.Int.{w16}
-use Rattle.krb_name.specs.Cursor.{Place, data_at, times_at}
+use Rattle.krb_file.specs.Cursor.{Place, data_at, times_at}
 use Rattle.krb_keytab.specs.Entry.{KeytabEntry}
 use Rattle.krb_keytab.specs.Format.{entry_bytes, IsEntry}
 

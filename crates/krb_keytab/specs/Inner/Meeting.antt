@@ -2,10 +2,10 @@
 use Rattle.std.specs.Prelude.{◌≡◌, ◌≢◌, ◌⊎◌, ℕ, ◌+◌, ◌-◌, ◌<◌, ◌≤◌, ℤ, pos, negsuc, max, Bool, List, [], ◌∷◌, ◌++◌, length, take, Option, Some, None, Result, Ok, Err, ⊤, FitsSigned, unsigned_abs}
 use Rattle.std.specs.Int.{w32}
 use Rattle.std.specs.Io.KnownBytes.{Consumes, IsAtEnd}
-use Rattle.krb_name.specs.Cursor.{signed_bytes}
-use Rattle.krb_name.specs.Window.{AtHand}
+use Rattle.krb_file.specs.Cursor.{signed_bytes}
+use Rattle.krb_file.specs.Hand.{Hand}
 use Rattle.krb_keytab.specs.Entry.{KeytabEntry}
-use Rattle.krb_name.specs.File.{file_limit, IsGiven}
+use Rattle.krb_file.specs.File.{file_limit, IsGiven}
 use Rattle.krb_keytab.specs.Format.{version, KeytabRecord, record_bytes, FitsRecord, entries_of, IsReached, IsKeytab, IsFaultOf}
 use Rattle.krb_keytab.specs.Items.{LacksRecord, LacksVersion, IsPartOfRecord, HasMet, StandsTo, passed, stage_after, entries_after, GivesMore}
 use Rattle.krb_keytab.specs.declared.fault.KeytabFault.{KeytabFault}
@@ -23,8 +23,8 @@ IsWithin stage.End given = given ≤ file_limit + 1
 IsWithin (stage.Failed fault) given = given ≤ file_limit + 1
 
 -- the source gave these bytes, and at most one byte past the limit
-pub record Moves {S : Type 0} (from to : Option (List ℕ)) (old new : AtHand S) (piece : List ℕ) : Type 0 where
-  pub consumed : Consumes from to piece
+pub record Moves (old new : Hand) (piece : List ℕ) : Type 0 where
+  pub consumed : Consumes old.source new.source piece
   pub given : new.given ≡ old.given + length piece
   pub limit : old.given ≤ file_limit + 1 → new.given ≤ file_limit + 1
 
@@ -42,12 +42,11 @@ pub record Peaks (IsPart : List ℕ → Type 0) (piece : List ℕ) (old new : �
 abbrev pub RanOut : {T : Type 0} → Result T KeytabFault → Result T KeytabFault → Option (List ℕ) → ℕ → Type 0
 RanOut last answer left given = ((answer ≡ last) × (given ≤ file_limit) × IsAtEnd left) ⊎ (((answer ≡ Err TooLong) × (given ≡ file_limit + 1)) ⊎ (answer ≡ Err Read))
 
-pub record RunsOutTo {S T : Type 0} (from to : Option (List ℕ)) (old new : AtHand S) (last answer : Result T KeytabFault) : Type 0 where
+pub record RunsOutTo {T : Type 0} (old new : Hand) (last answer : Result T KeytabFault) : Type 0 where
   pub piece : List ℕ
-  pub moves : Moves from to old new piece
-  pub bytes : new.bytes ≡ old.bytes
+  pub moves : Moves old new piece
   pub peak : new.peak ≡ old.peak
-  pub ran : RanOut last answer to new.given
+  pub ran : RanOut last answer new.source new.given
 
 -- ---- the version
 
@@ -59,11 +58,11 @@ MeetsVersion left piece (Err Read) = ⊤
 MeetsVersion left piece (Err OutOfMemory) = ⊤
 MeetsVersion left piece (Err _) = ⊥
 
-pub record OpensAt {S : Type 0} (from to : Option (List ℕ)) (old new : AtHand S) (answer : Result Unit KeytabFault) : Type 0 where
+pub record OpensAt (old new : Hand) (answer : Result Unit KeytabFault) : Type 0 where
   pub piece : List ℕ
-  pub moves : Moves from to old new piece
+  pub moves : Moves old new piece
   pub peaks : Peaks (λ part. length part ≤ 2) piece old.peak new.peak
-  pub meets : MeetsVersion to piece answer
+  pub meets : MeetsVersion new.source piece answer
 
 -- ---- a record
 
@@ -99,11 +98,11 @@ Meets of_entry left at piece peak (Ok Hole) = IsWhole at piece []
 Meets of_entry left at piece peak (Ok (Entry kept)) = (e : KeytabEntry) × (kept ≡ of_entry e) × (length piece ≤ 4 + peak) × IsWhole at piece (e ∷ [])
 Meets of_entry left at piece peak (Err fault) = MeetsLast left at piece (Some fault)
 
-pub record MeetsOne {S E : Type 0} (of_entry : KeytabEntry → E) (from to : Option (List ℕ)) (old new : AtHand S) (answer : Result (Found E) KeytabFault) : Type 0 where
+pub record MeetsOne {E : Type 0} (of_entry : KeytabEntry → E) (old new : Hand) (answer : Result (Found E) KeytabFault) : Type 0 where
   pub piece : List ℕ
-  pub moves : Moves from to old new piece
+  pub moves : Moves old new piece
   pub peaks : Peaks IsPartOfRecord piece old.peak new.peak
-  pub meets : Meets of_entry to old.given piece new.peak answer
+  pub meets : Meets of_entry new.source old.given piece new.peak answer
 
 -- ---- its size
 
@@ -122,11 +121,11 @@ MeetsSize left at piece (Ok (Some size)) = IsSizeAt at piece size
 MeetsSize left at piece (Ok None) = MeetsLast left at piece None
 MeetsSize left at piece (Err fault) = MeetsLast left at piece (Some fault)
 
-pub record MeetsSizeAt {S : Type 0} (from to : Option (List ℕ)) (old new : AtHand S) (answer : Result (Option ℤ) KeytabFault) : Type 0 where
+pub record MeetsSizeAt (old new : Hand) (answer : Result (Option ℤ) KeytabFault) : Type 0 where
   pub piece : List ℕ
-  pub moves : Moves from to old new piece
+  pub moves : Moves old new piece
   pub peaks : Peaks (λ part. length part ≤ 4) piece old.peak new.peak
-  pub meets : MeetsSize to old.given piece answer
+  pub meets : MeetsSize new.source old.given piece answer
 
 -- ---- what is after it
 
@@ -135,18 +134,18 @@ abbrev pub kept_of : ℤ → ℕ
 kept_of (pos n) = n
 kept_of (negsuc n) = 0
 
-pub record MeetsBody {S E : Type 0} (of_entry : KeytabEntry → E) (from to : Option (List ℕ)) (old new : AtHand S) (at : ℕ) (size : ℤ) (answer : Result (Found E) KeytabFault) : Type 0 where
+pub record MeetsBody {E : Type 0} (of_entry : KeytabEntry → E) (old new : Hand) (at : ℕ) (size : ℤ) (answer : Result (Found E) KeytabFault) : Type 0 where
   pub piece : List ℕ
-  pub moves : Moves from to old new piece
+  pub moves : Moves old new piece
   pub peaks : Peaks (λ part. length part ≤ kept_of size) piece old.peak new.peak
-  pub meets : Meets of_entry to at (signed_bytes w32 size ++ piece) new.peak answer
+  pub meets : Meets of_entry new.source at (signed_bytes w32 size ++ piece) new.peak answer
 
 -- ---- from one place to another
 
 -- the source gave bytes after all that came before, and what they reach; what was met grew with them
-pub record Goes {S : Type 0} (Before After : List ℕ → List KeytabEntry → Type 0) (from to : Option (List ℕ)) (old new : AtHand S) : Type 0 where
+pub record Goes (Before After : List ℕ → List KeytabEntry → Type 0) (old new : Hand) : Type 0 where
   pub piece : List ℕ
-  pub moves : Moves from to old new piece
+  pub moves : Moves old new piece
   pub grows : old.peak ≤ new.peak
   pub low : old.peak ≤ file_limit → new.peak ≤ file_limit
   pub stands : (bytes : List ℕ) (entries : List KeytabEntry) → Before bytes entries → After (bytes ++ piece) entries
@@ -162,21 +161,21 @@ pub record HasReached (given : ℕ) (bytes : List ℕ) (entries : List KeytabEnt
 abbrev pub IsFirst : List ℕ → List KeytabEntry → Type 0
 IsFirst bytes entries = (bytes ≡ []) × (entries ≡ [])
 
-abbrev pub PassesHoles : {S : Type 0} → Option (List ℕ) → Option (List ℕ) → AtHand S → AtHand S → Type 0
-PassesHoles from to old new = Goes (HasReached old.given) (HasReached new.given) from to old new
+abbrev pub PassesHoles : Hand → Hand → Type 0
+PassesHoles old new = Goes (HasReached old.given) (HasReached new.given) old new
 
 -- an answer about the entry that comes next, and how it stands after all that came before
-pub record MeetsBehind {S : Type 0} (CameBefore : List ℕ → List KeytabEntry → Type 0) (from to : Option (List ℕ)) (old new : AtHand S) (answer : Result (Option KeytabEntry) KeytabFault) : Type 0 where
-  pub goes : Goes CameBefore (λ bytes entries. StandsTo to new.peak (stage_after answer) bytes (entries_after entries answer)) from to old new
+pub record MeetsBehind (CameBefore : List ℕ → List KeytabEntry → Type 0) (old new : Hand) (answer : Result (Option KeytabEntry) KeytabFault) : Type 0 where
+  pub goes : Goes CameBefore (λ bytes entries. StandsTo new.source new.peak (stage_after answer) bytes (entries_after entries answer)) old new
   pub within : IsWithin (stage_after answer) new.given
   pub more : GivesMore answer old.given new.given
 
-abbrev pub MeetsNext : {S : Type 0} → Option (List ℕ) → Option (List ℕ) → AtHand S → AtHand S → Result (Option KeytabEntry) KeytabFault → Type 0
-MeetsNext from to old new answer = MeetsBehind (HasReached old.given) from to old new answer
+abbrev pub MeetsNext : Hand → Hand → Result (Option KeytabEntry) KeytabFault → Type 0
+MeetsNext old new answer = MeetsBehind (HasReached old.given) old new answer
 
 -- the version is read first
-abbrev pub MeetsFirst : {S : Type 0} → Option (List ℕ) → Option (List ℕ) → AtHand S → AtHand S → Result (Option KeytabEntry) KeytabFault → Type 0
-MeetsFirst from to old new answer = MeetsBehind IsFirst from to old new answer
+abbrev pub MeetsFirst : Hand → Hand → Result (Option KeytabEntry) KeytabFault → Type 0
+MeetsFirst old new answer = MeetsBehind IsFirst old new answer
 
 -- nothing is kept of an entry
 abbrev pub nothing_of : KeytabEntry → Unit {0}
@@ -188,16 +187,16 @@ keeping of_entry (Ok (Some e)) = Ok (Some (of_entry e))
 keeping of_entry (Ok None) = Ok None
 keeping of_entry (Err fault) = Err fault
 
-pub record MeetsKept {S E : Type 0} (of_entry : KeytabEntry → E) (from to : Option (List ℕ)) (old new : AtHand S) (said : Result (Option E) KeytabFault) : Type 0 where
+pub record MeetsKept {E : Type 0} (of_entry : KeytabEntry → E) (old new : Hand) (said : Result (Option E) KeytabFault) : Type 0 where
   pub answer : Result (Option KeytabEntry) KeytabFault
   pub said_is : said ≡ keeping of_entry answer
-  pub meets : MeetsNext from to old new answer
+  pub meets : MeetsNext old new answer
 
 -- it was only said whether there is an entry
-pub record MeetsPast {S : Type 0} (from to : Option (List ℕ)) (old new : AtHand S) (said : Result Bool KeytabFault) : Type 0 where
+pub record MeetsPast (old new : Hand) (said : Result Bool KeytabFault) : Type 0 where
   pub answer : Result (Option KeytabEntry) KeytabFault
   pub said_is : said ≡ passed answer
-  pub meets : MeetsNext from to old new answer
+  pub meets : MeetsNext old new answer
 
 -- ---- the version and all records
 

@@ -1,7 +1,7 @@
 -- What it means that a text is put into bytes in place of others.
 use Rattle.std.specs.Prelude.{◌≡◌, ℕ, ◌+◌, ◌≤◌, ◌%◌, ◌^◌, List, ◌++◌, length, take, drop}
 use Rattle.std.specs.Int.{w32}
-use Rattle.krb_name.specs.Cursor.{number_bytes}
+use Rattle.krb_file.specs.Cursor.{number_bytes}
 use Rattle.krb_keytab.specs.Entry.{KeytabEntry}
 use Rattle.krb_keytab.specs.Format.{entry_bytes}
 

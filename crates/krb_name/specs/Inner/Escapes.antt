@@ -1,6 +1,6 @@
 -- How a byte of a realm or a component is read off a text.
 use Rattle.std.specs.Prelude.{ℕ, ◌+◌, ◌-◌, ◌*◌, ◌==◌, ◌&&◌, not, List, [], ◌∷◌, Option, Some, None, nat_le, if◌then◌else◌}
-use Rattle.krb_name.specs.Cursor.{◌>>=◌}
+use Rattle.krb_file.specs.Cursor.{◌>>=◌}
 use Rattle.krb_name.specs.Text.{is_special, is_printable}
 
 -- the value of a digit from `0` to `9` or `a` to `f`

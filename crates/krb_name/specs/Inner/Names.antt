@@ -1,8 +1,8 @@
 -- What is left of a text after reading, part by part.
 use Rattle.std.specs.Prelude.{◌≡◌, ℕ, ◌+◌, ◌<◌, ◌⊎◌, List, [], ◌∷◌, ◌++◌, length, Result, Ok, Err}
 use Rattle.std.specs.List.{flat_map, AllByRecursion}
-use Rattle.krb_name.specs.Cursor.{Place}
-use Rattle.krb_name.specs.Field.{IsBytes}
+use Rattle.krb_file.specs.Cursor.{Place}
+use Rattle.krb_file.specs.Field.{IsBytes}
 use Rattle.krb_name.specs.Text.{escaped_byte, escaped}
 use Rattle.krb_name.specs.Reading.{AreComponents, components_text, IsUnprintable, IsNoEscape, IsSeparator}
 use Rattle.krb_name.specs.declared.text_fault.TextFault.{TextFault}
@@ -49,6 +49,13 @@ ReadsName old new (Err (BadText at)) = OffendsInName old new at
 ReadsName old new (Err NoRealm) = ⊥
 ReadsName old new (Err OutOfMemory) = Unit {0}
 
+-- the same if nothing is kept of the name
+abbrev pub SkipsName : Place → Place → Result (Unit {0}) TextFault → Type 0
+SkipsName old new (Ok kept) = (bytes : List ℕ) × ReadsBytes old bytes new × AtEnd new.rest
+SkipsName old new (Err (BadText at)) = OffendsInName old new at
+SkipsName old new (Err NoRealm) = ⊥
+SkipsName old new (Err OutOfMemory) = ⊥
+
 abbrev pub ReadsRealm : Place → Place → Result (List ℕ) TextFault → Type 0
 ReadsRealm old new (Ok bytes) = ReadsBytes old bytes new × (new.rest ≡ [])
 ReadsRealm old new (Err (BadText at)) = (bytes : List ℕ) × ReadsBytes old bytes new × (at ≡ new.at) × (IsUnprintable new.rest ⊎ (IsNoEscape new.rest ⊎ IsSeparator new.rest))
@@ -61,3 +68,16 @@ ReadsComponents old new (Err (BadText at)) =
     (components : List (List ℕ)) × AreComponents components × Advances old (components_text components) new × (at ≡ new.at) × (IsUnprintable new.rest ⊎ IsNoEscape new.rest)
 ReadsComponents old new (Err NoRealm) = (components : List (List ℕ)) × AreComponents components × Advances old (components_text components) new × (new.rest ≡ [])
 ReadsComponents old new (Err OutOfMemory) = Unit {0}
+
+-- the same if nothing is kept but how many components there are
+abbrev pub CountsComponents : Place → Place → Result ℕ TextFault → Type 0
+CountsComponents old new (Ok count) = (components : List (List ℕ)) × ReadsComponents old new (Ok components) × (count ≡ length components)
+CountsComponents old new (Err OutOfMemory) = ⊥
+CountsComponents old new (Err (BadText at)) = ReadsComponents old new (Err (BadText at))
+CountsComponents old new (Err NoRealm) = ReadsComponents old new (Err NoRealm)
+
+abbrev pub SkipsRealm : Place → Place → Result (Unit {0}) TextFault → Type 0
+SkipsRealm old new (Ok kept) = (bytes : List ℕ) × ReadsRealm old new (Ok bytes)
+SkipsRealm old new (Err OutOfMemory) = ⊥
+SkipsRealm old new (Err (BadText at)) = ReadsRealm old new (Err (BadText at))
+SkipsRealm old new (Err NoRealm) = ⊥

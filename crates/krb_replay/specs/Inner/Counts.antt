@@ -1,5 +1,5 @@
 -- How many tuples each key has: the names of a service and a client, or the client alone.
-use Rattle.std.specs.Prelude.{◌≡◌, ◌≢◌, ◌+◌, ℕ, cond, Some}
+use Rattle.std.specs.Prelude.{◌≡◌, ◌≢◌, ◌+◌, ℕ, Bool, true, false, cond, Some}
 use Rattle.std.specs.BTreeMap.{BTreeMap, get, is_at}
 use Rattle.std.specs.Map.{count_at}
 use Rattle.std.specs.declared.cmp.Ordering.{Ordering}
@@ -31,3 +31,13 @@ module _ {K : Type 0} (cmp : K → K → Ordering) where
   pub record SameCounts (old new : BTreeMap K ℕ) : Type 0 where
     pub counts : (other : K) → count_by new other ≡ count_by old other
     pub no_zero : HasNoZero old → HasNoZero new
+
+  -- one key has one more, if that is to be counted
+  abbrev pub AddsIf : Bool → BTreeMap K ℕ → BTreeMap K ℕ → K → Type 0
+  AddsIf true old new key = AddsOne old new key
+  AddsIf false old new key = SameCounts old new
+
+  -- one key has one less, if that was counted
+  abbrev pub TakesIf : Bool → BTreeMap K ℕ → BTreeMap K ℕ → K → Type 0
+  TakesIf true old new key = TakesOne old new key
+  TakesIf false old new key = SameCounts old new

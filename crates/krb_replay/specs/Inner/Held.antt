@@ -1,6 +1,6 @@
 -- What a timed memory holds: its tuples in the order of their times, the times of each client's, and
--- how many of them each pair of names has. Tuples that are too old are dropped at once, and freed
--- later.
+-- how many of them each pair of names has, if other names are kept of the client. Tuples that are too
+-- old are dropped at once, and freed later.
 use Rattle.std.specs.Prelude.{◌≡◌, ◌⊎◌, ◌&&◌, ◌+◌, ◌≤◌, ◌≤ℤ◌, ℕ, ℤ, Bool, true, not, int_lt, Option, Some, None, List, length}
 use Rattle.std.specs.List.{filter}
 use Rattle.std.specs.BTreeMap.{BTreeMap, is_at}
@@ -8,8 +8,8 @@ use Rattle.std.specs.declared.cmp.Ordering.{Ordering}
 use Rattle.std.specs.Ordering.{eq_by_cmp, is_eq}
 use Rattle.krb_replay.specs.Stamp.{RealmAndName, Stamp}
 use Rattle.krb_replay.specs.Inner.Counts.{HasNoZero, count_by}
-use Rattle.krb_replay.specs.Inner.Times.{HasNoEmpty, number_by}
-use Rattle.krb_replay.specs.Inner.Order.{TwoNames, name_cmp, names_of, stamp_cmp}
+use Rattle.krb_replay.specs.Inner.Times.{HasNoEmpty, kept_by, number_by}
+use Rattle.krb_replay.specs.Inner.Order.{TwoNames, client_cmp, name_cmp, names_of, pair_cmp, stamp_cmp}
 
 abbrev pub is_before : ℤ → Stamp → Bool
 is_before oldest stamp = int_lt stamp.time oldest
@@ -49,6 +49,18 @@ IsOnce stamps = (stamp : Stamp) → length (filter (λ one. eq_by_cmp stamp_cmp 
 pub record AreTimed (cmp : TwoNames → TwoNames → Ordering) (stamps : List Stamp) (times : BTreeMap TwoNames (List ℤ)) : Type 0 where
   pub each : (names : TwoNames) (passes : ℤ → Bool) → number_by cmp times names passes ≡ length (filter (λ stamp. passes stamp.time && is_at (cmp (names_of stamp)) names) stamps)
   pub no_empty : HasNoEmpty cmp times
+
+-- whether the names aren't those that are kept of a client
+abbrev pub differs : TwoNames → TwoNames → Bool
+differs kept names = not (is_at (pair_cmp kept) names)
+
+-- whether other names than these are kept of their client
+abbrev pub is_other : BTreeMap TwoNames (List ℤ) → TwoNames → Bool
+is_other times names = differs (kept_by client_cmp times names) names
+
+-- the stamps whose client other names are kept of
+abbrev pub others : BTreeMap TwoNames (List ℤ) → List Stamp → List Stamp
+others times stamps = filter (λ stamp. is_other times (names_of stamp)) stamps
 
 -- The stamps of each key are counted. No key is kept that no stamp has.
 pub record AreCounted (cmp : TwoNames → TwoNames → Ordering) (stamps : List Stamp) (counts : BTreeMap TwoNames ℕ) : Type 0 where

@@ -1,7 +1,7 @@
 -- How far `accept` is with its input. A replay memory is read by two words: which stamps it has, and its latest moment.
 use Rattle.std.specs.Prelude.{◌≡◌, ◌≢◌, ◌⊎◌, ◌<◌, ◌≤◌, max, ℕ, ℤ, List, [], ◌∷◌, ◌++◌, Option, length}
 use Rattle.std.specs.Io.KnownBytes.{Appends, Consumes, IsAtEnd}
-use Rattle.krb_name.specs.Flow.{counted}
+use Rattle.krb_file.specs.Flow.{counted}
 use Rattle.krb_replay.specs.Stamp.{Stamp}
 use Rattle.krb_ap.specs.Setup.{Setup, Arrival}
 use Rattle.krb_ap.specs.Service.{Service, Stands}

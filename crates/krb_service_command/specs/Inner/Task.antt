@@ -1,7 +1,7 @@
 -- What `accept` and `explain` are asked for, and what `accept` then answers to an input.
 use Rattle.std.specs.Prelude.{◌≡◌, ◌⊎◌, ℕ, List, [], ◌++◌, Option, Some, Ok, IfSome, length, if◌then◌else◌}
 use Rattle.std.specs.Io.KnownBytes.{Appends}
-use Rattle.krb_name.specs.Flow.{counted}
+use Rattle.krb_file.specs.Flow.{counted}
 use Rattle.krb_keytab.specs.Entry.{KeytabEntry}
 use Rattle.krb_keytab.specs.Format.{IsKeytab}
 use Rattle.krb_ap.specs.Setup.{Setup, Arrival}

@@ -22,8 +22,7 @@ returns-in-Ok-clause-error c = record {
     now_is = c.parts-stime.ensures;
     micros = subst (λ (n : ℕ). n < 1_000_000) c.get.ensures.value c.get.ensures.range;
     bytes_are = subst (λ (v : ValueOf krb_error). IsWritten krb_error v c.in-Ok.bytes.items)
-        (c.error_message-error.ensures
-        ∙ ap (λ (z : ℤ). error_for c.parts-stime.result.0 c.parts-stime.result.1 z c.in_ok-clone.field-0)
+        (ap (λ (z : ℤ). error_for c.parts-stime.result.0 c.parts-stime.result.1 z c.in_ok-clone.field-0)
         (to_z-of_z w32 c.in-Some.code (code_fits c.args.refusal.now c.in-Some.code (sym c.code.ensures ∙ c.in-Some.is)))
         ∙ ap (λ (p : Principal). error_for c.parts-stime.result.0 c.parts-stime.result.1 c.in-Some.code p) c.in_ok-clone.ensures.cases)
         (record { message = c.in-Ok.ensures.ok; written = c.in-Ok.ensures.written });
@@ -37,8 +36,7 @@ returns-in-Err-TooLong-clause-too_long c = λ long. record {
   unwritten = untold_error c.writing.ensures c.in-Some.code c.args.now c.args.service.now c.parts-stime.result.0 c.parts-stime.result.1 c.parts-stime.ensures
       (subst (λ (n : ℕ). n < 1_000_000) c.get.ensures.value c.get.ensures.range)
       (subst (λ (v : ValueOf krb_error). limit < size_of krb_error v)
-      (c.error_message-error.ensures
-      ∙ ap (λ (z : ℤ). error_for c.parts-stime.result.0 c.parts-stime.result.1 z c.in_ok-clone.field-0)
+      (ap (λ (z : ℤ). error_for c.parts-stime.result.0 c.parts-stime.result.1 z c.in_ok-clone.field-0)
       (to_z-of_z w32 c.in-Some.code (code_fits c.args.refusal.now c.in-Some.code (sym c.code.ensures ∙ c.in-Some.is)))
       ∙ ap (λ (p : Principal). error_for c.parts-stime.result.0 c.parts-stime.result.1 c.in-Some.code p) c.in_ok-clone.ensures.cases)
       ((rw c.in-Err-TooLong.field-0-is at c.in-Err-TooLong.ensures.too_long) refl));

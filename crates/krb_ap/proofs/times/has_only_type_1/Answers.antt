@@ -1,9 +1,8 @@
-use Rattle.std.proofs.Common.{◌≡◌, pos, List, ◌∷◌, subst}
+use Rattle.std.proofs.Common.{rules, ◌≡◌, pos, List, ◌∷◌, subst}
 use Rattle.std.specs.Prelude.{All, ◌↔◌}
 use Rattle.std.proofs.lemmas.List.Elements.{All-cons, All-tail, All-same}
 use Rattle.krb_msg.specs.Borrowed.{typed_of}
 use Rattle.krb_msg.specs.Fields.{type_of}
-use Rattle.krb_ap.proofs.Truth.{is_so}
 use Rattle.krb_ap.proofs.times.has_only_type_1.Goals as goal
 
 one_less : {X : Type 0} (P : X → Type 0) (Q : Type 0) (x : X) (xs whole : List X) → whole ≡ x ∷ xs → P x → (All P whole ↔ Q) → (All P xs ↔ Q)
@@ -13,4 +12,4 @@ one_less P Q x xs whole e p h =
 pub loop-element-preserved : goal.loop-element-preserved
 loop-element-preserved c =
     one_less (λ element. type_of element ≡ pos 1) _ (typed_of c.in-Some.element) _ _ c.in-Some.ensures.steps
-    (is_so _ _ c.is_of_type_1.ensures c.if-not-is_of_type_1.false) c.loop-element.invariant
+    (search rules) c.loop-element.invariant

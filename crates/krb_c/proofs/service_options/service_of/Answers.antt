@@ -1,5 +1,5 @@
 use Rattle.std.proofs.Common.{inl, inr, rules}
-use Rattle.krb_name.proofs.Exits.{err_is}
+use Rattle.krb_file.proofs.Exits.{err_is}
 use Rattle.krb_c.proofs.service_options.service_of.Goals as goal
 
 pub returns-in_err-skew-clause-fault : goal.returns-in_err-skew-clause-fault

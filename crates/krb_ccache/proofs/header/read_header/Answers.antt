@@ -1,4 +1,4 @@
-use Rattle.krb_name.proofs.CursorLaws.{IsField-data16}
+use Rattle.krb_file.proofs.CursorLaws.{IsField-data16}
 use Rattle.krb_ccache.proofs.header.read_header.Goals as goal
 
 pub read_fields-requires : goal.read_fields-requires

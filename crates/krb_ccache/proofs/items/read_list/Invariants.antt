@@ -1,6 +1,6 @@
 use Rattle.std.proofs.Common.{◌≡◌, ◌-◌}
-use Rattle.krb_name.specs.Cursor.{times_at}
-use Rattle.krb_name.proofs.Repeated.{with_front}
+use Rattle.krb_file.specs.Cursor.{times_at}
+use Rattle.krb_file.proofs.Repeated.{with_front}
 use Rattle.krb_ccache.proofs.items.read_list.Given as goal
 
 abbrev pub invariant-loop : goal.invariant-loop

@@ -3,4 +3,4 @@ use Rattle.krb_ccache.proofs.walking.leave.Goals as goal
 
 pub returns-clause-walk : goal.returns-clause-walk
 returns-clause-walk g c = λ pass same strict.
-    size_goes g.T.Taker.Within g.T.Taker.Lacks strict c.args.left c.args.size (g.T.Taker.hand c.args.taker.now) (rw c.taken-taken.ensures.bytes at c.taken-taken.ensures.held) c.requires.within pass same
+    size_goes g.T.Feed.allocates strict c.args.left c.args.size (g.T.Feed.hand c.args.feed.now) (rw c.bytes-held.ensures.bytes at c.bytes-held.ensures.within) c.requires.within pass same

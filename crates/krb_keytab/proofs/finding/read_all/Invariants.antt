@@ -1,5 +1,5 @@
 use Rattle.std.proofs.Common.{◌≤◌, List, length}
-use Rattle.krb_name.specs.File.{file_limit}
+use Rattle.krb_file.specs.File.{file_limit}
 use Rattle.krb_keytab.specs.Format.{KeytabRecord}
 use Rattle.krb_keytab.proofs.ScanLaws.{Spans}
 use Rattle.krb_keytab.proofs.finding.read_all.Given as goal

@@ -1,8 +1,8 @@
 use Rattle.std.proofs.Common.{[], ◌∷◌, ◌++◌}
 use Rattle.std.specs.Int.{w16}
 use Rattle.std.proofs.lemmas.Result.{err_from_is_err_and}
-use Rattle.krb_name.specs.Cursor.{data_at}
-use Rattle.krb_name.proofs.Repeated.{times_goes_on, times_stops, times_done}
+use Rattle.krb_file.specs.Cursor.{data_at}
+use Rattle.krb_file.proofs.Repeated.{times_goes_on, times_stops, times_done}
 use Rattle.krb_keytab.proofs.listed.skip_components.Goals as goal
 
 pub loop-preserved : goal.loop-preserved

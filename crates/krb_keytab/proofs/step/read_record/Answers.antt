@@ -9,8 +9,8 @@ returns-then-count-given-clause-meets g c =
     let sized = rw c.in-Some.is at c.in_ok-size.ensures.meets in
     let size = sized.meets in
     let count = count_is c.in-Some.size _ size.fits c.unsigned_abs-count.ensures.value in
-    record_met g.K.Keep.kept_of _ _ _ _ _ _ c.given-at.result c.in-Some.size _ c.conclude.result sized c.given-at.ensures refl
-    (body_cut _ _ _ _ _ c.given-at.result c.in-Some.size c.conclude.result size.fits (omega (arith, sized.moves.given, ap length size.piece_is, c.given-at.ensures)) (omega (arith, sized.moves.given, ap length size.piece_is, size.limit))
+    record_met g.K.Keep.kept_of _ _ _ c.given-at.result c.in-Some.size _ c.conclude.result sized c.given-at.ensures refl
+    (body_cut _ _ _ c.given-at.result c.in-Some.size c.conclude.result size.fits (omega (arith, sized.moves.given, ap length size.piece_is, c.given-at.ensures)) (omega (arith, sized.moves.given, ap length size.piece_is, size.limit))
     (omega (arith, c.if-count-given.true, c.given.ensures, count)) c.conclude.ensures.runs_out)
 
 pub returns-then-size-lt0-clause-meets : goal.returns-then-size-lt0-clause-meets
@@ -18,11 +18,11 @@ returns-then-size-lt0-clause-meets g c =
     let sized = rw c.in-Some.is at c.in_ok-size.ensures.meets in
     let fits = sized.meets.fits in
     let same = hole_size c.in-Some.size _ (rw (to_z-of_z w32 c.in-Some.size fits) at c.if-size-lt0.true) (count_is c.in-Some.size _ fits c.unsigned_abs-count.ensures.value) in
-    record_met _ _ _ _ _ _ _ c.given-at.result c.in-Some.size _ c.pass_hole.result sized c.given-at.ensures same (c.pass_hole.ensures.meets g.K.Keep.kept_of)
+    record_met _ _ _ _ c.given-at.result c.in-Some.size _ c.pass_hole.result sized c.given-at.ensures same (c.pass_hole.ensures.meets g.K.Keep.kept_of)
 
 pub returns-else-size-lt0-clause-meets : goal.returns-else-size-lt0-clause-meets
 returns-else-size-lt0-clause-meets g c =
     let sized = rw c.in-Some.is at c.in_ok-size.ensures.meets in
     let fits = sized.meets.fits in
     let same = entry_size c.in-Some.size _ (rw (to_z-of_z w32 c.in-Some.size fits) at c.if-size-lt0.false) (count_is c.in-Some.size _ fits c.unsigned_abs-count.ensures.value) in
-    record_met _ _ _ _ _ _ _ c.given-at.result c.in-Some.size _ c.read_content.result sized c.given-at.ensures same c.read_content.ensures.meets
+    record_met _ _ _ _ c.given-at.result c.in-Some.size _ c.read_content.result sized c.given-at.ensures same c.read_content.ensures.meets

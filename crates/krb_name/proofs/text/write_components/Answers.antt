@@ -1,4 +1,4 @@
-use Rattle.std.proofs.Common.{ap, ◌∙◌, ◌++◌, string_bytes}
+use Rattle.std.proofs.Common.{ap, ◌∙◌, ◌++◌, string_bytes, sym}
 use Rattle.std.proofs.lemmas.Result.{IfOk-equal}
 use Rattle.krb_name.specs.Text.{escaped}
 use Rattle.krb_name.proofs.TextLaws.{components_written}
@@ -6,6 +6,5 @@ use Rattle.krb_name.proofs.text.write_components.Goals as goal
 
 pub returns-clause-ok : goal.returns-clause-ok
 returns-clause-ok c =
-    let written = c.in_ok-write_escaped.ensures.ok ∙ ap (λ first. string_bytes c.args.text.now ++ escaped first) c.as_slice.ensures in
-    let parts = c.in-Some.ensures.cases.0 in
-    IfOk-equal c.write_others.result _ _ _ c.write_others.ensures.ok (components_written (string_bytes c.args.text.now) _ c.in-Some.first.now c.in-Some.others.now _ written parts)
+    let parts = sym c.iter-others.ensures ∙ c.in-Some.ensures.steps in
+    IfOk-equal c.write_others.result _ _ _ c.write_others.ensures.ok (components_written (string_bytes c.args.text.now) _ c.in-Some.first.now _ _ c.in_ok-write_escaped.ensures.ok parts)

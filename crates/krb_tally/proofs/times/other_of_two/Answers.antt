@@ -1,4 +1,4 @@
-use Rattle.std.proofs.Common.{◌+ℤ◌, ℤ, pos, ap, arith}
+use Rattle.std.proofs.Common.{◌+ℤ◌, pos, ap, arith}
 use Rattle.std.proofs.lemmas.Int.{ints}
 use Rattle.krb_tally.specs.Inner.Kept.{times_of}
 use Rattle.krb_tally.proofs.AddedLaws.{second_first}

@@ -10,15 +10,14 @@ use Rattle.krb_ap.specs.History.{StandsFor, Shows, effective, greatest}
 use Rattle.krb_ap.specs.Answer.{after_refusal}
 use Rattle.krb_ap.specs.Inner.Judging.{IsJudged, IsTurnedAway}
 use Rattle.krb_ap.specs.declared.refusal.Refusal.{Refusal}
-use Rattle.krb_ap.proofs.Truth.{is_so, is_not}
 use Rattle.krb_ap.proofs.Afterwards.{after_named, after_answer, not_memory, refusal_of}
 use Rattle.krb_ap.specs.Service.{IsPastLimit}
 use Rattle.krb_ap.proofs.Standing.{after_advance, counts_once, moved_on, one_stamp, stands_still}
 use Rattle.krb_ap.proofs.acceptor.Acceptor.decide.Goals as goal
 
-pub returns-then-is_memory-clause-goes_on : goal.returns-then-is_memory-clause-goes_on
-returns-then-is_memory-clause-goes_on g c = rw c.judge.ensures.same (λ history stands.
-    let is : c.in-Err.refusal ≡ OutOfMemory = is_so _ _ c.is_memory.ensures c.if-is_memory.true in
+pub returns-in-OutOfMemory-clause-goes_on : goal.returns-in-OutOfMemory-clause-goes_on
+returns-in-OutOfMemory-clause-goes_on g c = rw c.judge.ensures.same (λ history stands.
+    let is : c.in-Err.refusal ≡ OutOfMemory = c.in-OutOfMemory.is in
     subst (λ (h : List Arrival). GoesOn g.M.ReplayMemory.KEEPS g.M.ReplayMemory.FORGETS c.args.self.now.setup c.args.self.now.setup history h
     (g.M.ReplayMemory.has c.args.self.now.memory) (g.M.ReplayMemory.has c.args.self.now.memory) (g.M.ReplayMemory.newest c.args.self.now.memory)
     (IsErrOf {T = Accepted} {E = Refusal} (Err c.in-Err.refusal) OutOfMemory))
@@ -27,7 +26,7 @@ returns-then-is_memory-clause-goes_on g c = rw c.judge.ensures.same (λ history 
 
 pub returns-in-Err-clause-goes_on : goal.returns-in-Err-clause-goes_on
 returns-in-Err-clause-goes_on g c = λ history stands.
-    let named : _ = is_not _ _ c.is_memory.ensures c.if-is_memory.false in
+    let named : _ = c.in_default.not-OutOfMemory in
     let eff : c.effective-now.result ≡ effective history c.args.now = c.effective-now.ensures ∙ ap (λ l. later_of l c.args.now) stands.latest_is in
     let turned : IsTurnedAway c.args.self.now.setup history (arrival c.args.bytes.now c.args.now) (g.M.ReplayMemory.has c.args.self.now.memory) c.in-Err.refusal =
     c.in-Err.ensures.judged history c.args.now stands eff named in
@@ -40,10 +39,10 @@ returns-in-Err-clause-goes_on g c = λ history stands.
     (rw c.judge.ensures.same at c.advance.ensures.keeps) (rw c.judge.ensures.same at c.advance.ensures.forgets)
 
 pub returns-in-Err-clause-unchanged : goal.returns-in-Err-clause-unchanged
-returns-in-Err-clause-unchanged g c = λ memory. absurd (is_not _ _ c.is_memory.ensures c.if-is_memory.false (refusal_of _ _ memory))
+returns-in-Err-clause-unchanged g c = λ memory. absurd (c.in_default.not-OutOfMemory (refusal_of _ _ memory))
 
-pub returns-then-is_memory-clause-moves : goal.returns-then-is_memory-clause-moves
-returns-then-is_memory-clause-moves g c = λ named. absurd (named (ap Err (is_so _ _ c.is_memory.ensures c.if-is_memory.true)))
+pub returns-in-OutOfMemory-clause-moves : goal.returns-in-OutOfMemory-clause-moves
+returns-in-OutOfMemory-clause-moves g c = λ named. absurd (named (ap Err (c.in-OutOfMemory.is)))
 
 pub returns-in-Err-clause-moves : goal.returns-in-Err-clause-moves
 returns-in-Err-clause-moves g c = λ named.
@@ -95,15 +94,15 @@ returns-in-Err-remember-clause-goes_on g c = λ history stands. record {
   forgets = λ forgetting named. absurd (named refl);
 }
 
-pub returns-then-is_memory-clause-limit : goal.returns-then-is_memory-clause-limit
-returns-then-is_memory-clause-limit g c = rw c.judge.ensures.same (λ history stands. record {
-  full = λ stamp past. ap Err (is_so _ _ c.is_memory.ensures c.if-is_memory.true);
+pub returns-in-OutOfMemory-clause-limit : goal.returns-in-OutOfMemory-clause-limit
+returns-in-OutOfMemory-clause-limit g c = rw c.judge.ensures.same (λ history stands. record {
+  full = λ stamp past. ap Err (c.in-OutOfMemory.is);
   counted = inl refl;
 })
 
 pub returns-in-Err-clause-limit : goal.returns-in-Err-clause-limit
 returns-in-Err-clause-limit g c = λ history stands.
-    let named : _ = is_not _ _ c.is_memory.ensures c.if-is_memory.false in
+    let named : _ = c.in_default.not-OutOfMemory in
     let eff : c.effective-now.result ≡ effective history c.args.now = c.effective-now.ensures ∙ ap (λ l. later_of l c.args.now) stands.latest_is in
     let turned : IsTurnedAway c.args.self.now.setup history (arrival c.args.bytes.now c.args.now) (g.M.ReplayMemory.has c.args.self.now.memory) c.in-Err.refusal =
     c.in-Err.ensures.judged history c.args.now stands eff named in

@@ -31,5 +31,5 @@ returns-clause-sealed c = record {
         (copied c.in_ok-clone.field-0 c.args.self.now.credential.now c.parts-ctime.result.0 c.parts-ctime.result.1 _ _ c.args.options.now c.in_ok-clone.ensures.cases c.in_ok-checksum_of.ensures c.in_ok-raw_key.ensures.value)
         (record { message = c.in-Ok.ensures.ok; written = c.in-Ok.ensures.written });
   };
-  text_is = sealed_by _ _ (credential_key c.args.self.now.credential.now) authenticator_usage _ _ _ _ c.keys.ensures c.args.self.now.key_is c.deref.ensures.value c.in_ok-cipher.ensures.sealed;
+  text_is = sealed_by _ _ (credential_key c.args.self.now.credential.now) authenticator_usage _ _ _ _ c.args.self.now.key.now.keys_are c.args.self.now.key_is c.deref.ensures.value c.in_ok-cipher.ensures.sealed;
 }

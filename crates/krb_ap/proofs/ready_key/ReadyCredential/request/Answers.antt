@@ -20,7 +20,7 @@ ticket_of c = subst (λ (b : List ℕ). IsMessage ticket_kind c.in-Ok.ticket b) 
 as_built : (c : After-encode) → ap_req_value (record { options = c.flags.result.0; ticket = c.in-Ok.ticket; authenticator = owned_encrypted_of c.encrypted.result })
     ≡ request_for c.args.self.now.credential.now c.args.options c.in-Ok.ticket c.in_ok-cipher.cipher.items
 as_built c = copied_request c.args.self.now.credential.now c.args.options c.in-Ok.ticket c.in_ok-cipher.cipher.items _ _ _ c.flags.ensures refl
-    (c.encrypted.ensures ∙ told_type c.args.self.now.credential.now c.key.result.now c.in_ok-cipher.cipher.items (c.key.ensures ∙ c.args.self.now.key_is))
+    (c.encrypted.ensures ∙ told_type c.args.self.now.credential.now c.args.self.now.key.now.key c.in_ok-cipher.cipher.items c.args.self.now.key_is)
 
 pub returns-in-Err-clause-fault : goal.returns-in-Err-clause-fault
 returns-in-Err-clause-fault c = λ named has. c.in-Err.ensures.only has.0 (subst (λ (b : List ℕ). IsMessage ticket_kind has.0 b) (sym c.as_slice.ensures) has.1)

@@ -1,5 +1,5 @@
 use Rattle.std.proofs.Common.{subst}
-use Rattle.krb_name.proofs.Exits.{err_is}
+use Rattle.krb_file.proofs.Exits.{err_is}
 use Rattle.krb_enc.specs.Key.{IsUsable}
 use Rattle.krb_c.specs.Messages.{no_session_key, no_client_subkey, no_service_subkey}
 use Rattle.krb_c.proofs.structs.MessageOptions.begin.Goals as goal

@@ -1,5 +1,5 @@
 use Rattle.std.proofs.Common.{Err, inl}
-use Rattle.krb_name.proofs.Exits.{err_is}
+use Rattle.krb_file.proofs.Exits.{err_is}
 use Rattle.krb_ccache.proofs.AnswerLaws.{one_answer, no_fault}
 use Rattle.krb_ccache.proofs.cache.CCache.parse.Goals as goal
 

@@ -1,15 +1,16 @@
-use Rattle.std.proofs.Common.{false}
-use Rattle.krb_name.proofs.Exits.{err_is}
-use Rattle.krb_ccache.specs.Spelling.{name_bytes}
-use Rattle.krb_ccache.specs.Value.{FitsName}
-use Rattle.krb_ccache.specs.Inner.Reading.{name_at}
-use Rattle.krb_ccache.specs.Inner.Walking.{passed_at}
-use Rattle.krb_ccache.proofs.WalkEnds.{name_passes, walks_of, halts_of}
+use Rattle.std.proofs.Common.{true, false, subst}
+use Rattle.krb_file.proofs.Exits.{err_is}
+use Rattle.krb_file.specs.Field.{IsBytes}
+use Rattle.krb_ccache.proofs.WalkEnds.{name_walks, name_halts, name_there}
 use Rattle.krb_ccache.proofs.leading.PrincipalLeading.take.Goals as goal
 
 pub returns-clause-walks : goal.returns-clause-walks
-returns-clause-walks g c = walks_of (passed_at name_at) name_bytes FitsName name_passes g.S.Source.remaining c.args.window.now c.take_all.new.taker (c.in_ok-take_all.ensures.walk false)
+returns-clause-walks g c = name_walks (g.F.Feed.hand c.args.feed.now) (g.F.Feed.hand c.take_all.new.feed) (c.in_ok-there.ensures.walk false)
 
-pub returns-in_err-take_all-clause-halts : goal.returns-in_err-take_all-clause-halts
-returns-in_err-take_all-clause-halts g c =
-    rw (err_is c.from_residual.result c.from_residual.ensures.1) (halts_of (passed_at name_at) name_bytes FitsName name_passes g.S.Source.remaining c.args.window.now c.take_all.new.taker c.in_err-take_all.field-0.0 (c.in_err-take_all.ensures.walk false))
+pub returns-clause-there : goal.returns-clause-there
+returns-clause-there g c =
+    name_there (g.F.Feed.hand c.args.feed.now) (g.F.Feed.hand c.take_all.new.feed) c.in_ok-there.there c.requires.none (c.in_ok-there.ensures.walk true) (subst IsBytes c.bytes.ensures.bytes c.are_bytes.ensures)
+
+pub returns-in_err-there-clause-halts : goal.returns-in_err-there-clause-halts
+returns-in_err-there-clause-halts g c =
+    rw (err_is c.from_residual.result c.from_residual.ensures.1) (name_halts (g.F.Feed.hand c.args.feed.now) (g.F.Feed.hand c.take_all.new.feed) c.in_err-there.field-0.0 (c.in_err-there.ensures.walk false))

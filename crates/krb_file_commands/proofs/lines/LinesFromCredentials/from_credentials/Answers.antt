@@ -1,6 +1,6 @@
 use Rattle.std.proofs.Common.{◌≡◌, ◌∙◌, arith, ap, refl, rules, string_bytes, Option, Ok, Err}
 use Rattle.krb_file_commands.proofs.FaultLaws.{err_is}
-use Rattle.krb_name.proofs.FileLaws.{takes_file}
+use Rattle.krb_file.proofs.FileLaws.{takes_file}
 use Rattle.krb_ccache.specs.Format.{IsCache}
 use Rattle.krb_ccache.specs.Value.{Cache}
 use Rattle.krb_ccache.specs.declared.credential.Credential.{Credential}

@@ -1,5 +1,5 @@
 use Rattle.std.proofs.Common.{◌≡◌, ◌-◌, List, ℕ, Option, None, string_bytes}
-use Rattle.krb_name.specs.File.{file_limit}
+use Rattle.krb_file.specs.File.{file_limit}
 use Rattle.krb_file_commands.specs.Inner.Walk.{CredentialsListed, IsOpened}
 use Rattle.krb_file_commands.proofs.lines.LinesFromCredentials.from_credentials.Given as goal
 

@@ -1,5 +1,5 @@
 use Rattle.std.proofs.Common.{◌≡◌, ◌-◌, None, string_bytes}
-use Rattle.krb_name.specs.File.{file_limit}
+use Rattle.krb_file.specs.File.{file_limit}
 use Rattle.krb_keytab.specs.Items.{last_answer}
 use Rattle.krb_file_commands.specs.Inner.Walk.{EntriesListed}
 use Rattle.krb_file_commands.proofs.lines.LinesFromEntries.from_entries.Given as goal

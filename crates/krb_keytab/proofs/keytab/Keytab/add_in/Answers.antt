@@ -1,5 +1,5 @@
 use Rattle.std.proofs.Common.{Err, ap}
-use Rattle.krb_name.proofs.Exits.{err_is}
+use Rattle.krb_file.proofs.Exits.{err_is}
 use Rattle.krb_keytab.proofs.EditLaws.{same_fault}
 use Rattle.krb_keytab.proofs.AddLaws.{passing_no_fault, found_no_fault}
 use Rattle.krb_keytab.proofs.keytab.Keytab.add_in.Goals as goal

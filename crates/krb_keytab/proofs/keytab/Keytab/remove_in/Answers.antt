@@ -1,5 +1,5 @@
 use Rattle.std.proofs.Common.{Ok, Err, Some, None}
-use Rattle.krb_name.proofs.Exits.{err_is}
+use Rattle.krb_file.proofs.Exits.{err_is}
 use Rattle.krb_keytab.proofs.EditLaws.{makes_hole, loses_entry, removal_missing, removal_faults}
 use Rattle.krb_keytab.proofs.keytab.Keytab.remove_in.Goals as goal
 

@@ -1,7 +1,7 @@
 use Rattle.std.proofs.Common.{◌≡◌, ◌≤◌, length, take}
 use Rattle.std.specs.Prelude.{All}
 use Rattle.krb_keytab.specs.Entry.{FitsEntry}
-use Rattle.krb_name.specs.File.{file_limit}
+use Rattle.krb_file.specs.File.{file_limit}
 use Rattle.krb_keytab.specs.Written.{written}
 use Rattle.krb_keytab.proofs.keytab.Keytab.to_bytes.Given as goal
 

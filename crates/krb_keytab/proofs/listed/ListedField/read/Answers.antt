@@ -1,7 +1,7 @@
 use Rattle.std.proofs.Common.{List, ℕ, Some, ap, sym, ◌∙◌}
 use Rattle.std.specs.Int.{w16}
-use Rattle.krb_name.specs.Cursor.{data_at}
-use Rattle.krb_name.proofs.Moved.{data_moved, times_moved}
+use Rattle.krb_file.specs.Cursor.{data_at}
+use Rattle.krb_file.proofs.Moved.{data_moved, times_moved}
 use Rattle.krb_keytab.specs.Inner.Entry.{components_at, listed}
 use Rattle.krb_keytab.proofs.listed.ListedField.read.Goals as goal
 

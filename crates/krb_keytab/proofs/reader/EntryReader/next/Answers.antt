@@ -14,8 +14,8 @@ returns-clause-reads g c =
     elim c.match-self.branch [
       | in-Start w ↦
           rw (c.after-self-inside.ensures, w.answer-is, w.self-inside-is, ← c.self.view_is)
-          (read_first _ _ _ _ _ w.read_first-answer.result w.in-Start.is refl w.read_first-answer.ensures.meets (rw w.in-Start.is at c.self.invariant.1))
+          (read_first g.S.Source.remaining _ c.self.inside.window w.read_first-answer.new.feed w.read_first-answer.result w.in-Start.is refl w.read_first-answer.ensures.meets (rw w.in-Start.is at c.self.invariant.1))
       | in-Records w ↦
           rw (c.after-self-inside.ensures, w.answer-is, w.self-inside-is, ← c.self.view_is)
-          (read_next _ _ _ _ _ w.read_entry-answer.result w.in-Records.is refl refl w.read_entry-answer.ensures.meets)
+          (read_next g.S.Source.remaining _ c.self.inside.window w.read_entry-answer.new.feed w.read_entry-answer.result w.in-Records.is refl refl w.read_entry-answer.ensures.meets)
     ]

@@ -15,9 +15,9 @@ returns-clause-reads g c =
       | in-Start w ↦
           let past = w.pass_first-answer.ensures.meets in
           rw (c.after_pass-self-inside.ensures, w.answer-is, w.self-inside-is, ← c.self.view_is)
-          (read_past _ _ _ w.pass_first-answer.new.window _ past.0 past.1 (read_first _ _ _ _ _ past.0 w.in-Start.is refl past.2 (rw w.in-Start.is at c.self.invariant.1)))
+          (read_past _ _ _ w.pass_first-answer.new.feed _ past.0 past.1 (read_first g.S.Source.remaining _ c.self.inside.window w.pass_first-answer.new.feed past.0 w.in-Start.is refl past.2 (rw w.in-Start.is at c.self.invariant.1)))
       | in-Records w ↦
           let past = w.pass_entry-answer.ensures.meets in
           rw (c.after_pass-self-inside.ensures, w.answer-is, w.self-inside-is, ← c.self.view_is)
-          (read_past _ _ _ w.pass_entry-answer.new.feed _ past.answer past.said_is (read_next _ _ _ _ _ past.answer w.in-Records.is refl refl past.meets))
+          (read_past _ _ _ w.pass_entry-answer.new.feed _ past.answer past.said_is (read_next g.S.Source.remaining _ c.self.inside.window w.pass_entry-answer.new.feed past.answer w.in-Records.is refl refl past.meets))
     ]

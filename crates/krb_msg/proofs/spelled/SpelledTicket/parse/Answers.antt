@@ -1,4 +1,4 @@
-use Rattle.krb_name.proofs.Exits.{err_is}
+use Rattle.krb_file.proofs.Exits.{err_is}
 use Rattle.krb_msg.specs.Borrowed.{ticket_of}
 use Rattle.krb_msg.specs.Module.{ticket}
 use Rattle.krb_msg.proofs.SpelledLaws.{parses_itself, parses_nothing}

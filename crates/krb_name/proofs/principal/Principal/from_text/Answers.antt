@@ -1,5 +1,5 @@
 use Rattle.std.proofs.Common.{Ok, Err}
-use Rattle.krb_name.proofs.Exits.{err_is}
+use Rattle.krb_file.proofs.Exits.{err_is}
 use Rattle.krb_name.proofs.NameAnswers.{components_refused, realm_refused, name_read}
 use Rattle.krb_name.proofs.OneAnswer.{one_answer}
 use Rattle.krb_name.proofs.principal.Principal.from_text.Goals as goal

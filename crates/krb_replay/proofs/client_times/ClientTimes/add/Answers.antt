@@ -1,12 +1,13 @@
-use Rattle.std.proofs.Common.{◌≡◌, ◌∙◌, ℤ, Option, Some, List, [], ◌∷◌, IsSome, ap, arith, of_z, refl, subst, sym, to_z}
+use Rattle.std.proofs.Common.{◌≡◌, ◌∙◌, ℤ, Option, Some, None, List, [], ◌∷◌, IsSome, ap, arith, of_z, refl, subst, sym, to_z}
+use Rattle.std.specs.BTreeMap.{BTreeMap, get}
 use Rattle.std.specs.Int.{w64}
 use Rattle.std.specs.Option.{unwrap_or}
 use Rattle.std.specs.List.Sorted.{IsPermutation}
 use Rattle.std.proofs.lemmas.Int.{ints}
 use Rattle.std.proofs.lemmas.List.Sorted.{IsPermutation-refl}
-use Rattle.krb_replay.specs.Inner.Order.{client_cmp, client_total}
-use Rattle.krb_replay.specs.Inner.Times.{times_by}
-use Rattle.krb_replay.proofs.TimesLaws.{from_err, from_ok, more_times, none_there, still_times}
+use Rattle.krb_replay.specs.Inner.Order.{TwoNames, client_cmp, client_total}
+use Rattle.krb_replay.specs.Inner.Times.{AddsTime, times_by}
+use Rattle.krb_replay.proofs.TimesLaws.{from_err, from_ok, inserted_is, inserted_keeps, keys_stay, more_times, still_times}
 use Rattle.krb_replay.proofs.client_times.ClientTimes.add.Goals as goal
 
 pub returns-in-Some-clause-ok : goal.returns-in-Some-clause-ok
@@ -18,7 +19,9 @@ returns-in-Some-clause-ok c =
     more_times client_cmp client_total c.args.self.now.times (c.get_mut.follows.lender c.add.new.self) c.args.client c.add.new.self c.args.time
     ((c.get_mut.follows.holds c.add.new.self).3 (subst (λ (found : Option (List ℤ)). IsSome found) c.in-Some.ensures.value refl))
     (subst (λ (times : List ℤ). IsPermutation (c.args.time ∷ times) c.add.new.self) (sym was)
-    (subst (λ (time : ℤ). IsPermutation (time ∷ c.in-Some.times.now) c.add.new.self) t moved))) c.add.ensures.ok
+    (subst (λ (time : ℤ). IsPermutation (time ∷ c.in-Some.times.now) c.add.new.self) t moved))
+    (λ key had has. keys_stay client_cmp client_total c.args.self.now.times (c.get_mut.follows.lender c.add.new.self) (c.get_mut.follows.holds c.add.new.self).1 key)
+    (keys_stay client_cmp client_total c.args.self.now.times (c.get_mut.follows.lender c.add.new.self) (c.get_mut.follows.holds c.add.new.self).1 c.args.client)) c.add.ensures.ok
 
 pub returns-in-Some-clause-err : goal.returns-in-Some-clause-err
 returns-in-Some-clause-err c =
@@ -27,13 +30,19 @@ returns-in-Some-clause-err c =
     (λ (same : c.add.new.self ≡ c.in-Some.times.now).
     still_times client_cmp client_total c.args.self.now.times (c.get_mut.follows.lender c.add.new.self) c.args.client c.add.new.self
     ((c.get_mut.follows.holds c.add.new.self).3 (subst (λ (found : Option (List ℤ)). IsSome found) c.in-Some.ensures.value refl))
-    (was ∙ sym same) (λ none empty. none c.args.client (sym c.in-Some.ensures.value ∙ (ap (λ (times : List ℤ). Some times) (sym same) ∙ empty)))) c.add.ensures.err
+    (was ∙ sym same) (λ none empty. none c.args.client (sym c.in-Some.ensures.value ∙ (ap (λ (times : List ℤ). Some times) (sym same) ∙ empty)))
+    (λ key had has. keys_stay client_cmp client_total c.args.self.now.times (c.get_mut.follows.lender c.add.new.self) (c.get_mut.follows.holds c.add.new.self).1 key)) c.add.ensures.err
 
 pub returns-clause-ok : goal.returns-clause-ok
 returns-clause-ok c =
     let t : to_z w64 (of_z w64 c.args.time) ≡ c.args.time = omega (arith, ints) in
-    let none : times_by client_cmp c.args.self.now.times c.args.client ≡ [] =
-    none_there (times_by client_cmp c.args.self.now.times c.args.client) (let few = c.if-of-gt0.false in let count = c.of.ensures in omega arith) in
-    more_times client_cmp client_total c.args.self.now.times c.insert.new.self c.args.client c.new.result c.args.time c.in_ok-insert.ensures.updates
+    let mid = c.get_mut.follows.lender-at-none in
+    let same : mid ≡ c.args.self.now.times = c.get_mut.follows.holds-at-none in
+    let absent : get client_cmp mid c.args.client ≡ None = subst (λ (times : BTreeMap TwoNames (List ℤ)). get client_cmp times c.args.client ≡ None) (sym same) (sym c.in_default.ensures.value) in
+    let none : times_by client_cmp mid c.args.client ≡ [] = ap (λ (found : Option (List ℤ)). unwrap_or found []) absent in
+    subst (λ (times : BTreeMap TwoNames (List ℤ)). AddsTime client_cmp times c.insert.new.self c.args.client c.args.time) same
+    (more_times client_cmp client_total mid c.insert.new.self c.args.client c.new.result c.args.time c.in_ok-insert.ensures.updates
     (subst (λ (times : List ℤ). IsPermutation (c.args.time ∷ times) c.new.result) (sym none)
     (subst (λ (times : List ℤ). IsPermutation (c.args.time ∷ []) times) (sym (c.new.ensures ∙ ap (λ (time : ℤ). time ∷ []) t)) (IsPermutation-refl (c.args.time ∷ []))))
+    (inserted_keeps client_cmp client_total mid c.insert.new.self c.args.client c.new.result none c.in_ok-insert.ensures.entries)
+    (inserted_is client_cmp client_total mid c.insert.new.self c.args.client c.new.result absent c.in_ok-insert.ensures.entries))

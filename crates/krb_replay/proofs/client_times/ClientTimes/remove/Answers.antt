@@ -4,7 +4,7 @@ use Rattle.std.proofs.lemmas.Int.{ints}
 use Rattle.std.specs.List.Sorted.{IsPermutation}
 use Rattle.std.proofs.lemmas.List.Sorted.{IsPermutation-refl}
 use Rattle.krb_replay.specs.Inner.Order.{client_cmp, client_total}
-use Rattle.krb_replay.proofs.TimesLaws.{less_then_same, less_times, none_is_not_empty, same_then_less, same_times}
+use Rattle.krb_replay.proofs.TimesLaws.{less_then_same, less_times, none_is_not_empty, removed_keeps, same_then_less, same_times}
 use Rattle.krb_replay.proofs.client_times.ClientTimes.remove.Goals as goal
 
 pub returns : goal.returns
@@ -17,5 +17,6 @@ returns c =
     (less_then_same client_cmp kept c.remove_entry.new.self c.free_if_empty.new.self.times c.args.client.now c.args.time
     (less_times client_cmp client_total kept c.remove_entry.new.self c.args.client.now None c.args.time c.remove_entry.ensures.updates
     (subst (λ (times : List ℤ). IsPermutation times (c.args.time ∷ [])) (sym only) (IsPermutation-refl (c.args.time ∷ [])))
-    (none_is_not_empty None refl))
+    (none_is_not_empty None refl)
+    (removed_keeps client_cmp client_total kept c.remove_entry.new.self c.args.client.now c.remove_entry.ensures.updates c.remove_entry.ensures.entries))
     (same_times client_cmp c.remove_entry.new.self c.free_if_empty.new.self.times c.free_if_empty.ensures))

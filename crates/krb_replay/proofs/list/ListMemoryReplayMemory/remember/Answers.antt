@@ -23,3 +23,10 @@ pub returns-in_err-push-clause-err : goal.returns-in_err-push-clause-err
 returns-in_err-push-clause-err c =
     still_same c.self.inside.tuples.items c.args.self.now.stamps c.push.new.self.items c.from_residual.result
     (ap (λ memory. memory.stamps) c.self.view_is) c.in_err-push.ensures.items
+
+pub returns-in_err-push-clause-repeat : goal.returns-in_err-push-clause-repeat
+returns-in_err-push-clause-repeat c = λ there.
+    let yes = (found c.deref.result.now c.args.self.now.stamps c.args.tuple c.contains.result c.contains.ensures.cases
+    (c.deref.ensures.value ∙ ap (λ memory. memory.stamps) c.self.view_is)).1 there in
+    let no = c.if-not-contains.true in
+    absurd (cc)

@@ -5,7 +5,7 @@ use Rattle.krb_replay.specs.Stamp.{Stamp}
 use Rattle.std.specs.Int.{w64}
 use Rattle.std.proofs.lemmas.Int.{ints}
 use Rattle.krb_replay.specs.Inner.Held.{FreesAtMost, number_before, since}
-use Rattle.krb_replay.proofs.TimedLaws.{added_reached, frees_16_for, frees_all, frees_some, grows_by_one, same_list, same_reached, stays_early}
+use Rattle.krb_replay.proofs.TimedLaws.{added_reached, frees_16_for, frees_all, frees_some, grows_by_one, same_list, same_reached, stays_early, in_set}
 use Rattle.krb_replay.proofs.timed.TimedMemoryReplayMemory.remember.Goals as goal
 
 pub returns-clause-ok : goal.returns-clause-ok
@@ -114,3 +114,14 @@ returns-clause-frees_all c = λ late.
     (subst (λ (z : ℤ). since z c.free_some.new.held ≡ since z c.reach_back-oldest.new.held) r c.free_some.ensures.same)
     (subst (λ (z : ℤ). FreesAtMost 16 z c.reach_back-oldest.new.held c.free_some.new.held) r c.free_some.ensures.frees)
     (c.add-added.ensures.before c.reach_back-oldest.result (omega (arith, ints))))
+
+pub returns-clause-repeat : goal.returns-clause-repeat
+returns-clause-repeat c = λ there.
+    let o : to_z w64 (of_z w64 c.self.inside.oldest) ≡ c.self.inside.oldest = omega (arith, ints) in
+    let r : to_z w64 (of_z w64 c.reach_back-oldest.result) ≡ c.reach_back-oldest.result = omega (arith, ints) in
+    let still : since c.reach_back-oldest.result c.free_some.new.held ≡ since c.reach_back-oldest.result c.reach_back-oldest.new.held =
+    subst (λ (z : ℤ). since z c.free_some.new.held ≡ since z c.reach_back-oldest.new.held) r c.free_some.ensures.same in
+    let same : since c.reach_back-oldest.result c.free_some.new.held ≡ c.args.self.now.stamps =
+    still ∙ (c.reach_back-oldest.ensures.same ∙ (ap (λ (oldest : ℤ). since oldest c.self.inside.held) o ∙ ap (λ memory. memory.stamps) c.self.view_is)) in
+    c.add-added.ensures.repeat (in_set c.reach_back-oldest.result c.free_some.new.held c.args.tuple
+    (subst (λ (list : List Stamp). Contains list c.args.tuple) (sym same) there)).0

@@ -1,6 +1,6 @@
 use Rattle.std.proofs.Common.{rules, arith, ℕ, take, [], ap, refl, inl, ◌∙◌, Ok}
 use Rattle.std.proofs.KnownBytes.{Consumes-nil, Consumes-kept}
-use Rattle.krb_name.specs.Flow.{counted}
+use Rattle.krb_file.specs.Flow.{counted}
 use Rattle.krb_service_command.proofs.GoingLaws.{came_more, came_takes, reached_kept, reached_more, reached_none, reached_stop, stays_on, length-take-below}
 use Rattle.krb_service_command.proofs.accept.Session.answer_source.Goals as goal
 

@@ -1,0 +1,5 @@
+use Rattle.krb_file.proofs.CursorLaws.{IsField-data16}
+use Rattle.krb_ccache.proofs.header.check_header.Goals as goal
+
+pub check_fields-requires : goal.check_fields-requires
+check_fields-requires c = (IsField-data16.takes c.args.cursor.now c.in_ok-body.body.now c.read_data16.new.self c.requires c.in_ok-body.ensures.read).1

@@ -1,0 +1,10 @@
+pub mod Exits
+pub mod CursorLaws
+pub mod ShortLaws
+pub mod Repeated
+pub mod Rows
+pub mod Moved
+pub mod WindowLaws
+pub mod FileLaws
+pub mod Moves
+pub mod SliceLaws

@@ -1,0 +1,35 @@
+-- What one read, or some of them, leave at hand.
+use Rattle.std.specs.Prelude.{◌≡◌, ℕ, ◌+◌, ◌≤◌, max, List, [], ◌++◌, length, Option, Result, Ok, Err}
+use Rattle.std.specs.Io.KnownBytes.{Consumes, IsAtEnd}
+use Rattle.krb_file.specs.Window.{AtHand, Skips}
+
+-- what one read gave, none only at the end, or where it failed
+abbrev pub OneRead : {E : Type 0} → Result ℕ E → ℕ → List ℕ → Option (List ℕ) → Type 0
+OneRead (Ok count) most piece to = (length piece ≡ count) × (count ≤ most) × (count ≡ 0 → IsAtEnd to)
+OneRead (Err _) most piece to = piece ≡ []
+
+pub record ReadsBehind {E : Type 0} (from to : Option (List ℕ)) (old new : List ℕ) (most : ℕ) (answer : Result ℕ E) : Type 0 where
+  pub piece : List ℕ
+  pub consumed : Consumes from to piece
+  pub bytes : new ≡ old ++ piece
+  pub one : OneRead answer most piece to
+
+-- what one read gave, and what became of what is held
+pub record ComesOnce {S E : Type 0} (Comes : Option (List ℕ) → Option (List ℕ) → AtHand S → AtHand S → List ℕ → Type 0) (from to : Option (List ℕ)) (old new : AtHand S) (most : ℕ) (answer : Result ℕ E) : Type 0 where
+  pub piece : List ℕ
+  pub comes : Comes from to old new piece
+  pub one : OneRead answer most piece to
+
+-- reads, none of which failed, gave this, and so many bytes are still to come
+pub record ComesSoFar {S : Type 0} (Comes : Option (List ℕ) → Option (List ℕ) → AtHand S → AtHand S → List ℕ → Type 0) (remaining : S → Option (List ℕ)) (failure_count lender : S → ℕ) (old new : AtHand S) (count left : ℕ) : Type 0 where
+  pub piece : List ℕ
+  pub comes : Comes (remaining old.source) (remaining new.source) old new piece
+  pub counted : length piece + left ≡ count
+  pub unfailed : failure_count new.source ≡ failure_count old.source
+  pub lent : lender new.source ≡ lender old.source
+
+-- at most one byte past a limit was given, or what was given before
+pub record SkipsWithin {S : Type 0} (from to : Option (List ℕ)) (old new : AtHand S) (limit : ℕ) : Type 0 where
+  pub piece : List ℕ
+  pub skips : Skips from to old new piece
+  pub one_past : new.given ≤ max old.given (limit + 1)

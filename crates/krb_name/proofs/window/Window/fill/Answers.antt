@@ -1,8 +1,0 @@
-use Rattle.krb_name.specs.Window.{Keeps}
-use Rattle.krb_name.proofs.WindowLaws.{keeps_more, one_more}
-use Rattle.krb_name.proofs.window.Window.fill.Goals as goal
-
-pub loop-left-preserved : goal.loop-left-preserved
-loop-left-preserved g c =
-    let one = c.in_ok-came.ensures in
-    record { comes = one_more Keeps keeps_more _ _ _ _ _ _ _ _ _ c.loop-left.invariant.comes one.keeps one.failed one.lent }
