@@ -574,6 +574,9 @@ class Runner:
         said, silent = self.check(crate, edits, without_misfits(crate, edits)), []
         for it in edits:
             names = self.names(it)
+            if it.is_outside and len(edits) == 1:
+                # (it may be refused by a goal of any function)
+                names = {*said.state, *(name for name, lines in said.goals.items() if lines)}
             open_names = [name for name in names if not said.state.get(name, "").startswith("proved")]
             if any(not is_of_terms(line) for name in open_names for line in said.goals[name]):
                 it.by_terms = False

@@ -29,6 +29,16 @@ pub fn twice(n: u32) -> u32
 
 MULTIPLES
 
+const MORE: u32 = 2;
+
+pub fn twice_and_more(n: u32) -> u32
+    requires small { n ≤ 500 }
+    ensures { result ≡ n * 2 + 2 }
+{
+    let two = twice(n);
+    two + MORE
+}
+
 pub fn part(n: u32) -> u32
     ensures { result ≤ n }
 {
@@ -101,6 +111,14 @@ pub returns : goal.returns
 returns c = ap (λ (k : ℕ). k + c.args.n) c.twice-two.ensures ∙ omega arith
 """
 
+# the answer is a term that fits no other constant
+SUM = """use Rattle.std.proofs.Common.{◌≡◌, ◌+◌, ℕ, ap}
+use Rattle.sample.proofs.twice_and_more.Goals as goal
+
+pub returns : goal.returns
+returns c = ap (λ (k : ℕ). k + 2) c.twice-two.ensures
+"""
+
 # an edit's name, what it replaces by what, and what the runner has to say of it (in a run of all of them)
 EDITS = [
     ("twice_and_one", "    n + n", "    n + n + 1", None),
@@ -118,6 +136,8 @@ EDITS = [
     # of both the answer no longer fits, and one is right
     ("three_times_the_other_way_round", "    two + n", "    n + two", "isn't refused: without the answers"),
     ("three_times_is_four_times", "    two + n", "    two + two", None),
+    # an answer no longer fits, for a constant
+    ("more_is_three", "const MORE: u32 = 2;", "const MORE: u32 = 3;", None),
     ("of_a_text_that_is_gone", "    n + n + n", "    0", "doesn't apply"),
     # methods of one trait, each for a type of the language
     ("bool_is_two", "            1\n".strip("\n"), "            2", None),
@@ -131,6 +151,7 @@ def made(room, edits):
     crate = f"{room}/crates/sample"
     files = {f"{room}/crates.txt": "sample:\n", f"{room}/HANDLES": "Handles allowed: none.\n"}
     files |= {f"{crate}/src/lib.rt": SOURCE, f"{crate}/proofs/six_times/Answers.antt": ANSWERS, f"{crate}/proofs/three_times/Answers.antt": TERM}
+    files |= {f"{crate}/proofs/twice_and_more/Answers.antt": SUM}
     files |= {f"{crate}/edits/{name}.edit": f"file: src/lib.rt\nold: {old}\nnew: {new}\n" for name, old, new, _ in edits}
     for path, text in files.items():
         os.makedirs(os.path.dirname(path), exist_ok=True)
@@ -422,6 +443,7 @@ def main():
         hold("the last line", said.endswith(f"\n{refused} passed, {len(EDITS) - refused} failed\n") and status == 1)
         # one check for most: each edit alone would be a check of its own
         checks = re.search(r"refused, by (\d+) checks", said)
+        hold("a goal is named of each", "show less" not in said)
         hold("few checks", checks and int(checks[1]) < len(EDITS))
         # after rt ci
         after = run_of(room, EDITS, "--after-ci", "--all")[1]
