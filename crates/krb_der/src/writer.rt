@@ -1,6 +1,6 @@
 //! Writing elements.
 
-ghost use Rattle.std.specs.Prelude.{◌≡◌, ℕ, ◌+◌, ◌-◌, ◌≤◌, ◌<◌, ◌^◌, ◌↔◌, List, [], ◌∷◌, ◌++◌, length, drop, IsTrue, IfOk, OnOk, OnErr};
+ghost use Rattle.std.specs.Prelude.{◌≡◌, ℕ, ◌+◌, ◌-◌, ◌≤◌, ◌<◌, ◌^◌, ◌↔◌, List, [], ◌∷◌, ◌++◌, length, take, drop, IsTrue, IfOk, OnOk, OnErr};
 ghost use Rattle.krb_der.specs.Kind.{leaf, int32, uint32, microseconds, constant, octets, string, flags, time};
 ghost use Rattle.krb_der.specs.Whole.{IsInteger};
 ghost use Rattle.krb_der.specs.Spells.{IsElement};
@@ -202,12 +202,27 @@ impl Writer {
         ensures ok { OnOk result (Wraps tag start (without_room start self.old) self.new) }
         ensures kept { OnErr result (self.new ≡ self.old) }
     {
+        let head = head_of(tag, (self.bytes.len() - start - SHORT_HEAD) as u32);
+        // (a copy of a known length is no call)
+        match head.len {
+            3 => self.put_head(start, &head.bytes[..3]),
+            4 => self.put_head(start, &head.bytes[..4]),
+            len => self.put_head(start, &head.bytes[..len]),
+        }
+    }
+
+    // Puts a head where room for one is left, and moves what was written after that.
+    #[inline(always)]
+    fn put_head(&mut self, start: usize, head: &[u8]) -> Result<(), AllocError>
+        requires within { start + 2 ≤ length self.old }
+        requires some { 2 ≤ length head.now }
+        ensures ok { OnOk result (self.new ≡ take start self.old ++ (head.now ++ drop (start + 2) self.old)) }
+        ensures kept { OnErr result (self.new ≡ self.old) }
+    {
         let end = self.bytes.len();
-        let head = head_of(tag, (end - start - SHORT_HEAD) as u32);
         // which bytes doesn't matter: they are written over
-        self.bytes
-            .extend_from_slice(&head.bytes[..head.len - SHORT_HEAD])?;
-        fill(&mut self.bytes, start, end, &head.bytes[..head.len]);
+        self.bytes.extend_from_slice(&head[SHORT_HEAD..])?;
+        fill(&mut self.bytes, start, end, head);
         Ok(())
     }
 
@@ -243,6 +258,17 @@ impl Writer {
     }
 
     fn whole(&mut self, value: i64) -> Result<(), AllocError>
+        ensures ok { OnOk result (Appends (IsElement 0x02 (IsInteger value)) self.old self.new) }
+        ensures kept { OnErr result (self.new ≡ self.old) }
+    {
+        // Most numbers of a message are such, so this is for speed.
+        if 0 <= value && value < 0x80 {
+            return self.element(tag::INTEGER, &[value as u8]);
+        }
+        self.any_whole(value)
+    }
+
+    fn any_whole(&mut self, value: i64) -> Result<(), AllocError>
         ensures ok { OnOk result (Appends (IsElement 0x02 (IsInteger value)) self.old self.new) }
         ensures kept { OnErr result (self.new ≡ self.old) }
     {

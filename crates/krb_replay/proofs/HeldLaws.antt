@@ -1,5 +1,5 @@
 -- What is held, and what of it isn't too old.
-use Rattle.std.proofs.Common.{◌≡◌, ◌⊎◌, inl, inr, ℕ, ℤ, zero, ◌+◌, ◌<◌, ◌≤◌, ◌≤ℤ◌, ◌<ℤ◌, ◌&&◌, Bool, true, false, not, cond, Option, Some, None, List, [], ◌∷◌, length, drop, get_or, slice_get, unwrap_or, Contains, refl, sym, subst, ap, ◌∙◌, arith}
+use Rattle.std.proofs.Common.{◌≡◌, ◌⊎◌, inl, inr, ℕ, ℤ, zero, ◌+◌, ◌<◌, ◌≤ℤ◌, ◌<ℤ◌, ◌&&◌, Bool, true, false, not, cond, Option, Some, None, List, [], ◌∷◌, length, drop, get_or, slice_get, unwrap_or, Contains, refl, sym, subst, ap, ◌∙◌, arith}
 use Rattle.std.specs.List.{All, filter}
 use Rattle.std.proofs.lemmas.List.Elements.{All-head, All-tail, filter_passes}
 use Rattle.std.specs.declared.cmp.Ordering.{Ordering}
@@ -88,19 +88,6 @@ two_sides client oldest (x ∷ xs) =
 pub all_of_none : (xs : List Stamp) → number_of None xs ≡ length xs
 all_of_none [] = refl
 all_of_none (x ∷ xs) = let rest = all_of_none xs in omega arith
-
-most_one : (passes : Bool) → weighed passes ≤ 1
-most_one true = omega arith
-most_one false = omega arith
-
--- a client has no more than all have
-pub number_at_most : (client : Option RealmAndName) (xs : List Stamp) → number_of client xs ≤ length xs
-number_at_most client [] = omega arith
-number_at_most client (x ∷ xs) =
-    let longer = filter_longer (is_of client) x xs in
-    let one = most_one (is_of client x) in
-    let rest = number_at_most client xs in
-    omega arith
 
 pub counted_still : (cmp : TwoNames → TwoNames → Ordering) (stamps : List Stamp) (before after : BTreeMap TwoNames ℕ) → AreCounted cmp stamps before
     → SameCounts cmp before after → AreCounted cmp stamps after

@@ -6,6 +6,7 @@ pub mod KeepingLaws
 pub mod KeptLaws
 pub mod KeysLaws
 pub mod LimitLaws
+pub mod MostLaws
 pub mod NamesLaws
 pub mod OnceLaws
 pub mod OrderLaws

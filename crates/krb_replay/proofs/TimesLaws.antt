@@ -1,6 +1,6 @@
 -- The times of each client after one more tuple or one less.
 use Rattle.std.proofs.Common.{◌≡◌, ◌≢◌, inl, inr, ℕ, ℤ, zero, suc, ◌≤ℤ◌, ◌+◌, ◌<◌, ◌≤◌, ◌&&◌, Bool, true, false, not, cond, int_lt, Option, Some, None, List, [], ◌∷◌, length, Contains, refl, sym, ap, subst, ◌∙◌, arith}
-use Rattle.std.specs.Prelude.{Result, Ok, Err, OnErr, OnOk}
+use Rattle.std.specs.Prelude.{Result, Ok, Err, OnErr}
 use Rattle.std.specs.List.{filter}
 use Rattle.std.specs.List.Sorted.{IsPermutation}
 use Rattle.std.specs.Ordering.{eq_by_cmp, is_eq}
@@ -66,7 +66,7 @@ module _ {K : Type 0} (cmp : K → K → Ordering) (total : IsTotalOrder cmp) wh
       ∙ ap (λ (found : Option (List ℤ)). cond (is_at (cmp other) e.0) (Some e.1) found) (same_lookup key other same es)
 
   -- equal keys have the same times
-  same_key : (times : BTreeMap K (List ℤ)) (key other : K) → is_at (cmp key) other ≡ true → times_by cmp times key ≡ times_by cmp times other
+  pub same_key : (times : BTreeMap K (List ℤ)) (key other : K) → is_at (cmp key) other ≡ true → times_by cmp times key ≡ times_by cmp times other
   same_key times key other same = ap (λ (found : Option (List ℤ)). unwrap_or found []) (same_lookup key other (is_tie (cmp key other) same) times.entries)
 
   hit : (old new : BTreeMap K (List ℤ)) (key other : K) (value : Option (List ℤ)) → Updates cmp old new key value
@@ -270,13 +270,10 @@ few_left (suc (suc n)) answer kept more = let yes = more (omega arith) in absurd
 pub only_one : (answer : Bool) (times : List ℤ) (time : ℤ) → answer ≡ false → Contains times time → (1 < length times → answer ≡ true) → times ≡ time ∷ []
 only_one answer times time kept there more = alone times time (few_left (length times) answer kept more) there
 
-pub from_ok : {A E : Type 0} {P Q : Type 0} (answer : Result A E) → (P → Q) → OnOk answer P → OnOk answer Q
-from_ok (Ok x) give h = give h
-from_ok (Err e) give h = h
-
-pub from_err : {A E : Type 0} {P Q : Type 0} (answer : Result A E) → (P → Q) → OnErr answer P → OnErr answer Q
-from_err (Ok x) give h = h
-from_err (Err e) give h = give h
+-- what holds anyway holds of an error
+pub on_err : {A E : Type 0} {P : Type 0} (answer : Result A E) → P → OnErr answer P
+on_err (Ok x) is = tt
+on_err (Err e) is = is
 
 -- ---- what is held
 

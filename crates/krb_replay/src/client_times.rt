@@ -1,11 +1,11 @@
 //! The times of each client's tuples.
 
-ghost use Rattle.std.specs.Prelude.{◌≡◌, ◌∷◌, [], Contains, IsTrue, OnErr, OnOk, false, length};
+ghost use Rattle.std.specs.Prelude.{◌≡◌, ◌∷◌, [], Contains, IfOk, IsTrue, OnErr, OnOk, false, length};
 ghost use Rattle.std.specs.BTreeMap.{btree_map_len, get_key};
 ghost use Rattle.std.specs.Option.{option_map};
 ghost use Rattle.krb_replay.specs.Inner.Held.{is_recent};
 ghost use Rattle.krb_replay.specs.Inner.Order.{TwoNames, client_cmp};
-ghost use Rattle.krb_replay.specs.Inner.Times.{AddsTime, HasNoEmpty, SameTimes, TakesTime, number_by, times_by};
+ghost use Rattle.krb_replay.specs.Inner.Times.{AddsTime, HasNoEmpty, SameTimes, TakesTime, all_by, number_by, times_by};
 
 use crate::pair::ByClient;
 use krb_tally::Times;
@@ -69,16 +69,18 @@ impl ClientTimes {
         }
     }
 
-    /// Adds the time of one more tuple of the client.
-    pub(crate) fn add(&mut self, client: ByClient, time: i64) -> Result<(), AllocError>
+    /// Adds the time of one more tuple of the client, and returns how many tuples it has now.
+    pub(crate) fn add(&mut self, client: ByClient, time: i64) -> Result<usize, AllocError>
         ensures ok { OnOk result (AddsTime client_cmp self.old.times self.new.times client time) }
+        ensures number { IfOk result (λ number. number ≡ all_by client_cmp self.new.times client) }
         ensures err { OnErr result (SameTimes client_cmp self.old.times self.new.times) }
     {
         if let Some(times) = self.times.get_mut(&client) {
-            return times.add(self.alloc, time);
+            times.add(self.alloc, time)?;
+            return Ok(times.len());
         }
         self.times.insert(client, Times::new(time))?;
-        Ok(())
+        Ok(1)
     }
 
     /// Removes the time of a tuple of the client. Frees the names that are kept, if the client has

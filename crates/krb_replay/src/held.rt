@@ -6,7 +6,7 @@ ghost use Rattle.std.specs.declared.cmp.Ordering.TheVariants.{Equal};
 ghost use Rattle.krb_replay.specs.Inner.Counts.{AddsIf, SameCounts, TakesIf, count_by};
 ghost use Rattle.krb_replay.specs.Inner.Held.{IsOnce, differs, number_before, number_of, since};
 ghost use Rattle.krb_replay.specs.Inner.Order.{client_cmp, pair_cmp};
-ghost use Rattle.krb_replay.specs.Inner.Times.{AddsTime, SameTimes, TakesTime, times_by};
+ghost use Rattle.krb_replay.specs.Inner.Times.{AddsTime, SameTimes, TakesTime, all_by, times_by};
 ghost use Rattle.krb_replay.specs.Memory.{AddsStamp};
 
 use crate::client_times::ClientTimes;
@@ -31,11 +31,13 @@ pub(crate) struct Held {
     clients: ClientTimes,
     // Of names that aren't kept with the clients.
     pairs: Counts<Pair>,
+    // No client has more tuples. It isn't lowered when tuples are freed.
+    most: usize,
 }
 
 impl Model for Held {
     ghost use Rattle.std.specs.Prelude.{List};
-    ghost use Rattle.krb_replay.specs.Inner.Held.{AreCounted, AreTimed, IsOnce, others};
+    ghost use Rattle.krb_replay.specs.Inner.Held.{AreCounted, AreTimed, IsMost, IsOnce, others};
     ghost use Rattle.krb_replay.specs.Inner.Order.{client_cmp, pair_cmp};
     ghost use Rattle.krb_replay.specs.Stamp.{Stamp};
 
@@ -45,7 +47,8 @@ impl Model for Held {
 
     ghost invariant = { λ held. IsOnce held.tuples
         × (AreTimed client_cmp held.tuples held.clients.times
-        × AreCounted pair_cmp (others held.clients.times held.tuples) held.pairs.counts) };
+        × (AreCounted pair_cmp (others held.clients.times held.tuples) held.pairs.counts
+        × IsMost held.clients.times held.most)) };
 }
 
 impl Held {
@@ -56,6 +59,7 @@ impl Held {
             tuples: Tally::new(alloc),
             clients: ClientTimes::new(alloc),
             pairs: Counts::new(alloc),
+            most: 0,
         }
     }
 
@@ -102,9 +106,12 @@ impl Held {
         let tuple = share_names(kept, &self.pairs, tuple)?;
         let (held, names) = tuple.into_parts();
         let time = held.timestamp();
-        count(&mut self.clients, &mut self.pairs, &names, time, is_other)?;
+        let number = count(&mut self.clients, &mut self.pairs, &names, time, is_other)?;
         match self.tuples.add(held) {
-            Ok(()) => Ok(()),
+            Ok(()) => {
+                self.most = self.most.max(number);
+                Ok(())
+            }
             Err(_) => {
                 uncount(&mut self.clients, &mut self.pairs, &names, time, is_other);
                 Err(AllocError)
@@ -145,6 +152,17 @@ impl Held {
         }
     }
 
+    // At least as many as are held: of the client of a tuple, or of all clients.
+    fn most_of(&self, client_of: Option<&Tuple>) -> usize
+        ensures number { number_of (option_map (λ tuple. tuple.now.client) client_of.entry) self.now ≤ result }
+        ensures once { IsOnce self.now }
+    {
+        match client_of {
+            Some(_) => self.most,
+            None => self.tuples.len(),
+        }
+    }
+
     // How many tuples are held: of the client of a tuple, or of all clients.
     fn number(&self, client_of: Option<&Tuple>) -> usize
         ensures number { result ≡ number_of (option_map (λ tuple. tuple.now.client) client_of.entry) self.now }
@@ -173,8 +191,8 @@ impl Held {
         ensures enough { IsTrue result ↔ (count ≤ number_of (option_map (λ tuple. tuple.now.client) client_of.entry) (since oldest self.now)) }
         ensures once { IsOnce self.now }
     {
-        // If fewer are held at all, the client isn't looked up.
-        if self.tuples.len() < count {
+        // If no client has so many, none is looked up.
+        if self.most_of(client_of) < count {
             return false;
         }
         // Most clients have far fewer, and nothing is added up for them.
@@ -229,14 +247,15 @@ fn equal_pair<'a>(
 }
 
 // Counts a tuple of these names and this time for its client and, if other names are kept of the
-// client, for its names. Or counts it for neither.
+// client, for its names. Or counts it for neither. Returns how many tuples the client has now.
 fn count(
     clients: &mut ClientTimes,
     pairs: &mut Counts<Pair>,
     names: &ByClient,
     time: i64,
     is_other: bool,
-) -> Result<(), AllocError>
+) -> Result<usize, AllocError>
+    ensures number { IfOk result (λ number. number ≡ all_by client_cmp clients.new.times names.now) }
     ensures client { OnOk result (AddsTime client_cmp clients.old.times clients.new.times names.now time) }
     ensures pair { OnOk result (AddsIf pair_cmp is_other pairs.old.counts pairs.new.counts names.now) }
     ensures client_err { OnErr result (SameTimes client_cmp clients.old.times clients.new.times) }
@@ -245,7 +264,7 @@ fn count(
     let client = ByClient::new(names.pair().share()?);
     count_other(pairs, names.pair(), is_other)?;
     match clients.add(client, time) {
-        Ok(()) => Ok(()),
+        Ok(number) => Ok(number),
         Err(_) => {
             uncount_other(pairs, names.pair(), is_other);
             Err(AllocError)

@@ -8,7 +8,7 @@ use Rattle.std.specs.declared.cmp.Ordering.{Ordering}
 use Rattle.std.specs.Ordering.{eq_by_cmp, is_eq}
 use Rattle.krb_replay.specs.Stamp.{RealmAndName, Stamp}
 use Rattle.krb_replay.specs.Inner.Counts.{HasNoZero, count_by}
-use Rattle.krb_replay.specs.Inner.Times.{HasNoEmpty, kept_by, number_by}
+use Rattle.krb_replay.specs.Inner.Times.{HasNoEmpty, all_by, kept_by, number_by}
 use Rattle.krb_replay.specs.Inner.Order.{TwoNames, client_cmp, name_cmp, names_of, pair_cmp, stamp_cmp}
 
 abbrev pub is_before : ℤ → Stamp → Bool
@@ -49,6 +49,10 @@ IsOnce stamps = (stamp : Stamp) → length (filter (λ one. eq_by_cmp stamp_cmp 
 pub record AreTimed (cmp : TwoNames → TwoNames → Ordering) (stamps : List Stamp) (times : BTreeMap TwoNames (List ℤ)) : Type 0 where
   pub each : (names : TwoNames) (passes : ℤ → Bool) → number_by cmp times names passes ≡ length (filter (λ stamp. passes stamp.time && is_at (cmp (names_of stamp)) names) stamps)
   pub no_empty : HasNoEmpty cmp times
+
+-- no client has more times
+abbrev pub IsMost : BTreeMap TwoNames (List ℤ) → ℕ → Type 0
+IsMost times most = (client : TwoNames) → all_by client_cmp times client ≤ most
 
 -- whether the names aren't those that are kept of a client
 abbrev pub differs : TwoNames → TwoNames → Bool

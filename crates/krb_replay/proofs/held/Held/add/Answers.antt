@@ -12,6 +12,7 @@ use Rattle.krb_replay.specs.Inner.Times.{AddsTime, SameTimes, kept_by}
 use Rattle.krb_replay.proofs.SetLaws.{adds_nothing}
 use Rattle.krb_replay.proofs.HeldLaws.{counted_still}
 use Rattle.krb_replay.proofs.KeptLaws.{more_then_less_if, others_added, others_more, others_still, some_counted_if}
+use Rattle.krb_replay.proofs.MostLaws.{most_more, most_still}
 use Rattle.krb_replay.proofs.OnceLaws.{once_more}
 use Rattle.krb_replay.proofs.TimesLaws.{added_by, added_there, found_by, more_then_less, none_before, timed_more, timed_still}
 use Rattle.krb_replay.proofs.held.Held.add.Goals as goal
@@ -54,38 +55,46 @@ invariant_of-self-in-Ok c =
       (
         timed_more client_cmp c.self.inside.tuples c.add.new.self c.self.inside.clients.times c.count.new.clients.times c.into_parts-held.result.0 c.self.invariant.1.0 c.in-Ok.ensures.ok
             (adds_for client_cmp c.self.inside.clients.times c.count.new.clients.times c.into_parts-held.result.1 _ c.into_parts-held.result.0 (names_are _ _ _ c.into_parts-held.ensures.held c.into_parts-held.ensures.names)
-            (let time = c.timestamp-time.ensures in omega (arith, ints)) c.in_ok-count.ensures.client),
-        others_more c.is_other-is_other.result c.self.inside.tuples c.add.new.self c.self.inside.clients.times c.count.new.clients.times c.self.inside.pairs.counts c.count.new.pairs.counts c.into_parts-held.result.0
-            c.self.invariant.1.1 c.in-Ok.ensures.ok
-            (others_added c.self.inside.tuples c.self.inside.clients.times c.count.new.clients.times c.into_parts-held.result.1 _ c.self.invariant.1.0 c.in_ok-count.ensures.client)
-            (other_still c.self.inside.clients.times c.count.new.clients.times _ c.names.result.now c.names-2.result.now c.into_parts-held.result.1 c.into_parts-held.result.0 c.is_other-is_other.result
-            c.kept-kept.ensures c.is_other-is_other.ensures (c.names.ensures ∙ sym c.names-2.ensures)
-            (c.names-2.ensures ∙ (ap names_of (sym c.in_ok-tuple.ensures) ∙ sym c.into_parts-held.ensures.names)) (names_are _ _ _ c.into_parts-held.ensures.held c.into_parts-held.ensures.names) c.in_ok-count.ensures.client.own)
-            (subst (λ (names : TwoNames). AddsIf pair_cmp c.is_other-is_other.result c.self.inside.pairs.counts c.count.new.pairs.counts names) (names_are _ _ _ c.into_parts-held.ensures.held c.into_parts-held.ensures.names) c.in_ok-count.ensures.pair),
+            (let time = c.timestamp-time.ensures in omega (arith, ints)) c.in_ok-number.ensures.client),
+        (
+          others_more c.is_other-is_other.result c.self.inside.tuples c.add.new.self c.self.inside.clients.times c.count.new.clients.times c.self.inside.pairs.counts c.count.new.pairs.counts c.into_parts-held.result.0
+              c.self.invariant.1.1.0 c.in-Ok.ensures.ok
+              (others_added c.self.inside.tuples c.self.inside.clients.times c.count.new.clients.times c.into_parts-held.result.1 _ c.self.invariant.1.0 c.in_ok-number.ensures.client)
+              (other_still c.self.inside.clients.times c.count.new.clients.times _ c.names.result.now c.names-2.result.now c.into_parts-held.result.1 c.into_parts-held.result.0 c.is_other-is_other.result
+              c.kept-kept.ensures c.is_other-is_other.ensures (c.names.ensures ∙ sym c.names-2.ensures)
+              (c.names-2.ensures ∙ (ap names_of (sym c.in_ok-tuple.ensures) ∙ sym c.into_parts-held.ensures.names)) (names_are _ _ _ c.into_parts-held.ensures.held c.into_parts-held.ensures.names) c.in_ok-number.ensures.client.own)
+              (subst (λ (names : TwoNames). AddsIf pair_cmp c.is_other-is_other.result c.self.inside.pairs.counts c.count.new.pairs.counts names) (names_are _ _ _ c.into_parts-held.ensures.held c.into_parts-held.ensures.names) c.in_ok-number.ensures.pair),
+          let above = c.max-self-inside.ensures in
+              most_more c.self.inside.clients.times c.count.new.clients.times c.into_parts-held.result.1 _ c.in_ok-number.number c.self.inside.most _ c.in_ok-number.ensures.client c.in_ok-number.ensures.number
+              (omega arith) (omega arith) c.self.invariant.1.1.1,
+        ),
       ),
     )
 
 pub uncount-requires-clause-client : goal.uncount-requires-clause-client
 uncount-requires-clause-client c =
-    added_there client_cmp client_total c.self.inside.clients.times c.count.new.clients.times c.into_parts-held.result.1 _ c.in_ok-count.ensures.client
+    added_there client_cmp client_total c.self.inside.clients.times c.count.new.clients.times c.into_parts-held.result.1 _ c.in_ok-number.ensures.client
 
 pub uncount-requires-clause-pair : goal.uncount-requires-clause-pair
 uncount-requires-clause-pair c = λ other.
-    some_counted_if c.is_other-is_other.result c.self.inside.pairs.counts c.count.new.pairs.counts c.into_parts-held.result.1 c.in_ok-count.ensures.pair other
+    some_counted_if c.is_other-is_other.result c.self.inside.pairs.counts c.count.new.pairs.counts c.into_parts-held.result.1 c.in_ok-number.ensures.pair other
 
 pub invariant_of-self-in-Err : goal.invariant_of-self-in-Err
 invariant_of-self-in-Err c =
     let same : SameTimes client_cmp c.self.inside.clients.times c.uncount.new.clients.times =
-    more_then_less client_cmp c.self.inside.clients.times c.count.new.clients.times c.uncount.new.clients.times c.into_parts-held.result.1 _ c.in_ok-count.ensures.client c.uncount.ensures.client in (
+    more_then_less client_cmp c.self.inside.clients.times c.count.new.clients.times c.uncount.new.clients.times c.into_parts-held.result.1 _ c.in_ok-number.ensures.client c.uncount.ensures.client in (
       subst (λ (stamps : List Stamp). IsOnce stamps) (sym c.in-Err.ensures.err) c.self.invariant.0,
       (
         subst (λ (stamps : List Stamp). AreTimed client_cmp stamps c.uncount.new.clients.times) (sym c.in-Err.ensures.err)
             (timed_still client_cmp c.self.inside.tuples c.self.inside.clients.times c.uncount.new.clients.times c.self.invariant.1.0 same),
-        subst (λ (stamps : List Stamp). AreCounted pair_cmp (others c.uncount.new.clients.times stamps) c.uncount.new.pairs.counts) (sym c.in-Err.ensures.err)
-            (subst (λ (list : List Stamp). AreCounted pair_cmp list c.uncount.new.pairs.counts)
-            (sym (others_still c.self.inside.tuples c.self.inside.clients.times c.uncount.new.clients.times c.self.invariant.1.0 same))
-            (counted_still pair_cmp (others c.self.inside.clients.times c.self.inside.tuples) c.self.inside.pairs.counts c.uncount.new.pairs.counts c.self.invariant.1.1
-            (more_then_less_if c.is_other-is_other.result c.self.inside.pairs.counts c.count.new.pairs.counts c.uncount.new.pairs.counts c.into_parts-held.result.1 c.in_ok-count.ensures.pair c.uncount.ensures.pair))),
+        (
+          subst (λ (stamps : List Stamp). AreCounted pair_cmp (others c.uncount.new.clients.times stamps) c.uncount.new.pairs.counts) (sym c.in-Err.ensures.err)
+              (subst (λ (list : List Stamp). AreCounted pair_cmp list c.uncount.new.pairs.counts)
+              (sym (others_still c.self.inside.tuples c.self.inside.clients.times c.uncount.new.clients.times c.self.invariant.1.0 same))
+              (counted_still pair_cmp (others c.self.inside.clients.times c.self.inside.tuples) c.self.inside.pairs.counts c.uncount.new.pairs.counts c.self.invariant.1.1.0
+              (more_then_less_if c.is_other-is_other.result c.self.inside.pairs.counts c.count.new.pairs.counts c.uncount.new.pairs.counts c.into_parts-held.result.1 c.in_ok-number.ensures.pair c.uncount.ensures.pair))),
+          most_still c.self.inside.clients.times c.uncount.new.clients.times c.self.inside.most same c.self.invariant.1.1.1,
+        ),
       ),
     )
 
@@ -110,10 +119,13 @@ pub invariant_of-self : goal.invariant_of-self
 invariant_of-self c = (
   c.self.invariant.0,
   (
-    timed_still client_cmp c.self.inside.tuples c.self.inside.clients.times c.count.new.clients.times c.self.invariant.1.0 c.in_err-count.ensures.client_err,
-    subst (λ (list : List Stamp). AreCounted pair_cmp list c.count.new.pairs.counts)
-        (sym (others_still c.self.inside.tuples c.self.inside.clients.times c.count.new.clients.times c.self.invariant.1.0 c.in_err-count.ensures.client_err))
-        (counted_still pair_cmp (others c.self.inside.clients.times c.self.inside.tuples) c.self.inside.pairs.counts c.count.new.pairs.counts c.self.invariant.1.1 c.in_err-count.ensures.pair_err),
+    timed_still client_cmp c.self.inside.tuples c.self.inside.clients.times c.count.new.clients.times c.self.invariant.1.0 c.in_err-number.ensures.client_err,
+    (
+      subst (λ (list : List Stamp). AreCounted pair_cmp list c.count.new.pairs.counts)
+          (sym (others_still c.self.inside.tuples c.self.inside.clients.times c.count.new.clients.times c.self.invariant.1.0 c.in_err-number.ensures.client_err))
+          (counted_still pair_cmp (others c.self.inside.clients.times c.self.inside.tuples) c.self.inside.pairs.counts c.count.new.pairs.counts c.self.invariant.1.1.0 c.in_err-number.ensures.pair_err),
+      most_still c.self.inside.clients.times c.count.new.clients.times c.self.inside.most c.in_err-number.ensures.client_err c.self.invariant.1.1.1,
+    ),
   ),
 )
 
@@ -124,8 +136,8 @@ returns-in_err-tuple-clause-repeat c = λ there.
     let no = c.if-has.false in
     absurd (cc)
 
-pub returns-in_err-count-clause-repeat : goal.returns-in_err-count-clause-repeat
-returns-in_err-count-clause-repeat c = λ there.
+pub returns-in_err-number-clause-repeat : goal.returns-in_err-number-clause-repeat
+returns-in_err-number-clause-repeat c = λ there.
     let yes = (found_by c.self.inside.tuples c.args.self.now c.held.result.now c.has.result c.self.view_is c.has.ensures.found c.has.ensures.lacks).1
     (subst (λ (one : Stamp). Contains c.args.self.now one) (sym c.held.ensures) there) in
     let no = c.if-has.false in

@@ -7,6 +7,7 @@ use Rattle.krb_replay.specs.Inner.Held.{AreCounted, AreTimed, IsOnce, differs, i
 use Rattle.krb_replay.specs.Inner.Order.{TwoNames, client_cmp, client_total, names_of, pair_cmp}
 use Rattle.krb_replay.specs.Inner.Times.{TakesTime, times_by}
 use Rattle.krb_replay.proofs.KeptLaws.{first_counted, others_less, others_taken}
+use Rattle.krb_replay.proofs.MostLaws.{most_less}
 use Rattle.krb_replay.proofs.OnceLaws.{once_rest_counts}
 use Rattle.krb_replay.proofs.TimesLaws.{first_timed, timed_less}
 use Rattle.krb_replay.proofs.held.Held.pop_first.Goals as goal
@@ -37,7 +38,7 @@ uncount-requires-clause-pair c = λ other.
     subst (λ (names : TwoNames). 0 < count_by pair_cmp c.self.inside.pairs.counts names) (sym c.into_parts-time.ensures.names)
     (first_counted c.in-Some.first c.pop_first.new.self c.self.inside.clients.times c.self.inside.pairs.counts
     (other_is c.self.inside.clients.times _ c.into_parts-time.result.1 c.in-Some.first c.is_other-is_other.result c.kept.ensures c.is_other-is_other.ensures c.into_parts-time.ensures.names ∙ other)
-    (subst (λ (stamps : List Stamp). AreCounted pair_cmp (others c.self.inside.clients.times stamps) c.self.inside.pairs.counts) c.in-Some.ensures c.self.invariant.1.1))
+    (subst (λ (stamps : List Stamp). AreCounted pair_cmp (others c.self.inside.clients.times stamps) c.self.inside.pairs.counts) c.in-Some.ensures c.self.invariant.1.1.0))
 
 pub invariant_of-self : goal.invariant_of-self
 invariant_of-self c =
@@ -48,10 +49,13 @@ invariant_of-self c =
       once_rest_counts c.in-Some.first c.pop_first.new.self (subst (λ (stamps : List Stamp). IsOnce stamps) c.in-Some.ensures c.self.invariant.0),
       (
         timed,
-        others_less c.is_other-is_other.result c.in-Some.first c.pop_first.new.self c.self.inside.clients.times c.uncount.new.clients.times c.self.inside.pairs.counts c.uncount.new.pairs.counts
-            (subst (λ (stamps : List Stamp). AreCounted pair_cmp (others c.self.inside.clients.times stamps) c.self.inside.pairs.counts) c.in-Some.ensures c.self.invariant.1.1)
-            (other_is c.self.inside.clients.times _ c.into_parts-time.result.1 c.in-Some.first c.is_other-is_other.result c.kept.ensures c.is_other-is_other.ensures c.into_parts-time.ensures.names)
-            (subst (λ (names : TwoNames). TakesIf pair_cmp c.is_other-is_other.result c.self.inside.pairs.counts c.uncount.new.pairs.counts names) c.into_parts-time.ensures.names c.uncount.ensures.pair)
-            (others_taken c.pop_first.new.self c.self.inside.clients.times c.uncount.new.clients.times (names_of c.in-Some.first) c.in-Some.first.time timed takes),
+        (
+          others_less c.is_other-is_other.result c.in-Some.first c.pop_first.new.self c.self.inside.clients.times c.uncount.new.clients.times c.self.inside.pairs.counts c.uncount.new.pairs.counts
+              (subst (λ (stamps : List Stamp). AreCounted pair_cmp (others c.self.inside.clients.times stamps) c.self.inside.pairs.counts) c.in-Some.ensures c.self.invariant.1.1.0)
+              (other_is c.self.inside.clients.times _ c.into_parts-time.result.1 c.in-Some.first c.is_other-is_other.result c.kept.ensures c.is_other-is_other.ensures c.into_parts-time.ensures.names)
+              (subst (λ (names : TwoNames). TakesIf pair_cmp c.is_other-is_other.result c.self.inside.pairs.counts c.uncount.new.pairs.counts names) c.into_parts-time.ensures.names c.uncount.ensures.pair)
+              (others_taken c.pop_first.new.self c.self.inside.clients.times c.uncount.new.clients.times (names_of c.in-Some.first) c.in-Some.first.time timed takes),
+          most_less c.self.inside.clients.times c.uncount.new.clients.times (names_of c.in-Some.first) c.in-Some.first.time c.self.inside.most takes c.self.invariant.1.1.1,
+        ),
       ),
     )

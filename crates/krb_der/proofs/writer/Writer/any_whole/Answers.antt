@@ -7,7 +7,7 @@ use Rattle.krb_der.specs.Spells.{IsElement}
 use Rattle.krb_der.specs.Inner.Shortest.{shortest_of}
 use Rattle.krb_der.proofs.ShortestLaws.{integer_be}
 use Rattle.krb_der.proofs.EncodeLaws.{element-map, appends-map}
-use Rattle.krb_der.proofs.writer.Writer.whole.Goals as goal
+use Rattle.krb_der.proofs.writer.Writer.any_whole.Goals as goal
 
 pub returns-clause-ok : goal.returns-clause-ok
 returns-clause-ok c =
