@@ -24,6 +24,7 @@ pub mod Codes
 pub mod OneRequest
 pub mod Once
 pub mod Limits
+pub mod Counting
 pub mod Undecided
 pub mod UndecidedLife
 pub mod NewKeytab

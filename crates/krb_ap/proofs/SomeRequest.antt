@@ -12,6 +12,7 @@ use Rattle.krb_ap.specs.Credentials.{HasCredential, IsFor, IsUsableFor, IsFit, I
 use Rattle.krb_ap.specs.Request.{Awaited, IsBuilt, IsRequest, Prevents, awaited_for}
 use Rattle.krb_ap.specs.Inner.Facts.{Facts, WritingFacts}
 use Rattle.krb_ap.specs.Inner.Decisions.{Decisions}
+use Rattle.krb_ap.specs.Inner.Wanted.{IsFirstOf}
 use Rattle.krb_ap.specs.declared.request.RequestOptions.{RequestOptions}
 use Rattle.krb_ap.specs.declared.request_fault.RequestFault.{RequestFault}
 use Rattle.krb_ap.specs.declared.request_fault.RequestFault.TheVariants.{NoCredential, NoUsableKey, Expired, BadTicket, TooLong}
@@ -34,35 +35,29 @@ configures c = elim (both _ _ (texts c.server.realm (codes "X-CACHECONF:")) (beg
   | inr none ↦ inr (λ h. none (h.realm, h.components))
 ]
 
--- the first of a list that is so
-record IsFirst (P : Credential → Type 0) (credentials : List Credential) : Type 0 where
-  before : List Credential
-  credential : Credential
-  after : List Credential
-  credentials_are : credentials ≡ before ++ credential ∷ after
-  holds : P credential
-  none : All (λ other. ¬ P other) before
-
+-- the first of a list that is so, if there is one
 search : (P : Credential → Type 0) → ((c : Credential) → Decided (P c)) → (credentials : List Credential)
-    → IsFirst P credentials ⊎ All (λ one. ¬ P one) credentials
+    → ((c : Credential) × IsFirstOf P credentials c) ⊎ All (λ one. ¬ P one) credentials
 search P decide [] = inr (All-nil (λ one. ¬ P one))
 search P decide (c ∷ rest) = elim (decide c) [
-  | inl p ↦ inl (record { before = []; credential = c; after = rest; credentials_are = refl; holds = p; none = All-nil (λ one. ¬ P one) })
+  | inl p ↦ inl (c, record { before = []; after = rest; credentials_are = refl; holds = p; others = All-nil (λ one. ¬ P one) })
   | inr not ↦ elim (search P decide rest) [
-    | inl f ↦ inl (record {
-      before = c ∷ f.before;
-      credential = f.credential;
-      after = f.after;
-      credentials_are = ap (λ (l : List Credential). c ∷ l) f.credentials_are;
-      holds = f.holds;
-      none = All-cons (λ one. ¬ P one) c f.before not f.none;
-    })
+    | inl f ↦ inl (
+      f.0,
+      record {
+        before = c ∷ f.1.before;
+        after = f.1.after;
+        credentials_are = ap (λ (l : List Credential). c ∷ l) f.1.credentials_are;
+        holds = f.1.holds;
+        others = All-cons (λ one. ¬ P one) c f.1.before not f.1.others;
+      },
+    )
     | inr none ↦ inr (All-cons (λ one. ¬ P one) c rest not none)
   ]
 ]
 
-has : (P : Credential → Type 0) (credentials : List Credential) → IsFirst P credentials → HasCredential P credentials
-has P credentials f = record { before = f.before; credential = f.credential; after = f.after; credentials_are = f.credentials_are; holds = f.holds }
+has : (P : Credential → Type 0) (credentials : List Credential) (c : Credential) → IsFirstOf P credentials c → HasCredential P credentials
+has P credentials c f = record { before = f.before; credential = c; after = f.after; credentials_are = f.credentials_are; holds = f.holds }
 
 module _ (d : Decisions) (cache : Cache) (service : Principal) (at : ℤ) where
   is_for : (c : Credential) → Decided (IsFor cache service c)
@@ -85,11 +80,11 @@ module _ (d : Decisions) (cache : Cache) (service : Principal) (at : ℤ) where
 
   used_or_wanting : ((c : Credential) × IsUsed cache service at c) ⊎ ((fault : RequestFault) × IsWanting cache service at fault)
   used_or_wanting = elim (search (IsFit cache service at) is_fit cache.credentials) [
-    | inl f ↦ inl (f.credential, record { before = f.before; after = f.after; credentials_are = f.credentials_are; fit = f.holds; first = f.none })
+    | inl f ↦ inl (f.0, record { before = f.1.before; after = f.1.after; credentials_are = f.1.credentials_are; fit = f.1.holds; first = f.1.others })
     | inr unfit ↦ elim (search (IsUsableFor cache service) is_usable_for cache.credentials) [
-      | inl f ↦ inr (Expired, (has (IsUsableFor cache service) cache.credentials f, unfit))
+      | inl f ↦ inr (Expired, (has (IsUsableFor cache service) cache.credentials f.0 f.1, unfit))
       | inr unusable ↦ elim (search (IsFor cache service) is_for cache.credentials) [
-        | inl f ↦ inr (NoUsableKey, (has (IsFor cache service) cache.credentials f, unusable))
+        | inl f ↦ inr (NoUsableKey, (has (IsFor cache service) cache.credentials f.0 f.1, unusable))
         | inr none ↦ inr (NoCredential, none)
       ]
     ]

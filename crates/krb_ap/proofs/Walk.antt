@@ -9,7 +9,7 @@ use Rattle.krb_name.specs.declared.principal.Principal.{Principal}
 use Rattle.krb_name.specs.Named.{HasOtherName, IsFirstNamed}
 use Rattle.krb_ccache.specs.Value.{Cache, server_of}
 use Rattle.krb_ccache.specs.declared.credential.Credential.{Credential}
-use Rattle.krb_ap.specs.Inner.Wanted.{IsWanted, IsFirst}
+use Rattle.krb_ap.specs.Inner.Wanted.{IsWanted, IsFirstOf}
 use Rattle.krb_ap.specs.declared.credentials.Wanted.{Wanted}
 use Rattle.krb_ap.specs.declared.credentials.Wanted.TheVariants.{Any, Usable, Fit}
 
@@ -44,7 +44,7 @@ module _ (cache : Cache) (service : Principal) (wanted : Wanted) where
         one_is : one ≡ f.one
         one_is = is ∙ ap (λ (xs : List Credential). get_or xs at one) f.items_are ∙ ap (λ (n : ℕ). get_or (f.before ++ f.one ∷ f.after) n one) f.at_is ∙ get_or-append_seam f.before f.one f.after one
 
-        pub first_wanted : IsWanted cache service wanted one → IsFirst (IsWanted cache service wanted) cache.credentials one
+        pub first_wanted : IsWanted cache service wanted one → IsFirstOf (IsWanted cache service wanted) cache.credentials one
         first_wanted holds = record {
           before = f.before;
           after = f.after;

@@ -1,13 +1,11 @@
 -- When a service accepts the request that a client built, and what both then agree on (RFC 4120,
 -- sections 3.2.2 and 3.2.3).
-use Rattle.std.specs.Prelude.{◌≡◌, ◌⊎◌, ℕ, ℤ, List}
+use Rattle.std.specs.Prelude.{◌≡◌, ℕ, ℤ, List}
 use Rattle.std.specs.Option.{option_map}
 use Rattle.krb_name.specs.Name.{SameName}
 use Rattle.krb_name.specs.declared.principal.Principal.{Principal}
 use Rattle.krb_der.specs.Kind.{ValueOf}
 use Rattle.krb_der.specs.Spells.{IsMessage}
-use Rattle.krb_der.specs.Flags.{HasBit}
-use Rattle.krb_msg.specs.Bits.{transited_policy_checked}
 use Rattle.krb_msg.specs.Module.{ticket as ticket_kind, enc_ticket_part}
 use Rattle.krb_msg.specs.Fields.{ticket_service, ticket_fields, encrypted_fields, part_client, part_fields}
 use Rattle.krb_time.specs.Moments.{micros_of}
@@ -18,7 +16,7 @@ use Rattle.krb_ccache.specs.declared.credential.Credential.{Credential}
 use Rattle.krb_replay.specs.Stamp.{Stamp}
 use Rattle.krb_ap.specs.Setup.{Setup, Arrival}
 use Rattle.krb_ap.specs.Opened.{OpensAs, entry_key, session_key, stamp_at, ticket_usage}
-use Rattle.krb_ap.specs.Times.{Near, Alive, IsEarly, IsLate, MayBeIgnored}
+use Rattle.krb_ap.specs.Times.{Near, Alive, IsEarly, IsLate, IsPathTrustedTo, MayBeIgnored}
 use Rattle.krb_ap.specs.Quiet.{Settled}
 use Rattle.krb_ap.specs.History.{effective, IsShown}
 use Rattle.krb_ap.specs.Taken.{Taken}
@@ -62,7 +60,7 @@ built_stamp built = stamp_at (ticket_service built.ticket) (part_client built.pa
 pub record MayBeTaken (setup : Setup) (history : List Arrival) (moment at : ℤ) (ticket : ValueOf ticket_kind) (part : ValueOf enc_ticket_part) : Type 0 where
   pub near : Near at (effective history moment) setup.skew
   pub alive : Alive part (effective history moment) setup.skew
-  pub trusted : ((part_client part).realm ≡ (ticket_service ticket).realm) ⊎ HasBit (part_fields part).flags transited_policy_checked
+  pub trusted : IsPathTrustedTo (ticket_service ticket) part
   pub ignorable : MayBeIgnored (part_fields part).authorization
   pub settled : Settled setup (effective history moment) at
   pub unshown : ¬ IsShown setup history (stamp_at (ticket_service ticket) (part_client part) at)
@@ -74,8 +72,7 @@ MayBeRefused setup history moment at ticket part JustStarted = ¬ Settled setup 
 MayBeRefused setup history moment at ticket part Repeat = IsShown setup history (stamp_at (ticket_service ticket) (part_client part) at)
 MayBeRefused setup history moment at ticket part NotYetValid = IsEarly part (effective history moment) setup.skew
 MayBeRefused setup history moment at ticket part Expired = IsLate part (effective history moment) setup.skew
-MayBeRefused setup history moment at ticket part Transited =
-    ¬ (((part_client part).realm ≡ (ticket_service ticket).realm) ⊎ HasBit (part_fields part).flags transited_policy_checked)
+MayBeRefused setup history moment at ticket part Transited = ¬ IsPathTrustedTo (ticket_service ticket) part
 MayBeRefused setup history moment at ticket part Authorization = ¬ MayBeIgnored (part_fields part).authorization
 MayBeRefused setup history moment at ticket part _ = ⊥
 

@@ -9,6 +9,7 @@ pub mod Answer
 pub mod Undecided
 pub mod UndecidedLife
 pub mod Service
+pub mod Counting
 pub mod Once
 pub mod Living
 pub mod World

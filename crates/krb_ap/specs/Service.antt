@@ -1,7 +1,8 @@
--- A service: what it decides by, and its memory of seen requests; and what it stands for. A memory
--- is read by two words: which stamps it has, and its latest moment.
+-- A service: what it decides by, and its memory of seen requests; what it stands for, and what its
+-- limits do. A memory is read by four words: which stamps it has, its latest moment, its limits, and
+-- how many requests it refused for each of them.
 use Rattle.std.specs.Prelude.{◌≡◌, ◌-ℤ◌, ◌⊎◌, ℕ, ℤ, pos, List, Option}
-use Rattle.krb_replay.specs.Limit.{CountsOne, IsPastAny, Limits}
+use Rattle.krb_replay.specs.Limit.{CountsFirst, IsPastAny, Limits}
 use Rattle.krb_replay.specs.Memory.{SameStamps}
 use Rattle.krb_replay.specs.Stamp.{Stamp}
 use Rattle.krb_ap.specs.Setup.{Setup, Arrival}
@@ -24,6 +25,10 @@ SameMemory has newest old new = SameStamps (has old) (has new) × (newest new �
 abbrev pub IsPastLimit : (Stamp → Type 0) → List Limits → Setup → ℤ → Stamp → Type 0
 IsPastLimit Has limits setup now stamp = IsPastAny Has (now -ℤ pos setup.skew) stamp limits
 
+-- the first limit that it reaches counts that, and no other: the counts before and after
+abbrev pub CountsPastLimit : (Stamp → Type 0) → List Limits → List ℕ → List ℕ → Setup → ℤ → Stamp → Type 0
+CountsPastLimit Has limits old new setup now stamp = CountsFirst Has (now -ℤ pos setup.skew) stamp limits old new
+
 -- a request shows a stamp that is past a limit
 abbrev pub ShowsPastLimit : (Stamp → Type 0) → List Limits → Setup → List Arrival → Arrival → Stamp → Type 0
 ShowsPastLimit Has limits setup history call stamp =
@@ -32,9 +37,10 @@ ShowsPastLimit Has limits setup history call stamp =
 -- What a call does by the limits of its memory, after a history that the memory stands for: which
 -- stamps the memory has before, its limits, its counts of what was refused for each of them before
 -- and after, and whether the answer is out of memory. A request that is past a limit is answered so.
--- Either the counts stay, or the request is past a limit, is answered so, and one count goes up by
--- one.
+-- Either the counts stay, or the request is past a limit and answered so, and the first limit that
+-- it reaches counts that.
 pub record HeedsLimits (Has : Stamp → Type 0) (limits : List Limits) (old new : List ℕ) (setup : Setup) (history : List Arrival) (call : Arrival)
     (IsLacking : Type 0) : Type 0 where
   pub full : (stamp : Stamp) → ShowsPastLimit Has limits setup history call stamp → IsLacking
-  pub counted : (new ≡ old) ⊎ (CountsOne old new × (IsLacking × ((stamp : Stamp) × ShowsPastLimit Has limits setup history call stamp)))
+  pub counted : (new ≡ old) ⊎ ((stamp : Stamp) × (IsLacking × (ShowsPastLimit Has limits setup history call stamp
+      × CountsPastLimit Has limits old new setup (effective history call.moment) stamp)))

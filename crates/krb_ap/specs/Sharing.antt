@@ -106,14 +106,14 @@ LetsInOnce [] = Unit {0}
 LetsInOnce (event ∷ events) = ((stamp : Stamp) → LetsIn event stamp → ¬ LetsInAmong events stamp) × LetsInOnce events
 
 -- a service asks for a request of this stamp
-abbrev pub AsksFor : StoreEvent → Stamp → Type 0
-AsksFor (asks asked outcome) stamp = HasStamp asked.setup asked.call.bytes stamp
-AsksFor (forgets other at) stamp = ⊥
+abbrev pub AsksForStamp : StoreEvent → Stamp → Type 0
+AsksForStamp (asks asked outcome) stamp = HasStamp asked.setup asked.call.bytes stamp
+AsksForStamp (forgets other at) stamp = ⊥
 
 -- or did by one of these: it was let in, or its answer was lost, or it was too late
 abbrev pub AskedAmong : List StoreEvent → Stamp → Type 0
 AskedAmong [] stamp = ⊥
-AskedAmong (event ∷ events) stamp = AsksFor event stamp ⊎ AskedAmong events stamp
+AskedAmong (event ∷ events) stamp = AsksForStamp event stamp ⊎ AskedAmong events stamp
 
 -- the service may ask next, the store says that the stamp is new and can say nothing else, and so a
 -- request of this stamp is let in unless it is too late then

@@ -2,12 +2,14 @@
 -- are microseconds, and are compared as plain numbers: with a skew they may lie outside the years
 -- 0000 to 9999.
 use Rattle.std.specs.Prelude.{◌≡◌, ◌⊎◌, ℕ, ℤ, pos, ◌+ℤ◌, ◌≤ℤ◌, All, Option, Some, None}
+use Rattle.krb_name.specs.declared.principal.Principal.{Principal}
 use Rattle.krb_der.specs.Kind.{ValueOf}
 use Rattle.krb_msg.specs.Module.{ap_req, enc_ticket_part, authenticator, authorization_data}
-use Rattle.krb_msg.specs.Fields.{request_fields, part_fields, authenticator_fields, type_of, part_client, ticket_service, part_times}
+use Rattle.krb_msg.specs.Fields.{part_fields, authenticator_fields, type_of, part_client, part_times}
 use Rattle.krb_time.specs.Moments.{micros_of}
 use Rattle.krb_der.specs.Flags.{HasBit}
 use Rattle.krb_msg.specs.Bits.{invalid, transited_policy_checked}
+use Rattle.krb_ap.specs.Opened.{service_of}
 
 -- two moments differ by at most the skew
 pub record Near (one other : ℤ) (skew : ℕ) : Type 0 where
@@ -40,10 +42,14 @@ pub record Alive (part : ValueOf enc_ticket_part) (now : ℤ) (skew : ℕ) : Typ
   pub begun : second_at (start_of part) ≤ℤ (now +ℤ pos skew)
   pub lasting : now ≤ℤ (second_at (part_times part).endtime +ℤ pos skew)
 
--- the realms between client and service need no check of ours: there are none, or the KDC has
--- checked them (section 2.7)
+-- the realms between the ticket's client and a service need no check of ours: there are none, or
+-- the KDC has checked them (section 2.7)
+abbrev pub IsPathTrustedTo : Principal → ValueOf enc_ticket_part → Type 0
+IsPathTrustedTo service part = ((part_client part).realm ≡ service.realm) ⊎ HasBit (part_fields part).flags transited_policy_checked
+
+-- so to the service that the ticket names, whose name and realm aren't sealed
 abbrev pub IsPathTrusted : ValueOf ap_req → ValueOf enc_ticket_part → Type 0
-IsPathTrusted request part = ((part_client part).realm ≡ (ticket_service (request_fields request).ticket).realm) ⊎ HasBit (part_fields part).flags transited_policy_checked
+IsPathTrusted request part = IsPathTrustedTo (service_of request) part
 
 -- each outer element of authorization data may be ignored: it is of the type AD-IF-RELEVANT
 -- (section 5.2.6.1)

@@ -14,7 +14,6 @@ pub use Rattle.krb_msg.specs.Fields.{encrypted_fields, encrypted_value, part_cli
 pub use Rattle.krb_msg.specs.Module.{ap_rep, authenticator, enc_ap_rep_part, enc_ticket_part, ticket as ticket_kind}
 pub use Rattle.krb_msg.specs.Owned.{owned_encrypted_of, owned_key_of, owned_list_of, owned_typed_of}
 pub use Rattle.krb_name.specs.declared.principal.Principal.{Principal}
-pub use Rattle.krb_replay.specs.Limit.{CountsOne}
 pub use Rattle.krb_replay.specs.Memory.{AddsStamp, IsRecent, SameStamps, later_of}
 pub use Rattle.krb_replay.specs.Stamp.{Stamp}
 pub use Rattle.krb_ap.specs.Opened.{Asks, AsksFor, AsksWithin, IsOrdinary, SameClient, authenticator_usage, entry_key, sent_at, service_of, stamp_of, ticket_usage}

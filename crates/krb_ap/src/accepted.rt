@@ -25,7 +25,8 @@ pub struct Accepted {
     pub flags: Flags,
     /// The realms between the client's and the service's that the ticket passed through, as the
     /// ticket encodes them: the type of the encoding, and its contents (RFC 4120, section 5.3). They
-    /// are passed on as they are, and weren't checked.
+    /// are passed on as they are, and weren't checked. `Refusal::Transited` compares the client's
+    /// realm with that of `service`, which isn't sealed.
     pub transited: Typed,
     /// When the client was authenticated.
     pub authtime: Seconds,

@@ -1,9 +1,11 @@
 //! The service's side.
 
 ghost use Rattle.std.specs.Prelude.{◌≡◌, ◌⊎◌, List, None, Some, [], IsErr, IsErrAnd, IfOk, IfErr, IsErrOf, IsTrue, map, MatchResult, OnOk, OnErr};
-ghost use Rattle.krb_ap.specs.Words.{Accept, AddsStamp, Arrival, AsksFor, AsksWithin, CountsOne, IsOrdinary, IsRecent, SameStamps, Stamp, Taken, arrival, later_of};
+ghost use Rattle.std.specs.List.{AllZip};
+ghost use Rattle.krb_ap.specs.Words.{Accept, AddsStamp, Arrival, AsksFor, AsksWithin, IsOrdinary, IsRecent, SameStamps, Stamp, Taken, arrival, later_of};
 ghost use Rattle.krb_ap.specs.History.{IsShown, IsShownLately};
-ghost use Rattle.krb_ap.specs.Service.{HeedsLimits, IsPastLimit, SameMemory, Stands};
+ghost use Rattle.krb_ap.specs.Service.{CountsPastLimit, HeedsLimits, IsPastLimit, SameMemory, Stands};
+ghost use Rattle.krb_ap.specs.Counting.{HeedsLimitsInAll};
 ghost use Rattle.krb_ap.specs.Causes.{Cause, IsRemembered, TellsPlaceWithin, place};
 ghost use Rattle.krb_ap.specs.Inner.GoingOn.{GoesOn};
 ghost use Rattle.krb_ap.specs.Answer.{Answers, MemoryWantedByRequests, Served, TellsPlacesWithin, after, arrival_of, taken_of};
@@ -166,8 +168,9 @@ impl<M: ReplayMemory> Acceptor<M> {
         // The offset in a refusal is that of one of the bytes, or their end.
         ensures offset { IfErr result (TellsPlaceWithin bytes.now) }
 
-        // A request that the memory hasn't yet is answered with out of memory if it is past a limit, and no other is counted
-        // as refused for a limit. So one that has a cause before it is remembered, as a repeat, isn't counted.
+        // A request that the memory hasn't yet is answered with out of memory if it is past a limit. No other is counted as
+        // refused for a limit, and only the first limit that is reached counts it. So one that has a cause before it is
+        // remembered, as a repeat, isn't counted.
         ensures limit { (history : List Arrival) → Stands M.has M.newest self.old history
             → HeedsLimits (M.has self.old.memory) (M.limits self.old.memory) (M.refusals self.old.memory) (M.refusals self.new.memory)
             self.old.setup history (arrival bytes.now now) (IsErrOf result OutOfMemory) }
@@ -210,9 +213,18 @@ impl<M: ReplayMemory> Acceptor<M> {
             → IfOk result (λ outcomes. ¬ TakesAmong self.old.setup (map arrival_of calls.now) outcomes.items stamp) }
         ensures offset { IfOk result (λ outcomes. TellsPlacesWithin (map arrival_of calls.now) outcomes.items) }
         ensures memory { IfOk result (λ outcomes. MemoryWantedByRequests (map arrival_of calls.now) outcomes.items) }
+        ensures size { IfOk result (λ outcomes.
+            AllZip (λ call outcome. IsErrOf outcome OutOfMemory → AsksWithin self.old.setup call.bytes) (map arrival_of calls.now) outcomes.items) }
+
+        // Each request heeds the limits, as `accept` says it, and the counts go on from one call to the next. One that has a
+        // cause before it is remembered isn't counted.
+        ensures limit { (history : List Arrival) → Stands M.has M.newest self.old history
+            → IfOk result (λ outcomes. HeedsLimitsInAll (M.limits self.old.memory) (M.refusals self.old.memory) (M.refusals self.new.memory)
+            self.old.setup history (map arrival_of calls.now) outcomes.items) }
         ensures limits { M.limits self.new.memory ≡ M.limits self.old.memory }
         ensures none { OnErr result (self.new ≡ self.old) }
     {
+        facts();
         no_stamp_twice();
         let mut outcomes = Vec::with_capacity(alloc, calls.len())?;
         for call in calls {
@@ -278,10 +290,12 @@ impl<M: ReplayMemory> Acceptor<M> {
         ensures ok { OnOk result (AddsStamp (M.has self.old.memory) (M.has self.new.memory) tuple) }
         ensures err { OnErr result (SameStamps (M.has self.old.memory) (M.has self.new.memory)) }
         ensures full { IsPastLimit (M.has self.old.memory) (M.limits self.old.memory) self.old.setup (later_of (M.newest self.old.memory) now) tuple
-            → IsErr result × CountsOne (M.refusals self.old.memory) (M.refusals self.new.memory) }
-        ensures refused { (M.refusals self.new.memory ≡ M.refusals self.old.memory)
-            ⊎ (CountsOne (M.refusals self.old.memory) (M.refusals self.new.memory) × (IsErr result
-            × IsPastLimit (M.has self.old.memory) (M.limits self.old.memory) self.old.setup (later_of (M.newest self.old.memory) now) tuple)) }
+            → IsErr result × CountsPastLimit (M.has self.old.memory) (M.limits self.old.memory) (M.refusals self.old.memory)
+            (M.refusals self.new.memory) self.old.setup (later_of (M.newest self.old.memory) now) tuple }
+        ensures refused { (M.refusals self.new.memory ≡ M.refusals self.old.memory) ⊎ (IsErr result
+            × (IsPastLimit (M.has self.old.memory) (M.limits self.old.memory) self.old.setup (later_of (M.newest self.old.memory) now) tuple
+            × CountsPastLimit (M.has self.old.memory) (M.limits self.old.memory) (M.refusals self.old.memory)
+            (M.refusals self.new.memory) self.old.setup (later_of (M.newest self.old.memory) now) tuple)) }
         ensures limits { M.limits self.new.memory ≡ M.limits self.old.memory }
     {
         self.memory.expect(now, self.rules.skew);

@@ -2,7 +2,7 @@
 
 ghost use Rattle.std.specs.Prelude.{◌↔◌, All, IsTrue, IfOk, IfErr, IfSome, IfNone};
 ghost use Rattle.krb_ap.specs.Credentials.{IsFor, IsUsableFor, IsFit, IsUsed, IsWanting};
-ghost use Rattle.krb_ap.specs.Inner.Wanted.{IsWanted, IsFirst};
+ghost use Rattle.krb_ap.specs.Inner.Wanted.{IsWanted, IsFirstOf};
 
 use crate::request_fault::RequestFault;
 use krb_ccache::{CCache, Credential};
@@ -44,7 +44,7 @@ pub(crate) fn used<'a>(
 // The first credential for a service that is wanted.
 fn first<'a>(cache: &'a CCache, service: &Principal, wanted: &Wanted) -> Option<&'a Credential>
     ensures some { IfSome result (λ credential.
-        IsFirst (IsWanted cache.now service.now wanted.now) cache.now.credentials credential.now) }
+        IsFirstOf (IsWanted cache.now service.now wanted.now) cache.now.credentials credential.now) }
     ensures none { IfNone result
         (All (λ one. ¬ IsWanted cache.now service.now wanted.now one) cache.now.credentials) }
 {

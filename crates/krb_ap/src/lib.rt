@@ -6,13 +6,24 @@
 //! which bytes the request is. An [`Initiator`] builds many requests, and keeps the keys that it
 //! derived. `specs/Finish` says what a reply agrees on, or why it is refused.
 //!
-//! An [`Acceptor`] decides by a keytab, a skew and a memory of seen requests. `specs/Opened` says
-//! what a request is opened as, `specs/Times` and `specs/History` when it may be used, and
-//! `specs/Taken` what is accepted and what is then known. `specs/Causes` is the table of refusals.
-//! `specs/Living` is about a service whose keytab is replaced, and `specs/Sharing` about services
-//! that share what they have seen.
-//! `specs/Reply` and `specs/ErrorReply` say what the service sends back. `specs/Headline` says when
-//! one side accepts what the other one built, and [`laws`] states that it does.
+//! An [`Acceptor`] decides by a keytab, a skew and a memory of seen requests. To read what it
+//! decides, begin with `specs/Setup`: what a service decides by, and what it is given. `specs/Opened`
+//! says what a request is opened as, `specs/Times`, `specs/Quiet` and `specs/History` when it may be
+//! used: the ticket's times, the quiet start of a service that was started again, and what was seen
+//! before. `specs/Taken` says what is accepted and what is then known. `specs/Causes` is the table of
+//! refusals, with the codes of `specs/ErrorCodes`. `specs/Answer` puts these together, for one call
+//! and for a list of calls. `specs/Service` says what the memory stands for and what its limits do,
+//! and `specs/Counting` what they do in a list of calls.
+//!
+//! `specs/Once` says that no request is accepted twice. `specs/Undecided` is about calls that are
+//! answered with out of memory, `specs/Living` about a service whose keytab is replaced, and
+//! `specs/UndecidedLife` about such calls in its life. `specs/Sharing` is about services that share
+//! what they have seen, and `specs/World` about what client and service hold in a network that loses,
+//! repeats and reorders what they send.
+//!
+//! `specs/Written` says what a side writes and seals, and `specs/Reply` and `specs/ErrorReply` what
+//! the service sends back. `specs/Headline` says when one side accepts what the other one built, and
+//! [`laws`] states that it does.
 //!
 //! A client builds a request, and keeps what waits for the reply:
 //!

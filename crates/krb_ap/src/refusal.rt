@@ -27,8 +27,7 @@ pub enum Refusal {
     /// The ticket's encryption type is neither 19 nor 20.
     #[error("the ticket's encryption type isn't 19 or 20")]
     TicketEtype,
-    /// The keytab has no entry of the ticket's service, or the service serves one name, and the
-    /// ticket is for another.
+    /// The keytab has no entry of the ticket's service.
     #[error("the ticket is for a service that isn't served here")]
     NotUs,
     /// No entry of the ticket's service has the ticket's type and a usable key.
@@ -68,8 +67,8 @@ pub enum Refusal {
     /// The ticket ended more than the skew before the service's time. The request is remembered.
     #[error("the ticket has expired")]
     Expired,
-    /// The client is of another realm, and no KDC says that it checked the realms between them. The
-    /// request is remembered.
+    /// The client's realm isn't that of the ticket's service, and the ticket doesn't say that a KDC
+    /// checked the realms between them. The request is remembered.
     #[error("the client is of another realm, and no KDC checked the realms between")]
     Transited,
     /// The ticket or the authenticator has authorization data that may not be ignored. The request

@@ -3,7 +3,7 @@
 ghost use Rattle.std.specs.Prelude.{◌≡◌, ◌≢◌, ℕ, List, IfOk, IfErr, IsErrOf};
 ghost use Rattle.krb_ap.specs.Words.{option_map, owned_typed_of};
 ghost use Rattle.krb_ap.specs.Request.{HasGoodTicket, IsAuthenticator, IsBuilt, IsPlain, IsRequest, Prevents, awaited_for, context_checksum, context_flags, options_for};
-ghost use Rattle.krb_ap.specs.Inner.Requests.{HasTicket, IsUnbuilt};
+ghost use Rattle.krb_ap.specs.Inner.Requests.{HasReadableTicket, IsUnbuilt};
 ghost use Rattle.krb_ap.specs.declared.request_fault.RequestFault.TheVariants.{TooLong, OutOfMemory};
 
 use crate::credentials::used;
@@ -53,9 +53,9 @@ pub struct ContextRequest {
 ///
 /// `at` is the client's clock. Never use a moment twice for one client and service, not even with
 /// another ticket: the service refuses the second request as a repeat, and a reply doesn't show to
-/// which of two requests of one moment it belongs. `confounder` is 16 random bytes, new for each call. The authenticator contains the
-/// credential's client, `at`, and the options' subkey, sequence number and context. The request has
-/// the ticket, and no option but mutual-required.
+/// which of two requests of one moment it belongs. `confounder` is 16 random bytes, new for each
+/// call. The authenticator contains the credential's client, `at`, and the options' subkey, sequence
+/// number and context. The request has the ticket, and no option but mutual-required.
 ///
 /// # Errors
 /// The one that applies, or `OutOfMemory`:
@@ -99,7 +99,7 @@ impl ReadyCredential<'_> {
         ensures awaited { IfOk result (λ made. made.1 ≡ awaited_for self.now.credential.now at options) }
         ensures fault { IfErr result (λ fault. fault ≢ OutOfMemory
             → IsUnbuilt self.now.credential.now at confounder.now options fault) }
-        ensures memory { IsErrOf result OutOfMemory → HasTicket self.now.credential.now }
+        ensures memory { IsErrOf result OutOfMemory → HasReadableTicket self.now.credential.now }
     {
         facts();
         writing();

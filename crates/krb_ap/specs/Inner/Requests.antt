@@ -10,11 +10,11 @@ use Rattle.krb_ap.specs.declared.request_fault.RequestFault.{RequestFault}
 use Rattle.krb_ap.specs.declared.request_fault.RequestFault.TheVariants.{BadTicket, TooLong}
 
 -- the bytes of its ticket are a ticket
-abbrev pub HasTicket : Credential → Type 0
-HasTicket credential = (ticket : ValueOf ticket_kind) × IsMessage ticket_kind ticket credential.ticket
+abbrev pub HasReadableTicket : Credential → Type 0
+HasReadableTicket credential = (ticket : ValueOf ticket_kind) × IsMessage ticket_kind ticket credential.ticket
 
 -- they aren't; or they are, and no bytes are the request
 abbrev pub IsUnbuilt : Credential → ℤ → List ℕ → RequestOptions → RequestFault → Type 0
-IsUnbuilt credential at confounder options BadTicket = ¬ HasTicket credential
-IsUnbuilt credential at confounder options TooLong = HasTicket credential × ((bytes : List ℕ) → ¬ IsBuilt credential at confounder options bytes)
+IsUnbuilt credential at confounder options BadTicket = ¬ HasReadableTicket credential
+IsUnbuilt credential at confounder options TooLong = HasReadableTicket credential × ((bytes : List ℕ) → ¬ IsBuilt credential at confounder options bytes)
 IsUnbuilt credential at confounder options _ = ⊥

@@ -14,7 +14,7 @@ IsWanted cache service Usable credential = IsUsableFor cache service credential
 IsWanted cache service (Fit at) credential = IsFit cache service at credential
 
 -- the first credential that P holds of
-pub record IsFirst (P : Credential → Type 0) (credentials : List Credential) (credential : Credential) : Type 0 where
+pub record IsFirstOf (P : Credential → Type 0) (credentials : List Credential) (credential : Credential) : Type 0 where
   pub before : List Credential
   pub after : List Credential
   pub credentials_are : credentials ≡ before ++ credential ∷ after

@@ -11,7 +11,7 @@ use Rattle.krb_ap.specs.Answer.{after_refusal}
 use Rattle.krb_ap.specs.Inner.Judging.{IsJudged, IsTurnedAway}
 use Rattle.krb_ap.specs.declared.refusal.Refusal.{Refusal}
 use Rattle.krb_ap.proofs.Afterwards.{after_named, after_answer, not_memory, refusal_of}
-use Rattle.krb_ap.specs.Service.{IsPastLimit}
+use Rattle.krb_ap.specs.Service.{CountsPastLimit, IsPastLimit}
 use Rattle.krb_ap.proofs.Standing.{after_advance, counts_once, moved_on, one_stamp, stands_still}
 use Rattle.krb_ap.proofs.acceptor.Acceptor.decide.Goals as goal
 
@@ -134,7 +134,7 @@ returns-in-Ok-remember-clause-limit g c = λ history stands.
           absurd (cc);
       counted = elim (rw c.judge.ensures.same at c.in-Ok-remember.ensures.refused) [
         | inl e ↦ inl (c.advance-in-Ok-remember.ensures.refusals ∙ e)
-        | inr h ↦ (let failed = h.1.0 in absurd (cc))
+        | inr h ↦ (let failed = h.0 in absurd (cc))
       ];
     }
 
@@ -145,19 +145,22 @@ returns-in-Err-remember-clause-limit g c = λ history stands.
     c.in-Ok.ensures.judged history c.args.now stands eff in
     let IsPast : ℤ → Stamp → Type 0 = λ at one.
     IsPastLimit (g.M.ReplayMemory.has c.args.self.now.memory) (g.M.ReplayMemory.limits c.args.self.now.memory) c.args.self.now.setup at one in
+    let Counts : ℤ → Type 0 = λ at.
+    CountsPastLimit (g.M.ReplayMemory.has c.args.self.now.memory) (g.M.ReplayMemory.limits c.args.self.now.memory) (g.M.ReplayMemory.refusals c.args.self.now.memory)
+    (g.M.ReplayMemory.refusals c.remember.new.self.memory) c.args.self.now.setup at c.in-Ok.judged.tuple in
     record {
       full = λ stamp past. refl;
       counted = elim (rw c.judge.ensures.same at c.in-Err-remember.ensures.refused) [
         | inl e ↦ inl e
-        | inr h ↦ inr (
-          h.0,
+        | inr h ↦ (let at : _ = counted_at _ history c.args.now c.effective-now.result c.effective-now.ensures stands.latest_is in inr (
+          c.in-Ok.judged.tuple,
           (
             refl,
             (
-              c.in-Ok.judged.tuple,
-              (judged.shows, subst (λ (at : ℤ). IsPast at c.in-Ok.judged.tuple) (counted_at _ history c.args.now c.effective-now.result c.effective-now.ensures stands.latest_is) h.1.1),
+              (judged.shows, subst (λ (at : ℤ). IsPast at c.in-Ok.judged.tuple) at h.1.0),
+              subst Counts at h.1.1,
             ),
           ),
-        )
+        ))
       ];
     }

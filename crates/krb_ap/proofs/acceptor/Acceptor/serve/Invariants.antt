@@ -1,8 +1,12 @@
 use Rattle.std.proofs.Common.{◌≡◌, ◌≤◌, List, length, map, take, vec_len}
-use Rattle.std.specs.Prelude.{vec_capacity}
+use Rattle.std.specs.List.{AllZip}
+use Rattle.std.specs.Prelude.{IsErrOf, vec_capacity}
 use Rattle.krb_ap.specs.Setup.{Arrival}
+use Rattle.krb_ap.specs.Opened.{AsksWithin}
 use Rattle.krb_ap.specs.History.{StandsFor}
 use Rattle.krb_ap.specs.Answer.{MemoryWantedByRequests, Served, TellsPlacesWithin, arrival_of}
+use Rattle.krb_ap.specs.declared.refusal.Refusal.TheVariants.{OutOfMemory}
+use Rattle.krb_ap.proofs.Counting.{HeedsInTurn}
 use Rattle.krb_ap.proofs.acceptor.Acceptor.serve.Given as goal
 
 abbrev pub invariant-loop-call : goal.invariant-loop-call
@@ -16,4 +20,8 @@ invariant-loop-call g l = record {
       (g.M.ReplayMemory.has l.initial.self.memory) (g.M.ReplayMemory.has l.self.memory) (g.M.ReplayMemory.newest l.self.memory);
   offset : TellsPlacesWithin (map arrival_of (take l.call-index l.calls)) l.outcomes.items;
   memory : MemoryWantedByRequests (map arrival_of (take l.call-index l.calls)) l.outcomes.items;
+  size : AllZip (λ call answer. IsErrOf answer OutOfMemory → AsksWithin l.initial.self.setup call.bytes) (map arrival_of (take l.call-index l.calls)) l.outcomes.items;
+  heeds : (history : List Arrival) → StandsFor l.initial.self.setup (g.M.ReplayMemory.has l.initial.self.memory) (g.M.ReplayMemory.newest l.initial.self.memory) history
+      → HeedsInTurn (g.M.ReplayMemory.limits l.initial.self.memory) l.initial.self.setup history (map arrival_of (take l.call-index l.calls)) l.outcomes.items
+      (g.M.ReplayMemory.refusals l.initial.self.memory) (g.M.ReplayMemory.refusals l.self.memory);
 }
