@@ -1,7 +1,9 @@
 -- Runs of calls.
 use Rattle.std.proofs.Common.{◌≡◌, ℕ, ◌<◌, ◌+◌, List, [], ◌∷◌, ◌++◌, ap, sym, ◌∙◌, subst, Result, length, map, take, get_or, Option, ℤ, Bool, Ok, Err, inl, inr}
-use Rattle.std.specs.Prelude.{◌↔◌, IsTrue, IsErrOf}
+use Rattle.std.specs.Prelude.{IsTrue, IsErrOf}
+use Rattle.std.specs.List.{AllZip}
 use Rattle.std.proofs.lemmas.List.{take_more, map-append}
+use Rattle.std.proofs.lemmas.Slice.Zip.{all_zipped_more}
 use Rattle.krb_replay.specs.Stamp.{Stamp}
 use Rattle.krb_replay.specs.Memory.{SameStamps}
 use Rattle.krb_ap.specs.History.{IsShown, IsShownLately, StandsFor}
@@ -29,21 +31,11 @@ mapped calls i call below is =
     ∙ sym (ap (map arrival_of) (take_more calls i call below) ∙ map-append arrival_of (take i calls) (get_or calls i call ∷ []))
 
 -- what is so of each call and its answer, and of one call more
-module _ (P : Arrival → Result Accepted Refusal → Type 0) (Each : List Arrival → List (Result Accepted Refusal) → Type 0) (none : Each [] [])
-    (one : (c : Arrival) (a : Result Accepted Refusal) (cs : List Arrival) (rest : List (Result Accepted Refusal)) → Each (c ∷ cs) (a ∷ rest) ↔ (P c a × Each cs rest))
-    (short : (a : Result Accepted Refusal) (rest : List (Result Accepted Refusal)) → ¬ Each [] (a ∷ rest)) (long : (c : Arrival) (cs : List Arrival) → ¬ Each (c ∷ cs) []) where
-  push : (calls : List Arrival) (answers : List (Result Accepted Refusal)) (call : Arrival) (answer : Result Accepted Refusal)
-      → Each calls answers → P call answer → Each (calls ++ call ∷ []) (answers ++ answer ∷ [])
-  push [] [] call answer each p = (one call answer [] []).1 (p, none)
-  push (c ∷ cs) (a ∷ rest) call answer each p = (one c a (cs ++ call ∷ []) (rest ++ answer ∷ [])).1
-      (((one c a cs rest).0 each).0, push cs rest call answer ((one c a cs rest).0 each).1 p)
-  push [] (a ∷ rest) call answer each p = absurd (short a rest each)
-  push (c ∷ cs) [] call answer each p = absurd (long c cs each)
-
-  pub each_more : (calls : List Arrival) (answers all : List (Result Accepted Refusal)) (whole : List Arrival) (call : Arrival) (answer : Result Accepted Refusal)
-      → calls ++ call ∷ [] ≡ whole → all ≡ answers ++ answer ∷ [] → Each calls answers → P call answer → Each whole all
-  each_more calls answers all whole call answer e f each p = subst (Each whole) (sym f) (subst (λ (l : List Arrival). Each l (answers ++ answer ∷ [])) e
-      (push calls answers call answer each p))
+pub each_more : (P : Arrival → Result Accepted Refusal → Type 0) (calls : List Arrival) (answers all : List (Result Accepted Refusal)) (whole : List Arrival)
+    (call : Arrival) (answer : Result Accepted Refusal) → calls ++ call ∷ [] ≡ whole → all ≡ answers ++ answer ∷ [] → AllZip P calls answers → P call answer
+    → AllZip P whole all
+each_more P calls answers all whole call answer is_whole is_all each p = subst (AllZip P whole) (sym is_all)
+    (subst (λ (l : List Arrival). AllZip P l (answers ++ answer ∷ [])) is_whole (all_zipped_more P calls answers call answer each p))
 
 -- what a memory that forgets has after a call, also after one that was answered for memory
 lately_after : (setup : Setup) (mid : List Arrival) (call : Arrival) (answer : Result Accepted Refusal) (Mid New : Stamp → Type 0)

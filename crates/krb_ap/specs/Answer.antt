@@ -1,15 +1,14 @@
 -- What a service answers, and the history afterwards.
-use Rattle.std.specs.Prelude.{◌≡◌, ◌≢◌, ℤ, Bool, IsTrue, IsErrOf, IfErr, List, [], ◌∷◌, Option, Result, Ok, Err}
+use Rattle.std.specs.Prelude.{◌≡◌, ◌≢◌, ℤ, Bool, IsTrue, List, [], ◌∷◌, Option, Result, Ok, Err}
 use Rattle.std.specs.Option.{option_map}
 use Rattle.krb_msg.specs.Owned.{owned_key_of, owned_typed_of, owned_list_of}
 use Rattle.krb_replay.specs.Stamp.{Stamp}
 use Rattle.krb_ap.specs.Setup.{Setup, Arrival, arrival, decided_now}
 use Rattle.krb_replay.specs.Memory.{SameStamps}
-use Rattle.krb_ap.specs.Opened.{IsOrdinary}
 use Rattle.krb_ap.specs.History.{IsShown, IsShownLately, StandsFor}
 use Rattle.krb_ap.specs.declared.call.Call.{Call}
 use Rattle.krb_ap.specs.Taken.{Taken, Accept}
-use Rattle.krb_ap.specs.Causes.{Cause, TellsPlaceWithin}
+use Rattle.krb_ap.specs.Causes.{Cause}
 use Rattle.krb_ap.specs.declared.accepted.Accepted.{Accepted}
 use Rattle.krb_ap.specs.declared.refusal.Refusal.{Refusal}
 use Rattle.krb_ap.specs.declared.refusal.Refusal.TheVariants.{OutOfMemory}
@@ -61,20 +60,6 @@ Run setup history _ _ end = ⊥
 -- a call as it arrives
 abbrev pub arrival_of : Call → Arrival
 arrival_of call = arrival call.bytes.now call.now
-
--- if memory ran out, the bytes were a request of the ordinary kind
-abbrev pub MemoryWantedByRequests : List Arrival → List (Result Accepted Refusal) → Type 0
-MemoryWantedByRequests [] [] = Unit {0}
-MemoryWantedByRequests (call ∷ calls) (answer ∷ answers) =
-    (IsErrOf answer OutOfMemory → IsOrdinary call.bytes) × MemoryWantedByRequests calls answers
-MemoryWantedByRequests _ _ = ⊥
-
--- the offset in each refusal is the place of a byte of its call, or their end
-abbrev pub TellsPlacesWithin : List Arrival → List (Result Accepted Refusal) → Type 0
-TellsPlacesWithin [] [] = Unit {0}
-TellsPlacesWithin (call ∷ calls) (answer ∷ answers) =
-    IfErr answer (TellsPlaceWithin call.bytes) × TellsPlacesWithin calls answers
-TellsPlacesWithin _ _ = ⊥
 
 -- There is such a history afterwards, and the memory stands for it. If the memory keeps everything
 -- and had exactly what was shown, it still has. If it forgets, and had exactly what was shown and

@@ -8,7 +8,7 @@ ghost use Rattle.krb_ap.specs.Service.{CountsPastLimit, HeedsLimits, IsPastLimit
 ghost use Rattle.krb_ap.specs.Counting.{HeedsLimitsInAll};
 ghost use Rattle.krb_ap.specs.Causes.{Cause, IsRemembered, TellsPlaceWithin, place};
 ghost use Rattle.krb_ap.specs.Inner.GoingOn.{GoesOn};
-ghost use Rattle.krb_ap.specs.Answer.{Answers, MemoryWantedByRequests, Served, TellsPlacesWithin, after, arrival_of, taken_of};
+ghost use Rattle.krb_ap.specs.Answer.{Answers, Served, after, arrival_of, taken_of};
 ghost use Rattle.krb_ap.specs.Once.{TakesAmong, TakesOnce};
 ghost use Rattle.krb_ap.specs.declared.refusal.Refusal.TheVariants.{OutOfMemory};
 
@@ -211,8 +211,12 @@ impl<M: ReplayMemory> Acceptor<M> {
         ensures before { (history : List Arrival) (stamp : Stamp) → Stands M.has M.newest self.old history
             → IsShown self.old.setup history stamp
             → IfOk result (λ outcomes. ¬ TakesAmong self.old.setup (map arrival_of calls.now) outcomes.items stamp) }
-        ensures offset { IfOk result (λ outcomes. TellsPlacesWithin (map arrival_of calls.now) outcomes.items) }
-        ensures memory { IfOk result (λ outcomes. MemoryWantedByRequests (map arrival_of calls.now) outcomes.items) }
+
+        // Each outcome meets these clauses of `accept`.
+        ensures offset { IfOk result (λ outcomes.
+            AllZip (λ call outcome. IfErr outcome (TellsPlaceWithin call.bytes)) (map arrival_of calls.now) outcomes.items) }
+        ensures memory { IfOk result (λ outcomes.
+            AllZip (λ call outcome. IsErrOf outcome OutOfMemory → IsOrdinary call.bytes) (map arrival_of calls.now) outcomes.items) }
         ensures size { IfOk result (λ outcomes.
             AllZip (λ call outcome. IsErrOf outcome OutOfMemory → AsksWithin self.old.setup call.bytes) (map arrival_of calls.now) outcomes.items) }
 

@@ -1,11 +1,10 @@
 use Rattle.std.proofs.Common.{◌∙◌, List, arith, map, subst}
 use Rattle.std.proofs.lemmas.List.{take_all}
-use Rattle.std.specs.List.{AllZip}
 use Rattle.std.specs.Prelude.{IfErr, IsErrOf}
 use Rattle.krb_ap.specs.Opened.{AsksWithin, IsOrdinary}
 use Rattle.krb_ap.specs.Setup.{Setup}
 use Rattle.krb_ap.specs.Causes.{TellsPlaceWithin}
-use Rattle.krb_ap.specs.Answer.{MemoryWantedByRequests, TellsPlacesWithin, arrival_of}
+use Rattle.krb_ap.specs.Answer.{arrival_of}
 use Rattle.krb_ap.specs.declared.call.Call.{Call}
 use Rattle.krb_ap.specs.declared.refusal.Refusal.TheVariants.{OutOfMemory}
 use Rattle.krb_ap.proofs.Counting.{HeedsInTurn, heeds_in_all, heeds_more}
@@ -37,17 +36,16 @@ loop-call-preserved g c = record {
       c.push_reserved.ensures.items c.accept-outcome.ensures.answer c.accept-outcome.ensures.goes_on
       c.accept-outcome.ensures.keeps c.accept-outcome.ensures.forgets (λ memory. (c.accept-outcome.ensures.unchanged memory).0)
       (c.loop-call.invariant.served history stands);
-  offset = each_more (λ call answer. IfErr answer (TellsPlaceWithin call.bytes)) TellsPlacesWithin tt (λ call answer calls rest. (λ h. h, λ h. h)) (λ answer rest h. h)
-      (λ call calls h. h) _ c.loop-call.outcomes.items c.push_reserved.new.self.items _ (arrival_of c.call-item.result) c.accept-outcome.result
+  offset = each_more (λ call answer. IfErr answer (TellsPlaceWithin call.bytes)) _ c.loop-call.outcomes.items c.push_reserved.new.self.items _
+      (arrival_of c.call-item.result) c.accept-outcome.result
       (mapped c.args.calls.now c.loop-call.call-index c.call-item.result c.loop-call-test.true c.call-item.is)
       c.push_reserved.ensures.items c.loop-call.invariant.offset c.accept-outcome.ensures.offset;
-  memory = each_more (λ call answer. IsErrOf answer OutOfMemory → IsOrdinary call.bytes) MemoryWantedByRequests tt (λ call answer calls rest. (λ h. h, λ h. h)) (λ answer rest h. h)
-      (λ call calls h. h) _ c.loop-call.outcomes.items c.push_reserved.new.self.items _ (arrival_of c.call-item.result) c.accept-outcome.result
+  memory = each_more (λ call answer. IsErrOf answer OutOfMemory → IsOrdinary call.bytes) _ c.loop-call.outcomes.items c.push_reserved.new.self.items _
+      (arrival_of c.call-item.result) c.accept-outcome.result
       (mapped c.args.calls.now c.loop-call.call-index c.call-item.result c.loop-call-test.true c.call-item.is)
       c.push_reserved.ensures.items c.loop-call.invariant.memory c.accept-outcome.ensures.memory;
-  size = each_more (λ call answer. IsErrOf answer OutOfMemory → AsksWithin c.args.self.now.setup call.bytes)
-      (AllZip (λ call answer. IsErrOf answer OutOfMemory → AsksWithin c.args.self.now.setup call.bytes)) tt (λ call answer calls rest. (λ h. h, λ h. h)) (λ answer rest h. h)
-      (λ call calls h. h) _ c.loop-call.outcomes.items c.push_reserved.new.self.items _ (arrival_of c.call-item.result) c.accept-outcome.result
+  size = each_more (λ call answer. IsErrOf answer OutOfMemory → AsksWithin c.args.self.now.setup call.bytes) _ c.loop-call.outcomes.items c.push_reserved.new.self.items _
+      (arrival_of c.call-item.result) c.accept-outcome.result
       (mapped c.args.calls.now c.loop-call.call-index c.call-item.result c.loop-call-test.true c.call-item.is)
       c.push_reserved.ensures.items c.loop-call.invariant.size
       (subst (λ (s : Setup). IsErrOf c.accept-outcome.result OutOfMemory → AsksWithin s (arrival_of c.call-item.result).bytes) c.loop-call.invariant.setup c.accept-outcome.ensures.size);
