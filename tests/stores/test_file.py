@@ -14,8 +14,8 @@ from fevstunik.stores import File, SQLite, StoreFailed, _file
 
 from support.forked import in_processes
 
-NOW = int(time.time())
-LATER, PAST = Moment(NOW + 3600, 7), Moment(1_700_000_000)
+# (a moment that no run of the tests reaches, however long ago this module was read)
+LATER, PAST = Moment(4_000_000_000, 7), Moment(1_700_000_000)
 
 
 @pytest.fixture

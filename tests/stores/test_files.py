@@ -12,8 +12,8 @@ from fevstunik.stores import File, SQLite, Store, StoreFailed, UnsafeStore, _fol
 
 from support.forked import in_processes
 
-NOW = int(time.time())
-LATER = Moment(NOW + 3600, 7)
+# (a moment that no run of the tests reaches, however long ago this module was read)
+LATER = Moment(4_000_000_000, 7)
 
 
 @pytest.fixture

@@ -15,7 +15,8 @@ from support import store_servers
 from support.store_servers import Proxy
 
 pytestmark = pytest.mark.packages
-LATER, PAST = Moment(int(time.time()) + 3600, 7), Moment(int(time.time()) - 1)
+# (the first is a moment that no run of the tests reaches, however long ago this module was read)
+LATER, PAST = Moment(4_000_000_000, 7), Moment(int(time.time()) - 1)
 KINDS = {"Redis": Redis, "PostgreSQL": PostgreSQL}
 
 

@@ -11,8 +11,8 @@ from fevstunik.stores import SQLite, StoreFailed
 
 from support.forked import in_processes
 
-NOW = int(time.time())
-LATER, PAST = Moment(NOW + 3600, 7), Moment(1_700_000_000)
+# (a moment that no run of the tests reaches, however long ago this module was read)
+LATER, PAST = Moment(4_000_000_000, 7), Moment(1_700_000_000)
 
 
 @pytest.fixture
@@ -61,9 +61,9 @@ def test_old_stamps_are_forgotten(path):
 def test_old_stamps_after_many_that_are_kept(path):
     """Those that are kept are passed by, a portion at a time."""
     store = SQLite(path)
-    until = NOW * 1_000_000
+    until = LATER.seconds * 1_000_000
     with contextlib.closing(sqlite3.connect(store.path)) as base, base:
-        base.executemany("INSERT INTO stamps VALUES (?, ?)", [(b"a%03d" % it, 2 * until) for it in range(200)])
+        base.executemany("INSERT INTO stamps VALUES (?, ?)", [(b"a%03d" % it, until) for it in range(200)])
         base.executemany("INSERT INTO stamps VALUES (?, ?)", [(b"z%03d" % it, 1) for it in range(10)])
     for number in range(3 * 32 + 1):
         assert store.add(b"%d" % number + b"b" * 8, LATER)
