@@ -5,6 +5,13 @@ import fevstunik
 import pytest
 
 from support import TOP, c_programs, store_servers
+from support.patience import let_stores_wait
+
+
+@pytest.fixture(autouse=True)
+def patient(monkeypatch):
+    """What stores answer doesn't depend on the machine's load. Where the limit is tested, a test passes one."""
+    let_stores_wait(monkeypatch)
 
 
 @pytest.fixture(scope="session")

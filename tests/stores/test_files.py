@@ -194,4 +194,4 @@ def test_another_machines_files(kind, path, monkeypatch):
 def test_another_process_makes_it(kind, path):
     with _folder.locked(path.parent, time.monotonic() + 1, RuntimeError), pytest.raises(StoreFailed, match="no answer"):
         kind(path, seconds=0.3)
-    assert kind(path, seconds=0.3).add(b"a", LATER)
+    assert kind(path).add(b"a", LATER)

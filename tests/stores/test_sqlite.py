@@ -2,7 +2,6 @@
 in test_files.py."""
 import contextlib
 import sqlite3
-import time
 
 import pytest
 
@@ -10,6 +9,7 @@ from fevstunik import Moment
 from fevstunik.stores import SQLite, StoreFailed
 
 from support.forked import in_processes
+from support.patience import PATIENT, least_seconds
 
 # (a moment that no run of the tests reaches, however long ago this module was read)
 LATER, PAST = Moment(4_000_000_000, 7), Moment(1_700_000_000)
@@ -93,13 +93,16 @@ def test_a_stamp_that_may_have_been_forgotten(path):
 def test_another_process_writes(path):
     """Nobody waits for it for longer than was said; then all is as before."""
     store = SQLite(path, seconds=0.5)
-    with contextlib.closing(sqlite3.connect(store.path, isolation_level=None)) as base:
-        base.execute("BEGIN IMMEDIATE")
-        began = time.monotonic()
+
+    def gives_up():
         with pytest.raises(StoreFailed, match="no answer in 0.5 seconds"):
             store.add(b"a", LATER)
-        assert 0.4 < time.monotonic() - began < 5
+
+    with contextlib.closing(sqlite3.connect(store.path, isolation_level=None)) as base:
+        base.execute("BEGIN IMMEDIATE")
+        assert 0.4 < least_seconds(gives_up, 5) < 5
         base.execute("COMMIT")
+        store._seconds = PATIENT
         assert store.add(b"a", LATER)
     for seconds in (0, -1, 3600, float("nan")):
         with pytest.raises(ValueError, match="seconds"):
