@@ -5,7 +5,6 @@ import os
 import socket
 import subprocess
 import sys
-import time
 
 import pytest
 
@@ -220,12 +219,7 @@ def ldap(realm):
             env={**env, "PATH": f"{os.environ['PATH']}:/usr/sbin"},
         )
     try:
-        for _ in range(200):
-            with socket.socket() as stream:
-                if stream.connect_ex(("127.0.0.1", port)) == 0:
-                    break
-            assert process.poll() is None, (folder / "slapd.log").read_text()
-            time.sleep(0.05)
+        assert kdc.wait_for(lambda: kdc.listens(port), process), (folder / "slapd.log").read_text()
         yield port
     finally:
         process.kill()

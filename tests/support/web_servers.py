@@ -5,7 +5,6 @@ import json
 import os
 import socket
 import sys
-import time
 
 from support import TESTS, TOP, kdc, web
 from support.web import Answer
@@ -48,26 +47,15 @@ class Server:
         self.port, self.path, self.log = port, socket_path, folder / "server.log"
         self.process = kdc.Process(command, self.log, env)
         self.front = kdc.Process(front, folder / "front.log", env) if front else None
-        if not port:
-            self.wait_for(self.path)
-            return
+        self.wait_for(self.port or self.path)
+
+    def wait_for(self, place):
+        """Waits for a port or a Unix socket, or stops it all."""
         try:
-            (self.front or self.process).wait_for(port)
+            (self.front if self.front and place == self.port else self.process).wait_for(place)
         except kdc.Trouble:
             self.__exit__()
             raise
-
-    def wait_for(self, path):
-        """Waits for a Unix socket, or stops it all."""
-        for _ in range(600):
-            if self.process.process.poll() is not None:
-                break
-            with socket.socket(socket.AF_UNIX) as stream:
-                if stream.connect_ex(str(path)) == 0:
-                    return
-            time.sleep(0.05)
-        self.__exit__()
-        raise kdc.Trouble(self.log.read_text())
 
     def __enter__(self):
         return self
