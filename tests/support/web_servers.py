@@ -9,10 +9,16 @@ import sys
 from support import TESTS, TOP, kdc, web
 from support.web import Answer
 
-SECONDS = 30
-GUNICORN = [sys.executable, "-m", "gunicorn", "--log-level", "warning", "--limit-request-field_size", "0"]
+# How long a client waits. The servers are told to wait as long for a process that gets no processor.
+SECONDS = 300
+GUNICORN = [sys.executable, "-m", "gunicorn", "--log-level", "warning", "--limit-request-field_size", "0", "--timeout",
+            str(SECONDS)]
 UWSGI = ["uwsgi", "--plugin", "python3", "--master", "--die-on-term", "--need-app", "--disable-logging",
-         "--buffer-size", "65535", "--listen", "1024"]
+         "--buffer-size", "65535", "--listen", "1024", "--socket-timeout", str(SECONDS)]
+# The same for nginx.
+PATIENCE = "\n    ".join(f"{it} {SECONDS}s;" for it in (
+    "client_header_timeout", "client_body_timeout", "send_timeout", "keepalive_timeout", "proxy_connect_timeout",
+    "proxy_send_timeout", "proxy_read_timeout", "uwsgi_connect_timeout", "uwsgi_send_timeout", "uwsgi_read_timeout"))
 # nginx with TLS left out, in front of an application that has a port of its own.
 NGINX = """
 user root;
@@ -28,6 +34,7 @@ http {{
     fastcgi_temp_path {folder}/fastcgi;
     uwsgi_temp_path {folder}/uwsgi;
     scgi_temp_path {folder}/scgi;
+    {patience}
     server {{
         listen 127.0.0.1:{port} backlog=1024;
 {lines}
@@ -110,7 +117,7 @@ def uvicorn(folder, app, *words, **terms):
 
 def nginx(folder, port, lines):
     """The command of nginx with these lines for its server."""
-    (folder / "nginx.conf").write_text(NGINX.format(folder=folder, port=port, lines=lines))
+    (folder / "nginx.conf").write_text(NGINX.format(folder=folder, port=port, lines=lines, patience=PATIENCE))
     return ["/usr/sbin/nginx", "-p", folder, "-e", folder / "nginx.log", "-c", folder / "nginx.conf"]
 
 

@@ -120,7 +120,8 @@ def test_refused_uploads(server):
 @pytest.mark.parametrize("kind", ["Flask, uWSGI", "Starlette, uvicorn", "Django, uvicorn"])
 def test_many_slow_clients(server):
     """500 connections that send a byte: others log in meanwhile, and these in the end. (gunicorn needs a proxy.)"""
-    slow = [socket.create_connection(("127.0.0.1", server.port), timeout=30) for _ in range(500)]
+    slow = [socket.create_connection(("127.0.0.1", server.port), timeout=web_servers.SECONDS)
+            for _ in range(500)]
     for it in slow:
         it.sendall(b"G")
     assert {server.ask(token=web.token()).status for _ in range(5)} == {200}
