@@ -4,6 +4,7 @@ import pytest
 
 from fevstunik.web import Negotiate
 from support import TOP, fixture, web
+from support.patience import let_stores_wait
 
 
 @pytest.fixture(scope="session", autouse=True)
@@ -17,6 +18,7 @@ def at_the_top(library, monkeypatch):
     monkeypatch.setenv("FEVSTUNIK_LIBRARY", str(library))
     monkeypatch.setenv("PYTHONPATH", str(TOP / "python"))
     monkeypatch.chdir(TOP)
+    let_stores_wait(monkeypatch)
 
 
 @pytest.fixture

@@ -151,7 +151,7 @@ def test_a_token_is_good_once(tmp_path, keytab, kind):
     (tmp_path / "run").mkdir(mode=0o700)
     terms = {"keytab": keytab, "service": web.NAME, "first_life": True, "store": tmp_path / "run/stamps"}
     tokens = [web.token() for _ in range(30)]
-    order = random.sample(tokens * 6, 180)
+    order = random.Random(30).sample(tokens * 6, 180)
     start = web_servers.KINDS[kind]
     with start(tmp_path, **terms) as server, ThreadPoolExecutor(30) as pool:
         statuses = list(pool.map(lambda it: server.ask(token=it).status, order))
