@@ -12,6 +12,7 @@ import sys
 import threading
 import time
 from collections import Counter
+from types import SimpleNamespace
 
 from support import c_cases, der, fixture
 
@@ -266,7 +267,7 @@ def test_a_signal_handler_asks_for_a_moment_while_the_clock_stands_still(monkeyp
             left.pop()
             nested.append(_values._own_moments.next())
         return AT * 1_000_000_000
-    monkeypatch.setattr("time.time_ns", time_ns)
+    monkeypatch.setattr(_values, "time", SimpleNamespace(time_ns=time_ns))
     found = [_values._own_moments.next() for _ in range(10)]
     assert len(nested) == 50 and len(set(found + nested)) == 60
 
