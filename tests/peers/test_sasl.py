@@ -94,7 +94,7 @@ class Sample:
         """All that it says to its end."""
         self.process.stdin.close()
         self.said += self.process.stdout.read().decode(errors="replace").splitlines()
-        self.process.wait(20)
+        self.process.wait(300)
         return "\n".join(self.said)
 
 
@@ -173,7 +173,7 @@ class Ldap:
 
     def __init__(self, port, client):
         self.client, self.ids = client, itertools.count(1)
-        self.socket = socket.create_connection(("127.0.0.1", port), timeout=20)
+        self.socket = socket.create_connection(("127.0.0.1", port), timeout=300)
 
     def asked(self, operation, out=lambda data: data, into=lambda data: data):
         """The parts of the answer to an operation."""
