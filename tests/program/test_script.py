@@ -89,7 +89,7 @@ def test_stale_program(room, path):
 
 
 def test_source_gone(room):
-    written(room / "crates/krbtool/out/krbtool", PROGRAM, 0o755)
+    written(room / "crates/krbtool/out/krbtool", PROGRAM, 0o755, age=60)
     (room / "crates/krb_name/src/lib.rt").unlink()
     assert Ran(room, ["a"]).calls
 
