@@ -15,6 +15,9 @@ from support.checks import Checks
 TARGET = "build/x86-64-v2/libfevstunik.a"
 # Instances of pytest that build or that download wait for each other here.
 LOCK = TOP / "build/.lock"
+# How many seconds a test may take that takes more than ten, or that starts or packs what packages need. (pyproject.toml
+# has the limit of the others. Either is for what hangs: a busy machine may take ten times as long as another.)
+SLOW = 1800
 
 
 def pytest_addoption(parser):
@@ -58,6 +61,10 @@ def pytest_collection_modifyitems(config, items):
         block.sort(key=is_quick)
     blocks.sort(key=lambda block: is_quick(block[0]))
     items[:] = [it for block in blocks for it in block]
+    for it in items:
+        if not is_quick(it) or it.get_closest_marker("packages"):
+            # (its own limit, if it has one, comes first)
+            it.add_marker(pytest.mark.timeout(SLOW), append=True)
 
 
 def is_quick(item):

@@ -3,7 +3,6 @@ logged in by a session. What they show is kept as pictures in build/pictures."""
 import contextlib
 import functools
 import struct
-import time
 
 import pytest
 
@@ -32,20 +31,9 @@ def started(world):
             made = stack.enter_context(BROWSERS[name](world.folder / name, ["localhost", OTHER_HOST], env))
             made.name = name
             if name == "Chromium":
-                wait_for_chromium(made, world["web"].url)
+                assert made.page_with(world["web"].url, HELLO, "This site needs a Kerberos login.") == HELLO
             return made
         yield start
-
-
-def wait_for_chromium(browser, url):
-    """A new profile of Chromium asks for its first page before it knows at which hosts to log in: it then shows the
-    page for those who haven't logged in."""
-    for _ in range(10):
-        text = browser.page(url)[1]
-        if text == HELLO:
-            return
-        assert "This site needs a Kerberos login." in text
-        time.sleep(0.2)
 
 
 @pytest.fixture(params=BROWSERS)

@@ -94,9 +94,12 @@ def test_requests_kerberos(world):
 OURS = """
 import asyncio, sys
 import httpx, requests
+from fevstunik import CredentialCache
 from fevstunik.clients import LoginError, httpx as for_httpx, requests as for_requests
+# (httpx waits for 5 seconds by default, and this package for a ticket 30)
+CredentialCache.fetch.__kwdefaults__["seconds"] = 300
 kind, certificate, *urls = sys.argv[1:]
-words = {"verify": certificate, "trust_env": False, "follow_redirects": True}
+words = {"verify": certificate, "trust_env": False, "follow_redirects": True, "timeout": 300}
 
 def show(answer):
     print(answer.status_code, answer.text, end="")

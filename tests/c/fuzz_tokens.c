@@ -288,21 +288,21 @@ static uint64_t now(void)
 }
 
 /* A call and how long it takes. One that was slow is made again: a virtual machine's clock also counts what its host does meanwhile. */
-#define TIMED(answer, call)                                       \
-    do {                                                          \
-        uint64_t began = now(), took;                             \
-                                                                  \
-        answer = call;                                            \
-        took = now() - began;                                     \
-        for (int again = 0; took > limit && again < 5; again++) { \
-            began = now();                                        \
-            (void)call;                                           \
-            took = now() - began;                                 \
-        }                                                         \
-        if (took > slowest)                                       \
-            slowest = took;                                       \
-        if (took > limit)                                         \
-            wrong("a slow call, " #call);                         \
+#define TIMED(answer, call)                                        \
+    do {                                                           \
+        uint64_t began = now(), took;                              \
+                                                                   \
+        answer = call;                                             \
+        took = now() - began;                                      \
+        for (int again = 0; took > limit && again < 20; again++) { \
+            began = now();                                         \
+            (void)call;                                            \
+            took = now() - began;                                  \
+        }                                                          \
+        if (took > slowest)                                        \
+            slowest = took;                                        \
+        if (took > limit)                                          \
+            wrong("a slow call, " #call);                          \
     } while (0)
 
 static int is_within(uint32_t code, uint32_t first, uint32_t last)

@@ -10,10 +10,11 @@ import pytest
 
 from support import TOP, c_programs
 from support.c_programs import KEYTAB, linked, run
+from support.patience import least_seconds
 
 SERVICE = "host/web@EX"
-# How many seconds a client has that waits for a hasty service.
-HASTE = 2
+# How many seconds a client has of a hasty service, and of the other one (by itself ten), and how long a test waits.
+HASTE, SECONDS = 2, 300
 
 
 @pytest.fixture(scope="module")
@@ -24,7 +25,7 @@ def room(archive, tmp_path_factory):
     service = [TOP / f"examples/service/{it}.c" for it in ("service", "store", "sqlite_store", "redis_store")]
     libraries = "-lsqlite3", "-lhiredis"
     linked(archive, folder / "client", *words, TOP / "examples/service/client.c")
-    linked(archive, folder / "service", *words, *service, *libraries)
+    linked(archive, folder / "service", *words, f"-DSECONDS={SECONDS}", *service, *libraries)
     linked(archive, folder / "hasty", *words, f"-DSECONDS={HASTE}", *service, *libraries)
     (folder / "cache").write_bytes(c_programs.current_cache(int(time.time()) - 60))
     return folder
@@ -44,18 +45,18 @@ def serving(room, *words, program="service"):
 def test_started_again(room):
     """A service that may have run before is quiet at first."""
     with serving(room, "1") as (service, port):
-        run(room / "client", room / "cache", SERVICE, port, "hello", timeout=60)
-        assert service.communicate(timeout=60)[0].splitlines() == ["refused FEVSTUNIK_JUST_STARTED"]
+        run(room / "client", room / "cache", SERVICE, port, "hello", timeout=SECONDS)
+        assert service.communicate(timeout=SECONDS)[0].splitlines() == ["refused FEVSTUNIK_JUST_STARTED"]
 
 
 def test_exchange(room):
     """A request is accepted once, the same one is refused, and a second client is accepted."""
     with serving(room, "3", "first") as (service, port):
-        twice = run(room / "client", room / "cache", SERVICE, port, "hello", "twice", timeout=60)
+        twice = run(room / "client", room / "cache", SERVICE, port, "hello", "twice", timeout=SECONDS)
         assert re.fullmatch(r"agreed as alice@EX\nrefused: 7[345] bytes of type 7e\n", twice.stdout), twice.stderr
-        again = run(room / "client", room / "cache", SERVICE, port, "hello again", timeout=60)
+        again = run(room / "client", room / "cache", SERVICE, port, "hello again", timeout=SECONDS)
         assert set(again.stdout.splitlines()) == {"agreed as alice@EX"}
-        lines = service.communicate(timeout=60)[0].splitlines()
+        lines = service.communicate(timeout=SECONDS)[0].splitlines()
         assert lines == ["alice@EX: hello", "refused FEVSTUNIK_REPEAT", "alice@EX: hello again"]
         assert service.returncode == 0
 
@@ -63,22 +64,25 @@ def test_exchange(room):
 def test_several_clients(room):
     """A client that sends nothing keeps no other waiting, and the keytab is read again at SIGHUP."""
     with serving(room, "2", "first") as (service, port):
+        assert service.stderr.readline() == "keytab: success\n"
         with socket.create_connection(("127.0.0.1", int(port))):
             service.send_signal(signal.SIGHUP)
-            ran = run(room / "client", room / "cache", SERVICE, port, "hello", timeout=60)
+            assert service.stderr.readline() == "keytab: success\n"
+            ran = run(room / "client", room / "cache", SERVICE, port, "hello", timeout=SECONDS)
             assert ran.stdout == "agreed as alice@EX\n"
-        said, noted = service.communicate(timeout=60)
+        said, noted = service.communicate(timeout=SECONDS)
         assert sorted(said.splitlines()) == ["alice@EX: hello", "refused FEVSTUNIK_GO_ON"]
-        assert noted.splitlines() == ["keytab: success"] * 2
+        assert noted == ""
 
 
 def test_slow_client(room):
     """A client that sends byte after byte has no more time than one that is silent."""
-    with serving(room, "1", "first", program="hasty") as (service, port):
-        began = time.monotonic()
-        with socket.create_connection(("127.0.0.1", int(port))) as peer, contextlib.suppress(ConnectionError):
-            for byte in b"\0\1\0\0" + bytes(100):
-                peer.sendall(bytes([byte]))
-                time.sleep(0.2)
-        assert HASTE <= time.monotonic() - began < 15
-        assert service.communicate(timeout=60)[0] == "refused FEVSTUNIK_GO_ON\n"
+    with serving(room, "5", "first", program="hasty") as (service, port):
+        def slow():
+            with socket.create_connection(("127.0.0.1", int(port))) as peer, contextlib.suppress(ConnectionError):
+                for byte in b"\0\1\0\0" + bytes(100):
+                    peer.sendall(bytes([byte]))
+                    time.sleep(0.2)
+            assert service.stdout.readline() == "refused FEVSTUNIK_GO_ON\n"
+
+        assert HASTE <= least_seconds(slow, 15, tries=5) < 15

@@ -165,7 +165,7 @@ def test_commands(program, tmp_path, checks, name):
     (tmp_path / "examples").symlink_to(TOP / "examples")
     for command, wanted in (it for block in blocks(name, "console") for it in commands_of(block)):
         ran = subprocess.run(["sh", "-c", command], cwd=tmp_path, stdout=subprocess.PIPE, stderr=subprocess.STDOUT,
-                             timeout=60, text=True)
+                             timeout=300, text=True)
         checks.equal(command, ran.stdout, wanted)
 
 

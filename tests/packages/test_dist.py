@@ -9,6 +9,8 @@ import pytest
 from support.packing import (ANSWERS, FROM_PYTHON, KEYTAB, LIBRARIES, OTHERS, REQUEST, ROOT, VERSION, WITHOUT_RATTLE, files_below, run, tracked,
                      well)
 
+# (one process runs them: they share a repository, in which some of them pack while others copy it)
+pytestmark = pytest.mark.xdist_group("dist")
 NAME = f"fevstunik-{VERSION}-x86-64"
 # The moment of the commit, before anything was built, and another one.
 COMMITTED, MOMENT = 1_750_000_000, 1_700_000_000

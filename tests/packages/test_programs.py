@@ -159,22 +159,26 @@ def test_tables_of_krbtool(staged):
 
 # ---------------------------------------------------------------- speed
 
+# The builds take turns, until each of those for newer processors has been fast enough, or for a hundred turns: what else
+# the machine does slows all of them.
 SEALING = """import sys, time, fevstunik
-key, plain, sealed, least = fevstunik.Key(20, bytes(range(32))), bytes(range(256)) * 4096, [], []
-for path in sys.argv[1:]:
-    fevstunik.load(path)
-    times = []
-    for _ in range(5):
+share, *paths = sys.argv[1:]
+key, plain, sealed, least = fevstunik.Key(20, bytes(range(32))), bytes(range(256)) * 4096, {}, dict.fromkeys(paths, 1e9)
+for turn in range(100):
+    for path in paths:
+        fevstunik.load(path)
         start = time.process_time()
-        made = key.seal(1024, plain)
-        times.append(time.process_time() - start)
-    sealed.append(made)
-    least.append(min(times))
-for path in sys.argv[1:]:
+        sealed[path] = key.seal(1024, plain)
+        least[path] = min(least[path], time.process_time() - start)
+    if turn >= 5 and all(least[it] < float(share) * least[paths[0]] for it in paths[1:]):
+        break
+for path in paths:
     fevstunik.load(path)
-    print(all(key.open(1024, it) == plain for it in sealed))
-print(*least)
+    print(all(key.open(1024, it) == plain for it in sealed.values()))
+print(*least.values())
 """
+# What part of the time of the build for every processor each of the others may take at most.
+SHARE = 0.75
 
 
 def build_for_this():
@@ -193,12 +197,13 @@ def test_builds_for_newer_processors_are_faster(unpacked):
     names = list(BUILDS)
     builds = names[: names.index(build_for_this()) + 1]
     assert len(builds) > 1, "this processor runs none of the faster builds"
-    ran = unpacked.run("/usr/bin/python3", "-c", SEALING, *(unpacked.root / BUILDS[it] / "libfevstunik.so.0" for it in builds))
+    paths = [unpacked.root / BUILDS[it] / "libfevstunik.so.0" for it in builds]
+    ran = unpacked.run("/usr/bin/python3", "-c", SEALING, SHARE, *paths)
     assert ran.returncode == 0, wrong(ran)
     *opened, times = ran.stdout.splitlines()
     assert opened == ["True"] * len(builds)
     plain, *newer = map(float, times.split())
-    assert all(it < 0.75 * plain for it in newer), times
+    assert all(it < SHARE * plain for it in newer), times
 
 
 def test_a_missing_extension_is_noticed_by_qemu(tmp_path):

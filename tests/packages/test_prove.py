@@ -57,7 +57,7 @@ def proved(room, *words, **more):
     """The status of packaging/prove, what it says, and the calls of rt."""
     (room / "calls").write_text("")
     env = {**os.environ, "PATH": f"{room}/kit/kit/bin:{os.environ['PATH']}", "CALLS": str(room / "calls"), **more}
-    ran = subprocess.run([room / "packaging/prove", *words], env=env, timeout=60, text=True, stdout=subprocess.PIPE,
+    ran = subprocess.run([room / "packaging/prove", *words], env=env, timeout=300, text=True, stdout=subprocess.PIPE,
                          stderr=subprocess.STDOUT, cwd="/")
     return ran.returncode, ran.stdout, (room / "calls").read_text().splitlines()
 

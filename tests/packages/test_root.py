@@ -83,6 +83,6 @@ def test_autopkgtest(root, debs, tmp_path):
     sources = packing.copied(tmp_path / "sources", built=False)
     names = re.findall(r"^Tests: (.*)$", (ROOT / "debian/tests/control").read_text(), re.M)
     words = ["autopkgtest", "--no-built-binaries", f"--output-dir={tmp_path}/said", *debs.values(), f"{sources}/", "--", "chroot", root.folder]
-    ran = packing.run(*words, timeout=550)
+    ran = packing.run(*words, timeout=1700)
     results = dict(line.split()[:2] for line in (tmp_path / "said/summary").read_text().splitlines())
     assert results == {name: "PASS" for name in names} and ran.returncode == 0, wrong(ran)

@@ -67,7 +67,7 @@ def test_the_command_serves(unpacked, tmp_path):
         server = subprocess.Popen(["bash", "-c", script], env=unpacked.environment(), pass_fds=[listener.fileno()], stderr=subprocess.PIPE)
     try:
         with socket.socket(socket.AF_UNIX) as stream:
-            stream.settimeout(20)
+            stream.settimeout(300)
             stream.connect(str(tmp_path / "socket"))
             stream.sendall(b"GET / HTTP/1.1\r\nHost: web\r\nConnection: close\r\n\r\n")
             said = stream.makefile("rb").read()

@@ -13,7 +13,7 @@ def folder(library, tmp_path_factory):
     made = tmp_path_factory.mktemp("conversations")
     conversations.built(made)
     for name, sources in conversations.SOURCES.items():
-        words = "-D_DEFAULT_SOURCE", "-pthread", *sources, *conversations.LIBRARIES
+        words = *conversations.DEFINED, *sources, *conversations.LIBRARIES
         linked(library.parent / "libfevstunik.a", made / name, *words)
     return made
 

@@ -39,7 +39,7 @@ def installed(folder, lock):
 def realm(world, installed, folder):
     """The realm with tickets for two services, of type 19 and 20, and the programs that talk."""
     for name, (first, *more) in conversations.SOURCES.items():
-        words = "-D_DEFAULT_SOURCE", "-pthread", *more, *conversations.LIBRARIES
+        words = *conversations.DEFINED, *more, *conversations.LIBRARIES
         assert packing.wrong(installed.compiled(first, folder / name, *words)) is None
     conversations.built(folder)
     realm = world.mit
@@ -67,7 +67,7 @@ def test_conversation(installed, folder, realm, client, service, etype):
 def served(installed, ticket, requests):
     """What examples/serve.py answers to requests, as the words of its lines."""
     words = ["/usr/bin/python3", packing.ROOT / "examples/serve.py", ticket.keytab, ticket.service, "--first"]
-    ran = installed.run(*words, input="".join(f"{it}\n" for it in requests), timeout=60)
+    ran = installed.run(*words, input="".join(f"{it}\n" for it in requests), timeout=300)
     if ran.returncode:
         raise Trouble(f"examples/serve.py: {packing.wrong(ran)}")
     return [line.split() for line in ran.stdout.splitlines()]
@@ -81,7 +81,7 @@ def test_serve(checks, peers, installed, ticket, library):
     client, request = peers.client(ticket.realm, library, ticket.cache, ticket.service, 0, ["mutual"])
     (accepted, who, reply), (refused, cause, error) = served(installed, ticket, [request, request])
     checks.equal(name, [accepted, who, refused, cause], ["accepted", ticket.client, "refused", "REPEAT"])
-    agreed, told = client.communicate(f"{reply}\n{error}\n", timeout=60)[0].splitlines()
+    agreed, told = client.communicate(f"{reply}\n{error}\n", timeout=300)[0].splitlines()
     kind, code, stime, _, server = told.split()
     checks.equal(f"{name}: what it reads", [agreed, kind, code, server],
                  ["agreed none 0", "error", "34", ticket.service])

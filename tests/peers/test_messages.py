@@ -113,7 +113,7 @@ class Peer:
 
     def __exit__(self, *_):
         self.process.stdin.close()
-        self.process.wait(20)
+        self.process.wait(300)
         self.process.stdout.close()
 
     def line(self):
@@ -383,7 +383,7 @@ def test_example(checks, signs, realm, library, serving, asking):
         words = [*signs[asking], "ask", realm.folder / "alice20.ccache", f"{SERVICE}@{REALM}", port]
         said = kdc.ran(words, input="hello\n*\nüber\n", env=env)
         checks.equal(f"{asking} at {serving}", said, "".join(f"{ALICE}: {it}\n" for it in ("hello", "*", "über")))
-        checks.equal(f"{serving} ends", server.wait(20), 0)
+        checks.equal(f"{serving} ends", server.wait(300), 0)
 
 
 def test_example_refuses(checks, signs, realm, library):
@@ -401,6 +401,6 @@ def test_example_refuses(checks, signs, realm, library):
                 input="hello\n",
             )
             checks.equal(f"{serving}: the client", (asked.returncode != 0, asked.stdout), (True, ""))
-            checks.equal(f"{serving}: the server", server.wait(20), 1)
+            checks.equal(f"{serving}: the server", server.wait(300), 1)
             said = server.stderr.read()
             checks.equal(f"{serving}: why", said if "started" not in said else "started", "started")

@@ -100,7 +100,7 @@ def test_ours_to_theirs(checks, peers, sides_program, ticket):
                 sides = Sides(sides_program, ticket, now(), how)
                 client, request = peers.client(ticket.realm, library, ticket.cache, ticket.service, 0, words)
                 accepted, refused, reply, error = sides.served(9, request)
-                told = client.communicate(f"{reply}\n{error}\n", timeout=60)[0].splitlines()
+                told = client.communicate(f"{reply}\n{error}\n", timeout=300)[0].splitlines()
                 name = f"reply: ours to {library}'s, {ticket.label}, {how}, {' '.join(words)}"
                 checks.equal(name, [accepted, refused, *told],
                              ["accepted", "refused Repeat", wanted, f"error 34 {sides.second} 9 {ticket.service}"])
@@ -116,6 +116,6 @@ def test_commands_to_theirs(checks, peers, ticket):
         line = f"{second} 9 {request} {CONFOUNDER}"
         accepted, refused = peers.accept(ticket.keytab, [line, line], "--service", ticket.service)
         reply, error = accepted.partition(" reply ")[2], refused.partition(" error ")[2]
-        told = client.communicate(f"{reply}\n{error}\n", timeout=60)[0].splitlines()
+        told = client.communicate(f"{reply}\n{error}\n", timeout=300)[0].splitlines()
         wanted = ["agreed none 0", f"error 34 {second} 9 {ticket.service}"]
         checks.equal(f"reply: the command's to {library}'s, {ticket.label}", told, wanted)

@@ -5,7 +5,6 @@ import os
 import socket
 import subprocess
 import sys
-import time
 
 import pytest
 
@@ -95,7 +94,7 @@ class Sample:
         """All that it says to its end."""
         self.process.stdin.close()
         self.said += self.process.stdout.read().decode(errors="replace").splitlines()
-        self.process.wait(20)
+        self.process.wait(300)
         return "\n".join(self.said)
 
 
@@ -174,7 +173,7 @@ class Ldap:
 
     def __init__(self, port, client):
         self.client, self.ids = client, itertools.count(1)
-        self.socket = socket.create_connection(("127.0.0.1", port), timeout=20)
+        self.socket = socket.create_connection(("127.0.0.1", port), timeout=300)
 
     def asked(self, operation, out=lambda data: data, into=lambda data: data):
         """The parts of the answer to an operation."""
@@ -220,12 +219,7 @@ def ldap(realm):
             env={**env, "PATH": f"{os.environ['PATH']}:/usr/sbin"},
         )
     try:
-        for _ in range(200):
-            with socket.socket() as stream:
-                if stream.connect_ex(("127.0.0.1", port)) == 0:
-                    break
-            assert process.poll() is None, (folder / "slapd.log").read_text()
-            time.sleep(0.05)
+        assert kdc.wait_for(lambda: kdc.listens(port), process), (folder / "slapd.log").read_text()
         yield port
     finally:
         process.kill()

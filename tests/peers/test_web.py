@@ -11,6 +11,7 @@ ticket. gokrb5 looks at no answer token; nor does curl.
 """
 import base64
 import functools
+import http.client
 import os
 import re
 import subprocess
@@ -457,7 +458,17 @@ def test_page(web, clients, name):
 
 def test_two_rounds_in_one_connection(web, realm):
     """Another connection knows nothing of the first round."""
-    request = request_without_reply(realm)
+    for left in reversed(range(5)):
+        try:
+            in_two_rounds(web, request_without_reply(realm))
+            break
+        except (OSError, http.client.HTTPException):
+            # (the service ends a connection over which nothing has come for 30 seconds)
+            if not left:
+                raise
+
+
+def in_two_rounds(web, request):
     first = header_of(gss_rules.negotiation([gss_rules.KERBEROS], None))
     later = header_of(gss_rules.going_on(gss_rules.kerberos(gss_rules.KERBEROS, request)))
     one, other = web.service.connected(), web.service.connected()
@@ -478,4 +489,5 @@ def test_a_service_that_has_just_started(folder, realm, library):
         said = curl(World(folder, realm, service, None), service.port).stdout
         assert "HTTP/1.1 503 " in said and "\nRetry-After: 60" in said and "The site has just started" in said
         assert service.last() == "JUST_STARTED: the service has just started"
-    assert time.time() - began < SECONDS
+    # (after 300 seconds it would have been in use for long enough)
+    assert time.time() - began < 290

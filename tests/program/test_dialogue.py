@@ -8,7 +8,7 @@ import pytest
 
 from support import TESTS
 
-SECONDS = 30
+SECONDS = 300
 
 
 @pytest.fixture

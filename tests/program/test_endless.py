@@ -14,7 +14,7 @@ from support import EXAMPLES
 
 LIMIT = 16_777_216
 PIECE = bytes(64 * 1024)
-SECONDS = 60
+SECONDS = 300
 # How each kind of file begins: a hole, and a second ticket, that is longer than any file may be.
 KEYTAB = b"\x05\x02" + struct.pack(">i", -0x7fffffff)
 CACHE = (EXAMPLES / "client.ccache").read_bytes()

@@ -9,7 +9,7 @@ from support import exchange, model
 
 SEED = 1510
 SERVICES, CACHES = 100, 150
-SECONDS = 60
+SECONDS = 300
 
 
 def run(program, folder, file, words, given=""):

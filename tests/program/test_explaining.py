@@ -160,7 +160,7 @@ def spelled(data, spelling):
 def explained(program, text, *words):
     """What is printed of a text on standard input, and the exit status."""
     given = text if isinstance(text, bytes) else text.encode()
-    return subprocess.run([program, "explain", *words], input=given, capture_output=True, timeout=60)
+    return subprocess.run([program, "explain", *words], input=given, capture_output=True, timeout=300)
 
 
 @pytest.mark.parametrize("wrapping", WRAPPINGS)
@@ -350,7 +350,7 @@ def test_only(program, keytab, tmp_path):
     assert "keytab's entry: none, since the service doesn't have the name host/ftp@EX" in lines
     given = f"{second} 0 {text}\n".encode()
     words = [program, "accept", file, "--only", "host/web@EX"]
-    assert subprocess.run(words, input=given, capture_output=True, timeout=60).stdout == b"refused 35 NotUs\n"
+    assert subprocess.run(words, input=given, capture_output=True, timeout=300).stdout == b"refused 35 NotUs\n"
     ran = explained(program, text, "--keytab", file, "--at", str(second), "--only", "host/web")
     assert (ran.returncode, ran.stdout, ran.stderr) == (2, b"", b"krbtool: only: NoRealm\n")
 

@@ -159,7 +159,7 @@ def test_pipe(program, tmp_path):
     (tmp_path / "k").write_bytes(KEYTAB)
     os.mkfifo(tmp_path / "out")
     with subprocess.Popen(["cat", "out"], cwd=tmp_path, stdout=subprocess.PIPE) as reader:
-        ran = subprocess.run([program, *TO_OUT], cwd=tmp_path, capture_output=True, timeout=60)
+        ran = subprocess.run([program, *TO_OUT], cwd=tmp_path, capture_output=True, timeout=300)
         assert (ran.returncode, ran.stdout, ran.stderr, reader.communicate()[0]) == (0, b"", b"", REMOVED)
     assert stat.S_ISFIFO((tmp_path / "out").stat().st_mode)
 
@@ -244,7 +244,7 @@ def test_file_system(program, tmp_path, kind):
     (tmp_path / "k").write_bytes(drawn_files.added(KEYTAB, reference.record_of(LONG)))
     script = " && ".join([*mounting, '{ "$1" remove-key k 0 --out disk/out; echo $? >status; cp -a disk after; }'])
     words = ["unshare", "-m", "sh", "-c", script, "sh", program]
-    ran = subprocess.run(words, cwd=tmp_path, capture_output=True, timeout=60)
+    ran = subprocess.run(words, cwd=tmp_path, capture_output=True, timeout=300)
     assert (ran.returncode, ran.stdout, ran.stderr) == (0, b"", b"krbtool: disk/out: File\n")
     assert (tmp_path / "status").read_text() == "3\n"
     assert [it.name for it in (tmp_path / "after").iterdir()] == ["out"]
@@ -300,7 +300,7 @@ class Swept:
                 continue
             laid_out(room, self.files)
             inject = ["-e", f"trace={name}", "-e", f"inject={name}:{how}:when={number}"]
-            ran = subprocess.run([*TRACED, *inject, program, *words], cwd=room, capture_output=True, timeout=60)
+            ran = subprocess.run([*TRACED, *inject, program, *words], cwd=room, capture_output=True, timeout=300)
             self.runs.append((f"{name} {number}", ran, self.state(room)))
 
     def state(self, room):

@@ -18,7 +18,7 @@ SEED = 37
 WORLDS, LIVES = 2_000, 5
 # How many worlds a test looks at.
 GROUP = 250
-SECONDS = 60
+SECONDS = 300
 BASE = 1_700_000_000
 CLIENT, SERVICE = (b"EX", (b"alice",)), (b"EX", (b"host", b"web"))
 ETYPE, KEY, SESSION = 19, bytes(range(16)), bytes(range(16, 32))

@@ -60,7 +60,7 @@ class Ran:
         calls.write_text("")
         more = {"PATH": f"{room}/rt:{os.environ['PATH']}", "CALLS": str(calls)}
         how = {"input": "", **how} if "stdin" not in how else how
-        ran = subprocess.run([script or room / "krbtool", *words], cwd=folder or room, env={**os.environ, **more}, timeout=60,
+        ran = subprocess.run([script or room / "krbtool", *words], cwd=folder or room, env={**os.environ, **more}, timeout=300,
                              stdout=subprocess.PIPE, stderr=subprocess.PIPE, text=True, **how)
         self.status, self.out, self.said, self.calls = ran.returncode, ran.stdout, ran.stderr, calls.read_text().splitlines()
 
@@ -89,7 +89,7 @@ def test_stale_program(room, path):
 
 
 def test_source_gone(room):
-    written(room / "crates/krbtool/out/krbtool", PROGRAM, 0o755)
+    written(room / "crates/krbtool/out/krbtool", PROGRAM, 0o755, age=60)
     (room / "crates/krb_name/src/lib.rt").unlink()
     assert Ran(room, ["a"]).calls
 

@@ -3,6 +3,7 @@ import fevstunik
 import pytest
 
 from support import TOP
+from support.patience import let_stores_wait
 
 
 @pytest.fixture(scope="session", autouse=True)
@@ -16,3 +17,4 @@ def at_the_top(library, monkeypatch):
     monkeypatch.setenv("FEVSTUNIK_LIBRARY", str(library))
     monkeypatch.setenv("PYTHONPATH", str(TOP / "python"))
     monkeypatch.chdir(TOP)
+    let_stores_wait(monkeypatch)

@@ -114,7 +114,7 @@ TOOLS = {
     "gets none": "pass",
     "fails": "print('one line')\nraise SystemExit('kvno: Server not found\\x1b[31m')",
     "is silent": "raise SystemExit(3)",
-    "waits": "import time\ntime.sleep(60)",
+    "waits": "import time\ntime.sleep(3600)",
 }
 
 
@@ -138,7 +138,7 @@ def tool(home, monkeypatch, name, text):
 @pytest.mark.parametrize("name", ["kvno", "kgetcred"])
 def test_a_ticket_is_got(home, cache, monkeypatch, name):
     tool(home, monkeypatch, name, TOOLS["gets"])
-    again = cache.fetch("HTTP/localhost")
+    again = cache.fetch("HTTP/localhost", seconds=300)
     assert again.ticket_for("HTTP/localhost").server == "HTTP/localhost@EX"
     assert cache.ticket_for("HTTP/localhost") is None
     monkeypatch.setenv("PATH", "")
@@ -152,7 +152,7 @@ def test_a_ticket_is_got(home, cache, monkeypatch, name):
 def test_no_ticket_is_got(home, cache, monkeypatch, name, trouble, words):
     tool(home, monkeypatch, "kvno" if name else "other", TOOLS.get(name, ""))
     with pytest.raises(CacheError) as raised:
-        cache.fetch("HTTP/localhost", seconds=0.5 if name == "waits" else 30)
+        cache.fetch("HTTP/localhost", seconds=0.5 if name == "waits" else 300)
     assert raised.value.trouble == CacheTrouble[trouble] and words in str(raised.value)
 
 

@@ -2,7 +2,9 @@
 import asyncio
 import doctest
 import io
+import re
 import ssl
+import time
 
 import httpx
 import pytest
@@ -15,10 +17,12 @@ from fevstunik.clients import httpx as for_httpx
 from fevstunik.clients import requests as for_requests
 
 from support import http_service
-from support.http_service import CLIENT
+from support.http_service import AHEAD, CLIENT
 
 pytestmark = pytest.mark.packages
 HELLO = f"hello {CLIENT}, 0\n"
+# How long a client waits.
+SECONDS = 300
 
 
 class Requests:
@@ -30,7 +34,7 @@ class Requests:
         self.session.auth, self.session.verify, self.session.trust_env = self.auth, verify, False
 
     def ask(self, url, data=None, **words):
-        return self.session.request("GET" if data is None else "POST", url, data=data, timeout=20, **words)
+        return self.session.request("GET" if data is None else "POST", url, data=data, timeout=SECONDS, **words)
 
     def close(self):
         self.session.close()
@@ -42,7 +46,8 @@ class Httpx:
     def __init__(self, *words, verify=True, **more):
         self.auth = for_httpx.Negotiate(*words, **more)
         verify = ssl.create_default_context(cafile=verify) if isinstance(verify, str) else verify
-        self.words = {"auth": self.auth, "verify": verify, "trust_env": False, "follow_redirects": True, "timeout": 20}
+        self.words = {"auth": self.auth, "verify": verify, "trust_env": False, "follow_redirects": True,
+                      "timeout": SECONDS}
         self.session, self.errors = httpx.Client(**self.words), httpx.HTTPError
 
     def ask(self, url, data=None, **words):
@@ -168,9 +173,12 @@ def test_a_repeat_is_sent_once_more(made, service, page):
 
 def test_a_clock_is_adjusted(made, service):
     """If it is asked for; and it is known at the next request."""
+    began = time.monotonic()
     with fails(LoginTrouble.REFUSED, ServiceError) as raised:
         made().ask(f"{service.url}/ahead")
-    assert "its clock is 1000 seconds ahead" in str(raised.error)
+    # (as far as it is ahead when the client reads the answer, which may be later)
+    ahead = int(re.search(r"its clock is (\d+) seconds ahead", str(raised.error))[1])
+    assert AHEAD - 1 - (time.monotonic() - began) <= ahead <= AHEAD
     service.tokens.clear()
     client = made(adjust_clock=True)
     assert [client.ask(f"{service.url}/ahead").text for _ in range(2)] == [HELLO] * 2

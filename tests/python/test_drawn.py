@@ -4,14 +4,16 @@ import struct
 
 import pytest
 from fevstunik import CredentialCache, Fault, Keytab
-from hypothesis import given, settings, strategies as draw
+from hypothesis import HealthCheck, given, settings, strategies as draw
 
 from support import fixture, reference
 
 FAULTS = {"Version": "FILE_VERSION", "Truncated": "FILE_TRUNCATED", "BadEntry": "FILE_BAD_ITEM",
           "BadItem": "FILE_BAD_ITEM",
           "Header": "FILE_HEADER", "TooLong": "TOO_LONG"}
-SOME = settings(max_examples=200, deadline=None, database=None, print_blob=True)
+# (the same each time, and also on a slow machine)
+SOME = settings(max_examples=200, deadline=None, database=None, derandomize=True, print_blob=True,
+                suppress_health_check=[HealthCheck.too_slow])
 texts = draw.binary(max_size=6)
 entries = draw.fixed_dictionaries({
     "realm": texts, "components": draw.lists(texts, max_size=3), "name_type": draw.integers(-2**31, 2**31 - 1),

@@ -7,7 +7,7 @@ import threading
 from collections import Counter
 
 import pytest
-from hypothesis import given, settings, strategies as draw
+from hypothesis import HealthCheck, given, settings, strategies as draw
 
 from fevstunik import (
     Asked, Client, Code, Connection, CredentialCache, Fault, GoOn, Key, Keytab, KrbError, Login, Moment, Refused,
@@ -379,7 +379,9 @@ def test_memory_runs_out(service, monkeypatch, name):
 # ---------------------------------------------------------------- any bytes
 
 
-SOME = settings(max_examples=300, deadline=None, database=None, print_blob=True)
+# (the same each time, and also on a slow machine)
+SOME = settings(max_examples=300, deadline=None, database=None, derandomize=True, print_blob=True,
+                suppress_health_check=[HealthCheck.too_slow])
 requests = draw.builds(
     asking, draw.integers(0, 999_999), flags=draw.sampled_from([0, ANONYMOUS, TRANSITED_CHECKED]),
     realm=draw.sampled_from([b"EX", b"OTHER"]),

@@ -245,7 +245,7 @@ class SlowStore:
         self.goes_on = threading.Event()
 
     def add(self, stamp, keep_until):
-        assert self.goes_on.wait(30)
+        assert self.goes_on.wait(300)
         return True
 
 

@@ -4,6 +4,7 @@ import os
 import signal
 import threading
 from collections import Counter
+from types import SimpleNamespace
 
 from support import c_cases, fixture
 
@@ -88,7 +89,7 @@ def test_closed_while_it_is_used(sent):
 
 def test_each_request_has_a_moment_of_its_own(monkeypatch):
     """Also while the clock stands still: no request is refused as the repeat of another."""
-    monkeypatch.setattr("time.time_ns", lambda: AT * 1_000_000_000)
+    monkeypatch.setattr(_values, "time", SimpleNamespace(time_ns=lambda: AT * 1_000_000_000))
     with CredentialCache(fixture.cache()) as cache, Acceptor(Keytab(fixture.keytab()), SERVICE, first_life=True) as service:
         made = each_of(lambda _: range(EACH), lambda _: make_request(cache, SERVICE)[0])
         times = Counter(service.accept(request, AT).time for request in made)
@@ -100,7 +101,7 @@ def test_a_clock_that_is_set_back(monkeypatch):
     second = AT + 50
     nanoseconds = iter([second * 1_000_000_000, second * 1_000_000_000 - 500_000_000, (second - 60) * 1_000_000_000,
                         (second - 60) * 1_000_000_000 + 3_000])
-    monkeypatch.setattr("time.time_ns", lambda: next(nanoseconds))
+    monkeypatch.setattr(_values, "time", SimpleNamespace(time_ns=lambda: next(nanoseconds)))
     with CredentialCache(fixture.cache()) as cache, Acceptor(Keytab(fixture.keytab()), SERVICE, first_life=True) as service:
         times = [service.accept(make_request(cache, SERVICE)[0], AT).time for _ in range(4)]
     assert times == [Moment(second), Moment(second, 1), Moment(second - 60), Moment(second - 60, 3)]
@@ -111,7 +112,7 @@ def test_a_fork_while_a_thread_takes_a_moment():
     with _values._own_moments._lock:
         child = os.fork()
         if not child:
-            signal.alarm(10)
+            signal.alarm(300)
             _values._own_moments.next()
             os._exit(0)
     assert os.waitpid(child, 0)[1] == 0

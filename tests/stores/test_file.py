@@ -1,21 +1,23 @@
 """The store in a file to which stamps are appended: what becomes of it when it has grown, and what is refused. What it
 has in common with the store over SQLite is in test_files.py."""
-import os
 import random
 import resource
 import threading
 import time
 from collections import Counter
+from types import SimpleNamespace
 
 import pytest
 
 from fevstunik import Moment
 from fevstunik.stores import File, SQLite, StoreFailed, _file
 
+from support.descriptors import open_below
 from support.forked import in_processes
+from support.patience import PATIENT, least_seconds
 
-NOW = int(time.time())
-LATER, PAST = Moment(NOW + 3600, 7), Moment(1_700_000_000)
+# (a moment that no run of the tests reaches, however long ago this module was read)
+LATER, PAST = Moment(4_000_000_000, 7), Moment(1_700_000_000)
 
 
 @pytest.fixture
@@ -332,32 +334,33 @@ def no_room(*_):
 def test_another_thread_is_in_it(path):
     store = File(path, seconds=0.5)
     with store._own[1].lock:
-        began = time.monotonic()
-        with pytest.raises(StoreFailed, match="no answer in 0.5 seconds"):
-            store.add(b"a", LATER)
-        assert 0.4 < time.monotonic() - began < 5
+        assert 0.4 < least_seconds(lambda: gives_up(store, b"a"), 5) < 5
+    store._seconds = PATIENT
     assert store.add(b"a", LATER)
+
+
+def gives_up(store, stamp):
+    """A store that waits half a second waits for no longer."""
+    with pytest.raises(StoreFailed, match="no answer in 0.5 seconds"):
+        store.add(stamp, LATER)
 
 
 def test_another_process_has_locked_the_folder(path, small):
     """Nobody waits for it while the file isn't closed, and for no longer than was said if it is."""
-    store = File(path, seconds=0.5)
+    store, hasty = File(path), File(path, seconds=0.5)
     with _file.locked(path.parent, time.monotonic() + 1, RuntimeError):
         assert all_added(store, stamps(b"a", 100)) == stamps(b"a", 100)
         assert store.path.stat().st_size == _file._HEAD.size + 100 * _file._SIZE
         with open(store.path, "ab") as file:
             file.write(_file._CLOSED)
-        began = time.monotonic()
-        with pytest.raises(StoreFailed, match="no answer in 0.5"):
-            store.add(b"b", LATER)
-        assert 0.4 < time.monotonic() - began < 5
+        assert 0.4 < least_seconds(lambda: gives_up(hasty, b"b"), 5) < 5
     assert store.add(b"b", LATER) and not all_added(File(path), stamps(b"a", 100) + [b"b"])
 
 
 def test_an_answer_that_comes_too_late(path, monkeypatch):
-    store, ticks = File(path), iter([0.0, 2.1])
-    monkeypatch.setattr(_file.time, "monotonic", lambda: next(ticks))
-    with pytest.raises(StoreFailed, match="no answer"):
+    store, ticks = File(path, seconds=2), iter([0.0, 2.1])
+    monkeypatch.setattr(_file, "time", SimpleNamespace(monotonic=lambda: next(ticks)))
+    with pytest.raises(StoreFailed, match="no answer in 2 seconds"):
         store.add(b"a", LATER)
 
 
@@ -385,11 +388,11 @@ def test_a_child_of_a_store_that_was_made_again(path):
 
 def test_nothing_stays_open(path, small):
     """But the file that has the name."""
-    store, before = File(path), len(os.listdir("/proc/self/fd"))
+    store = File(path)
     assert len(all_added(store, stamps(b"a", 500))) == 500
-    assert len(os.listdir("/proc/self/fd")) == before
+    assert open_below(store.path.parent) == [str(store.path)]
     store.close()
-    assert len(os.listdir("/proc/self/fd")) == before - 1 and not store.add(b"a 1", LATER)
+    assert open_below(store.path.parent) == [] and not store.add(b"a 1", LATER)
 
 
 def test_threads_that_open_it_at_once(path):

@@ -23,6 +23,8 @@ pytestmark = [pytest.mark.packages, pytest.mark.slow]
 # How many requests there are while workers are killed, how many in a portion, and how many for the rest; how often each
 # is sent, by how many threads; and how often a worker is killed, or once in each portion.
 REQUESTS, PORTION, MORE, TIMES, THREADS, KILLS = int(os.environ.get("STORES_REQUESTS", "200")), 200, 120, 4, 8, 8
+# How long everybody waits for each other.
+SECONDS = 300
 APPLICATION = """
 import os
 from fevstunik import Keytab, Service
@@ -40,7 +42,7 @@ def application(environ, start_response):
 
 class Connection(http.client.HTTPConnection):
     def __init__(self, path):
-        super().__init__("localhost", timeout=60)
+        super().__init__("localhost", timeout=SECONDS)
         self.path = path
 
     def connect(self):
@@ -65,7 +67,7 @@ def gunicorn(folder, store):
     """The path of its socket."""
     (folder / "web.py").write_text(APPLICATION.format(top=TOP, store=store))
     words = [PYTHON, "-B", "-m", "gunicorn", "--workers", "4", "--bind", f"unix:{folder}/socket",
-             "--chdir", str(folder), "--backlog", "512", "web:application"]
+             "--chdir", str(folder), "--backlog", "512", "--timeout", str(SECONDS), "web:application"]
     with open(folder / "log", "wb") as log, subprocess.Popen(words, stdout=log, stderr=log) as process:
         try:
             store_servers.wait_for(lambda: sent(f"{folder}/socket", "00"), "gunicorn doesn't answer", process)
@@ -77,8 +79,9 @@ def gunicorn(folder, store):
 def named(store):
     """The store, as the application makes it."""
     if isinstance(store, store_servers.InAFile):
-        return f"{store.name}({str(store.path)!r}, boot=open({str(store.boot_file)!r}).read().strip(), seconds=20)"
-    return f"{store.name}({store.where!r}, seconds=20)"
+        return f"{store.name}({str(store.path)!r}, boot=open({str(store.boot_file)!r}).read().strip(), " \
+            f"seconds={SECONDS})"
+    return f"{store.name}({store.where!r}, seconds={SECONDS})"
 
 
 class Sender:
@@ -118,7 +121,7 @@ class Sender:
 
 
 def while_workers_are_killed(sender, path, cache):
-    """Returns the last requests."""
+    """Returns the last requests, and some that are let in after that."""
     answered, kills = set(), max(1, KILLS * PORTION // REQUESTS)
     for at in range(0, REQUESTS, PORTION):
         tokens = real_requests(cache, min(PORTION, REQUESTS - at))
@@ -127,7 +130,10 @@ def while_workers_are_killed(sender, path, cache):
         assert refused <= lost, "one wasn't let in, and no worker was killed over it"
         answered |= workers
     assert len(answered) > 4, f"{answered} answered"
-    return tokens
+    wait_for_workers(path)
+    young = real_requests(cache, MORE // 3)
+    sender.each_once(path, young)
+    return tokens, young
 
 
 def wait_for_workers(path):
@@ -136,20 +142,20 @@ def wait_for_workers(path):
     store_servers.wait_for(lambda: seen.add(sent(path, "00")) or len(seen - {None}) == 4, "a worker isn't there")
 
 
-def while_the_store_is_killed(sender, path, tokens, store):
-    broken, down, back = tokens[::3], tokens[1::3], tokens[2::3]
-    wait_for_workers(path)
-    sender.send(path, broken, midway=store.kill)
+def while_the_store_is_killed(sender, path, cache, store):
+    sender.send(path, real_requests(cache, MORE // 3), midway=store.kill)
     # (a worker knows again what it has accepted itself)
-    sender.none(path, down, "STORE_FAILED", "REPEAT")
+    sender.none(path, real_requests(cache, MORE // 3), "STORE_FAILED", "REPEAT")
     store.start()
-    sender.each_once(path, back)
+    sender.each_once(path, real_requests(cache, MORE // 3))
 
 
-def after_another_boot(sender, folder, store, old, cache):
+def after_another_boot(sender, folder, store, old, young, cache):
     store.boot()
     with gunicorn(folder, named(store)) as path:
-        sender.none(path, old, "JUST_STARTED")
+        sender.none(path, young, "JUST_STARTED")
+        # (these may be too old by now)
+        assert {*sender.send(path, old)[0]} <= {"JUST_STARTED", "SKEW"}
     store.age()
     with gunicorn(folder, named(store)) as path:
         sender.each_once(path, real_requests(cache, MORE))
@@ -167,7 +173,7 @@ def test_workers(at_the_top, tmp_path, kind):
         with gunicorn(tmp_path, named(store)) as path:
             last = while_workers_are_killed(sender, path, cache)
             if not issubclass(kind, store_servers.InAFile):
-                while_the_store_is_killed(sender, path, real_requests(cache, MORE), store)
+                while_the_store_is_killed(sender, path, cache, store)
         if issubclass(kind, store_servers.InAFile):
-            after_another_boot(sender, tmp_path, store, last, cache)
+            after_another_boot(sender, tmp_path, store, *last, cache)
     assert max(sender.let_in.values()) == 1, "a request was let in twice"

@@ -1,6 +1,7 @@
 """The stores of examples/service: they are those of Python, and refuse what those refuse; and answers that come too
 late."""
 import contextlib
+import itertools
 import os
 import sqlite3
 import subprocess
@@ -12,18 +13,28 @@ from fevstunik import Moment
 from fevstunik.stores import File, SQLite
 
 from support import c_programs, store_servers
-from support.instances import ACCEPTED, REPEAT, SERVICE, STORE, Served, real_requests
+from support.instances import (
+    ACCEPTED, REPEAT, SERVICE, STORE, Served, fresh_requests, once_it_answers, real_requests)
+from support.patience import least_seconds
 from support.store_servers import Proxy
 
 pytestmark = [pytest.mark.packages, pytest.mark.usefixtures("at_the_top")]
-LATER = Moment(int(time.time()) + 3600)
+# (a moment that no run of the tests reaches, however long ago this module was read)
+LATER = Moment(4_000_000_000)
+# How long a service waits for the store, and a test for a service, where that isn't tested.
+PATIENT = 300
 
 
 @pytest.fixture(scope="module")
-def requests(tmp_path_factory):
-    cache = tmp_path_factory.mktemp("cache") / "cache"
-    cache.write_bytes(c_programs.current_cache(int(time.time()) - 60))
-    return iter(real_requests(cache, 300))
+def cache(tmp_path_factory):
+    path = tmp_path_factory.mktemp("cache") / "cache"
+    path.write_bytes(c_programs.current_cache(int(time.time()) - 60))
+    return path
+
+
+@pytest.fixture(scope="module")
+def requests(cache):
+    return fresh_requests(cache)
 
 
 @pytest.fixture
@@ -34,7 +45,7 @@ def file(tmp_path):
 
 
 @contextlib.contextmanager
-def serving(program, store, wait=20, in_c=None, **more):
+def serving(program, store, wait=PATIENT, in_c=None, **more):
     service = Served([program, *SERVICE, in_c or store.in_c, wait], **store.env, **more)
     try:
         yield service
@@ -44,8 +55,8 @@ def serving(program, store, wait=20, in_c=None, **more):
 
 def refused(program, store, in_c=None, **more):
     """What a service says that doesn't start."""
-    words = [program, *SERVICE, "1", in_c or store.in_c]
-    ran = subprocess.run([str(it) for it in words], capture_output=True, text=True, timeout=60,
+    words = [program, *SERVICE, "1", in_c or store.in_c, PATIENT]
+    ran = subprocess.run([str(it) for it in words], capture_output=True, text=True, timeout=PATIENT,
                          env={**os.environ, **store.env, **more})
     assert ran.returncode == 2 and not ran.stdout
     return ran.stderr
@@ -61,10 +72,11 @@ def tables(path):
 
 def test_what_is_made(service_in_c, file):
     """What C makes is what Python makes."""
+    before = time.time()
     with serving(service_in_c, file) as service:
         assert service.port
         store = file.opened()
-        assert abs(store.remembers_from.seconds - time.time()) < 60 and store.largest_skew == 300
+        assert before - 1 < store.remembers_from.seconds <= time.time() and store.largest_skew == 300
         assert store.path.stat().st_mode & 0o777 == 0o600
         made = SQLite(file.folder / "other", boot="boot-1")
         squeezed = [[(*it[:2], " ".join(it[2].split())) for it in tables(path)] for path in (store.path, made.path)]
@@ -78,17 +90,20 @@ def test_the_other_kind_of_file(service_in_c, file):
     assert not other.add(b"a", LATER) and other.add(b"b", LATER)
 
 
-def test_a_larger_skew_of_the_store(service_in_c, file, requests):
+def test_a_larger_skew_of_the_store(service_in_c, file, cache):
     """Stamps are kept for the largest skew of all services, and the pause is longer."""
     SQLite(file.path, 1000, boot="boot-1")
     file.age()
     with contextlib.closing(sqlite3.connect(file.opened().path)) as base:
         base.execute("UPDATE store SET made = made - 1000000000")
         base.commit()
+        before = int(time.time())
+        request, = real_requests(cache, 1)
+        after = time.time()
         with serving(service_in_c, file) as service:
-            assert service.asked(next(requests)) == ACCEPTED
+            assert service.asked(request) == ACCEPTED
         until, = base.execute("SELECT keep_until FROM stamps").fetchone()
-    assert abs(until / 1e6 - (time.time() + 2000)) < 60
+    assert before - 1 <= until / 1e6 - 2000 <= after + 1
 
 
 def test_a_smaller_skew_of_the_store(service_in_c, file):
@@ -126,14 +141,17 @@ def test_a_file_that_was_removed(service_in_c, file, requests):
 def test_another_process_writes(service_in_c, file, requests):
     file.age()
     with serving(service_in_c, file, 1) as service:
-        request = next(requests)
-        assert service.asked(next(requests)) == ACCEPTED
+        assert once_it_answers(service, requests) == ACCEPTED
+        given = [next(requests) for _ in range(10)]
+
+        def gives_up():
+            assert service.asked(given.pop()) == STORE
+
         with contextlib.closing(sqlite3.connect(file.opened().path, isolation_level=None)) as base:
             base.execute("BEGIN IMMEDIATE")
-            began = time.monotonic()
-            assert service.asked(request) == STORE and 0.9 < time.monotonic() - began < 10
+            assert 0.9 < least_seconds(gives_up, 10) < 10
             base.execute("COMMIT")
-        assert service.asked(next(requests)) == ACCEPTED
+        assert once_it_answers(service, requests) == ACCEPTED
 
 
 def test_what_others_may_change(service_in_c, file):
@@ -193,12 +211,16 @@ def test_a_late_answer_is_never_used(service_in_c, redis, requests, tmp_path):
     proxy = Proxy(redis, tmp_path)
     hasty = serving(service_in_c, redis, 1, f"redis:{tmp_path}/redis.sock")
     with serving(service_in_c, redis) as other, hasty as service:
-        known, also_known, late, new = (next(requests) for _ in range(4))
+        known, also_known, late = (next(requests) for _ in range(3))
         assert [other.asked(it) for it in (known, also_known)] == [ACCEPTED] * 2
-        assert service.asked(next(requests)) == ACCEPTED
-        for slow, then, wanted in ((late, known, REPEAT), (also_known, new, ACCEPTED)):
-            proxy.seconds = 1.5
+        assert once_it_answers(service, requests) == ACCEPTED
+        taken = []
+        new = (taken.append(it) or it for it in requests)
+        for slow, then, wanted in ((late, itertools.repeat(known), REPEAT), (also_known, new, ACCEPTED)):
+            proxy.hold()
             assert service.asked(slow) == STORE
-            proxy.seconds = 0.0
-            assert service.asked(then) == wanted
-        assert [other.asked(it) for it in (late, new)] == [REPEAT] * 2
+            release = proxy.go_on()
+            assert once_it_answers(service, then) == wanted
+            release()
+            assert once_it_answers(service, then) == wanted
+        assert [other.asked(it) for it in (late, taken[-1])] == [REPEAT] * 2

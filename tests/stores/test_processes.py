@@ -20,17 +20,20 @@ from concurrent.futures import ThreadPoolExecutor
 import pytest
 
 from support import TESTS, TOP, c_programs, store_servers
-from support.instances import ACCEPTED, BATCH, EARLY, PYTHON, REPEAT, SERVICE, STORE, Instance, Served, real_requests
+from support.instances import (
+    ACCEPTED, BATCH, EARLY, PYTHON, REPEAT, SERVICE, STORE, Instance, Served, fresh_requests, once_it_answers,
+    real_requests)
+from support.patience import least_seconds
 
 pytestmark = [pytest.mark.packages, pytest.mark.slow]
-# How many requests there are in each phase, at most how many in a portion, and more for what comes after the phases.
-REQUESTS, PORTION, MORE = int(os.environ.get("STORES_REQUESTS", "240")), 240, 24
+# How many requests there are in each phase, and at most how many in a portion.
+REQUESTS, PORTION = int(os.environ.get("STORES_REQUESTS", "240")), 240
 # How often each process is killed in the second phase, or once in each portion.
 KILLS = 4
 # How long a process waits for the store while both run on a busy machine, and where that is tested; how long a portion
-# may take; and how long a process that is started again, which on a machine that does nothing else takes less than a
-# second. (A pause after the start would take 300.)
-PATIENT, IMPATIENT, SECONDS, STARTING = 20, 1, 120, 20
+# may take, whose requests are refused after 300 seconds; and how long a process that is started again, which on a
+# machine that does nothing else takes less than a second. (A pause after the start would take 300.)
+PATIENT, IMPATIENT, SECONDS, STARTING = 300, 1, 250, 20
 SKEW = ("refused", "SKEW")
 # Runs a program over the package whose boot is named by a file.
 WITH_BOOT = """
@@ -49,11 +52,11 @@ class Delivery:
     at the store.
 
     kills   how often each instance is killed, in the midst of its work
-    midway  what is called once, when an instance is in the midst of its work
+    midway  what is called once, when all instances are in the midst of their work: they wait for each other before
     """
 
     def __init__(self, rng, instances, requests, kills=0, midway=None):
-        self.requests, self.midway = requests, midway
+        self.requests, self.midway, self.together = requests, midway, threading.Barrier(len(instances))
         self.answers, self.killed_over, self.lock = [[] for _ in requests], set(), threading.Lock()
         self.count = Counter()
         order = rng.sample(range(len(requests)), len(requests))
@@ -76,6 +79,9 @@ class Delivery:
             if not order:
                 return
             batch, order = order[:BATCH], order[BATCH:]
+            is_midway = len(order) < len(self.requests) // 2 <= len(order) + len(batch)
+            if self.midway and is_midway:
+                self.together.wait(SECONDS)
             one.send(self.requests[at] for at in batch)
             if number in killed_at:
                 answers = one.killed(len(batch), min(before, len(batch)))
@@ -83,7 +89,7 @@ class Delivery:
                 self.killed_over.update(left[:one.at_once])
                 order = left + order
             else:
-                if len(order) < len(self.requests) // 2:
+                if is_midway:
                     self.meet()
                 answers = one.answers(len(batch))
                 if None in answers:
@@ -152,6 +158,9 @@ class Phases:
     def instances_killed(self):
         kills = max(1, KILLS * PORTION // REQUESTS)
         found = [self.delivered(it, kills=kills) for it in self.new(REQUESTS)]
+        # (if this process gets no processor, an instance may have done all its work when it is killed)
+        while not any(it.killed_over for it in found) and len(found) < 10 * REQUESTS / PORTION:
+            found += [self.delivered(it, kills=1) for it in self.new(min(REQUESTS, PORTION))]
         yield "while instances are killed, none is let in twice", self.none_twice()
         lost = {at for each in found for at in each.lost() - each.killed_over}
         yield "each is let in, unless an instance was killed over it", is_it(lost, set())
@@ -190,11 +199,13 @@ class Phases:
 
     def another_boot(self):
         """The machine is started again, and what was written before a power failure may be lost."""
+        older = portions(list(self.let_in))
+        last = real_requests(self.cache, REQUESTS // 4)
+        self.delivered(last)
         for one in self.instances:
             one.kill()
         self.store.boot()
         self.start_again()
-        *older, last = portions(list(self.let_in))
         refused = Counter({EARLY: len(last) * len(self.instances)})
         yield "after another boot, what may have been let in before it is refused", is_it(
             self.delivered(last).count, refused)
@@ -210,23 +221,15 @@ class Phases:
             one.start()
 
 
-def once_it_answers(instance, requests):
-    """What an instance says first that isn't that the store has failed. (A store on a busy machine may miss the time
-    limit once more.)"""
-    found = (instance.asked(it) for it in itertools.islice(requests, 5))
-    return next((it for it in found if it != STORE), STORE)
-
-
 def in_time(store, instance, requests):
     """A store that is stopped after an instance has connected to it."""
-    yield "an instance that has started", is_it(once_it_answers(instance, requests), ACCEPTED)
+    yield "an instance that has started", is_it(once_it_answers(instance, requests, starts=True), ACCEPTED)
     for when in ("at first", "later"):
+        given, found = [next(requests) for _ in range(10)], []
         store.signalled(signal.SIGSTOP)
-        began = time.monotonic()
-        found = instance.asked(next(requests))
-        took = time.monotonic() - began
+        took = least_seconds(lambda: found.append(instance.asked(given.pop())), IMPATIENT + 10)
         store.signalled(signal.SIGCONT)
-        yield f"a store that doesn't answer, {when}", is_it(found, STORE)
+        yield f"a store that doesn't answer, {when}", is_it(set(found), {STORE})
         yield "the refusal comes in time", None if IMPATIENT - 0.1 < took < IMPATIENT + 10 else f"after {took} seconds"
         yield f"a store that answers again, {when}", is_it(once_it_answers(instance, requests), ACCEPTED)
 
@@ -242,14 +245,19 @@ def too_late(store, instance, ahead, request):
     yield "an answer that comes too late", None if found in (STORE, SKEW, EARLY) else f"{found!r}"
 
 
-def started_again(instance, request):
+def started_again(instance, requests):
     """How long it takes until a process that was killed lets a new request in."""
-    instance.kill()
+    given, found = [next(requests) for _ in range(10)], []
+
+    def start_again():
+        instance.start()
+        found.append(instance.asked(given.pop()))
+        instance.kill()
+        instance.close()
+
     instance.close()
-    began = time.monotonic()
-    instance.start()
-    yield "a process that is started again lets a new request in", is_it(instance.asked(request), ACCEPTED)
-    took = time.monotonic() - began
+    took = least_seconds(start_again, STARTING)
+    yield "a process that is started again lets a new request in", is_it(set(found), {ACCEPTED})
     print(f"started again, and a request let in: {took:.2f} seconds")
     yield "and at once", None if took < STARTING else f"after {took} seconds"
 
@@ -271,8 +279,8 @@ def over(store, kinds, folder, library):
         for checks in (phases.once, phases.instances_killed, *more):
             yield from checks()
         for kind in dict.fromkeys(kinds):
-            given = iter(real_requests(folder / "cache", MORE))
-            yield from started_again(instance(kind, PATIENT), next(given))
+            given = fresh_requests(folder / "cache")
+            yield from started_again(instance(kind, PATIENT), given)
             if is_a_file:
                 continue
             yield from in_time(store, instance(kind, IMPATIENT), given)

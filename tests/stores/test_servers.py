@@ -1,5 +1,5 @@
 """Stores in servers, Redis and PostgreSQL: what they keep, what is refused by name, and answers that come too late."""
-import os
+import contextlib
 import time
 import uuid
 from concurrent.futures import ThreadPoolExecutor
@@ -12,10 +12,13 @@ from fevstunik import Moment
 from fevstunik.stores import PostgreSQL, Redis, Store, StoreFailed, UnsafeStore, _redis
 
 from support import store_servers
+from support.forked import in_processes
+from support.patience import PATIENT, least_seconds
 from support.store_servers import Proxy
 
 pytestmark = pytest.mark.packages
-LATER, PAST = Moment(int(time.time()) + 3600, 7), Moment(int(time.time()) - 1)
+# (the first is a moment that no run of the tests reaches, however long ago this module was read)
+LATER, PAST = Moment(4_000_000_000, 7), Moment(int(time.time()) - 1)
 KINDS = {"Redis": Redis, "PostgreSQL": PostgreSQL}
 
 
@@ -52,10 +55,7 @@ def test_threads_share_a_store(server):
 def test_a_store_after_a_fork(server):
     store, both, own = opened(server), named(), named()
     store.add(both, LATER)
-    child = os.fork()
-    if not child:
-        os._exit(40 + 2 * store.add(both, LATER) + store.add(own, LATER))
-    assert os.waitstatus_to_exitcode(os.waitpid(child, 0)[1]) == 41
+    assert in_processes(1, lambda _: [store.add(it, LATER) for it in (both, own)]) == [[False, True]]
     assert not store.add(own, LATER) and store.add(named(), LATER)
 
 
@@ -78,18 +78,32 @@ def test_old_stamps_are_forgotten(server):
 def test_an_answer_that_comes_too_late(server, tmp_path):
     """It isn't taken for the answer about the next stamp, nor about the same."""
     proxy = Proxy(server, tmp_path)
-    store, late, known = opened(server, where=proxy.where, seconds=1.5), named(), named()
+    store, late, known = opened(server, where=proxy.where), named(), named()
     assert store.add(known, LATER)
-    proxy.seconds = 4.5
-    began = time.monotonic()
-    with pytest.raises(StoreFailed, match="1.5 seconds|Timeout"):
-        store.add(late, LATER)
-    assert 1.4 < time.monotonic() - began < 4.4
-    proxy.seconds = 0.0
+    store.close()
+    store._seconds = 1.5
+    add_in_time(store, known)
+    proxy.hold()
+
+    def gives_up():
+        with pytest.raises(StoreFailed, match="1.5 seconds|Timeout"):
+            store.add(late, LATER)
+
+    assert 1.4 < least_seconds(gives_up, 4.4) < 4.4
+    release, store._seconds = proxy.go_on(), PATIENT
+    assert not store.add(known, LATER)
+    release()
     for _ in range(4):
         assert not store.add(known, LATER)
-        time.sleep(1)
+        time.sleep(0.2)
     assert not store.add(late, LATER) and store.add(named(), LATER)
+
+
+def add_in_time(store, stamp):
+    """Adds a stamp to a store that waits for a short time, and has a connection then."""
+    while not store._idle():
+        with contextlib.suppress(StoreFailed):
+            store.add(stamp, LATER)
 
 
 def test_a_server_that_ends(server):

@@ -2,7 +2,6 @@
 in test_files.py."""
 import contextlib
 import sqlite3
-import time
 
 import pytest
 
@@ -10,9 +9,10 @@ from fevstunik import Moment
 from fevstunik.stores import SQLite, StoreFailed
 
 from support.forked import in_processes
+from support.patience import PATIENT, least_seconds
 
-NOW = int(time.time())
-LATER, PAST = Moment(NOW + 3600, 7), Moment(1_700_000_000)
+# (a moment that no run of the tests reaches, however long ago this module was read)
+LATER, PAST = Moment(4_000_000_000, 7), Moment(1_700_000_000)
 
 
 @pytest.fixture
@@ -61,9 +61,9 @@ def test_old_stamps_are_forgotten(path):
 def test_old_stamps_after_many_that_are_kept(path):
     """Those that are kept are passed by, a portion at a time."""
     store = SQLite(path)
-    until = NOW * 1_000_000
+    until = LATER.seconds * 1_000_000
     with contextlib.closing(sqlite3.connect(store.path)) as base, base:
-        base.executemany("INSERT INTO stamps VALUES (?, ?)", [(b"a%03d" % it, 2 * until) for it in range(200)])
+        base.executemany("INSERT INTO stamps VALUES (?, ?)", [(b"a%03d" % it, until) for it in range(200)])
         base.executemany("INSERT INTO stamps VALUES (?, ?)", [(b"z%03d" % it, 1) for it in range(10)])
     for number in range(3 * 32 + 1):
         assert store.add(b"%d" % number + b"b" * 8, LATER)
@@ -93,13 +93,16 @@ def test_a_stamp_that_may_have_been_forgotten(path):
 def test_another_process_writes(path):
     """Nobody waits for it for longer than was said; then all is as before."""
     store = SQLite(path, seconds=0.5)
-    with contextlib.closing(sqlite3.connect(store.path, isolation_level=None)) as base:
-        base.execute("BEGIN IMMEDIATE")
-        began = time.monotonic()
+
+    def gives_up():
         with pytest.raises(StoreFailed, match="no answer in 0.5 seconds"):
             store.add(b"a", LATER)
-        assert 0.4 < time.monotonic() - began < 5
+
+    with contextlib.closing(sqlite3.connect(store.path, isolation_level=None)) as base:
+        base.execute("BEGIN IMMEDIATE")
+        assert 0.4 < least_seconds(gives_up, 5) < 5
         base.execute("COMMIT")
+        store._seconds = PATIENT
         assert store.add(b"a", LATER)
     for seconds in (0, -1, 3600, float("nan")):
         with pytest.raises(ValueError, match="seconds"):

@@ -44,6 +44,16 @@ class Browser:
         self.go_to(url)
         return self.address(), self.text().strip()
 
+    def page_with(self, url, text, before=""):
+        """Asks for a page until this text is seen there, and returns what is seen. A new profile of Chromium asks for
+        its first page before it knows at which hosts to log in: it then shows the page for those who haven't logged in,
+        which has the text `before`."""
+        until = time.monotonic() + SECONDS
+        while (found := self.page(url)[1]) != text and time.monotonic() < until:
+            assert before in found
+            time.sleep(0.2)
+        return found
+
     def text(self):
         return self.run("return document.body ? document.body.innerText : ''")
 

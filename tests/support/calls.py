@@ -28,7 +28,8 @@ from support import TESTS, TOP, exchange_made
 from support.checks import slug
 from support.exchange_made import SHOWN, shown
 
-SECONDS = 120
+# How long a program may take for all calls of a test.
+SECONDS = 1500
 
 # The program for whose cases messages are made.
 EXCHANGE = "krb_calls_exchange"

@@ -18,6 +18,9 @@ STORES = ("store", "sqlite_store", "redis_store")
 SOURCES = {"client": [TOP / "examples/service/client.c"],
            "service": [TOP / f"examples/service/{it}.c" for it in ("service", *STORES)]}
 LIBRARIES = ("-lsqlite3", "-lhiredis")
+# How long each side waits for the other. (By itself a client of the service has ten seconds.)
+SECONDS = 300
+DEFINED = ("-D_DEFAULT_SOURCE", "-pthread", f"-DSECONDS={SECONDS}")
 # What each side says of a repeat and of a ticket that the keytab doesn't open: our service its own code, the others RFC
 # 4120's.
 REPEAT, BENT_KEY = {"our": "FEVSTUNIK_REPEAT", "MIT's": 34}, {"our": "FEVSTUNIK_TICKET_INTEGRITY", "MIT's": 31}
@@ -56,8 +59,8 @@ def said(service, clients, env):
                                env=env)
     try:
         port = serving.stdout.readline().strip()
-        told = [kdc.ran([*client[:3], port, *client[3:]], seconds=60, env=env).splitlines() for client in clients]
-        lines = serving.communicate(timeout=60)[0].splitlines()
+        told = [kdc.ran([*client[:3], port, *client[3:]], seconds=SECONDS, env=env).splitlines() for client in clients]
+        lines = serving.communicate(timeout=SECONDS)[0].splitlines()
         return lines, [line for lines in told for line in lines]
     finally:
         serving.kill()

@@ -1,6 +1,7 @@
 """Instances of a service, in Python and in C, and requests for them."""
 import collections
 import contextlib
+import itertools
 import os
 import re
 import socket
@@ -92,9 +93,13 @@ class Served(Instance):
         super().__init__([*words[:3], 1_000_000, *words[3:]], **more)
 
     def start(self):
-        self.process = subprocess.Popen(self.words, stdout=subprocess.PIPE, stderr=subprocess.DEVNULL, text=True,
-                                        env=self.env)
-        self.peers, self.port = collections.deque(), self.process.stdout.readline().strip()
+        # (a store that has a second to answer may miss that as the service starts, and then it doesn't start)
+        for _ in range(10 if float(self.words[-1]) < 5 else 1):
+            self.process = subprocess.Popen(self.words, stdout=subprocess.PIPE, stderr=subprocess.DEVNULL, text=True,
+                                            env=self.env)
+            self.peers, self.port = collections.deque(), self.process.stdout.readline().strip()
+            if self.port:
+                break
         # (it would wait for somebody who reads what it prints)
         threading.Thread(target=drained, args=[self.process.stdout], daemon=True).start()
 
@@ -151,6 +156,27 @@ def made_requests(cache, count, library, ago=0):
     if ran.returncode:
         raise OSError(ran.stderr[-500:])
     return ran.stdout.split()
+
+
+def once_it_answers(instance, requests, starts=False):
+    """What an instance says first that isn't that the store has failed: if the store has a second to answer, it misses
+    that now and then on a busy machine. (An instance that starts ends then, and is started again.)"""
+    for it in itertools.islice(requests, 20):
+        with contextlib.suppress(BrokenPipeError):
+            found = instance.asked(it)
+            if found not in (STORE, None) or found is None and not starts:
+                return found
+        if starts and instance.process.poll() is not None:
+            instance.close()
+            instance.start()
+    return STORE
+
+
+def fresh_requests(cache):
+    """Requests of MIT krb5's client, one after another. Each is made less than a minute before it is taken."""
+    while True:
+        made, now = real_requests(cache, 40), time.monotonic()
+        yield from itertools.takewhile(lambda _: time.monotonic() - now < 60, made)
 
 
 def real_requests(cache, count):

@@ -4,6 +4,7 @@ own.
 What is installed on the machine isn't configured, and nothing outside the folder is written.
 """
 import os
+import random
 import socket
 import subprocess
 import tempfile
@@ -13,13 +14,17 @@ from pathlib import Path
 PASSWORD = "a password that opens nothing"
 # What can't be installed beside MIT krb5's, and is unpacked instead.
 UNPACKED = ["heimdal-clients", "heimdal-kdc"]
+# How long a command may take, and a server until it listens: much longer than they do on a busy machine.
+SECONDS = 600
+# The system gives none of these ports to those who ask for any (/proc/sys/net/ipv4/ip_local_port_range).
+PORTS = range(20_000, 32_000)
 
 
 class Trouble(Exception):
     """Something that no case asks for: the run is over."""
 
 
-def done(command, seconds=120, **more):
+def done(command, seconds=SECONDS, **more):
     """A command that was run to its end: its status and what it wrote."""
     try:
         return subprocess.run([str(word) for word in command], stdout=subprocess.PIPE, stderr=subprocess.PIPE,
@@ -28,7 +33,7 @@ def done(command, seconds=120, **more):
         raise Trouble(str(error)) from None
 
 
-def ran(command, seconds=120, **more):
+def ran(command, seconds=SECONDS, **more):
     """Standard output of a command that ended well; else what it said is raised."""
     it = done(command, seconds, **more)
     if it.returncode:
@@ -48,17 +53,41 @@ def heimdal_programs(folder):
     return folder
 
 
+# Sockets whose names have the numbers of ports that this process has taken.
+taken = []
+
+
 def free_port():
-    """A port of 127.0.0.1 that is free for both protocols now."""
-    for _ in range(100):
-        with socket.socket(type=socket.SOCK_STREAM) as stream, socket.socket(type=socket.SOCK_DGRAM) as datagrams:
-            stream.bind(("127.0.0.1", 0))
-            try:
-                datagrams.bind(stream.getsockname())
-            except OSError:
-                continue
-            return stream.getsockname()[1]
+    """A port of 127.0.0.1 that is free for both protocols now, and that no other process of tests takes as long as this
+    one lives: a server may begin to listen much later."""
+    for port in random.SystemRandom().sample(PORTS, 1_000):
+        mark = socket.socket(socket.AF_UNIX)
+        try:
+            mark.bind(f"\0fevstunik-tests-port-{port}")
+            for kind in (socket.SOCK_STREAM, socket.SOCK_DGRAM):
+                with socket.socket(type=kind) as tried:
+                    tried.bind(("127.0.0.1", port))
+        except OSError:
+            mark.close()
+            continue
+        taken.append(mark)
+        return port
     raise Trouble("no free port")
+
+
+def wait_for(is_so, process, seconds=SECONDS):
+    """Waits until something is so, which a process is to bring about. Whether it is."""
+    last = time.monotonic() + seconds
+    while not (so := is_so()) and process.poll() is None and time.monotonic() < last:
+        time.sleep(0.05)
+    return so
+
+
+def listens(place):
+    """Whether somebody listens on a port of this machine, or on a Unix socket."""
+    is_port = isinstance(place, int)
+    with socket.socket(socket.AF_INET if is_port else socket.AF_UNIX) as stream:
+        return stream.connect_ex(("127.0.0.1", place) if is_port else str(place)) == 0
 
 
 class Process:
@@ -70,15 +99,9 @@ class Process:
             self.process = subprocess.Popen([str(word) for word in command], stdin=subprocess.DEVNULL, stdout=out,
                                             stderr=out, env=env)
 
-    def wait_for(self, port):
-        for _ in range(600):
-            if self.process.poll() is not None:
-                break
-            with socket.socket() as stream:
-                if stream.connect_ex(("127.0.0.1", port)) == 0:
-                    return
-            time.sleep(0.05)
-        raise Trouble(f"no KDC at port {port}: {self.log.read_text(errors='replace')[-600:]!r}")
+    def wait_for(self, place):
+        if not wait_for(lambda: listens(place), self.process):
+            raise Trouble(f"nobody listens at {place}: {self.log.read_text(errors='replace')[-600:]!r}")
 
     def stop(self):
         self.process.terminate()

@@ -36,6 +36,7 @@ from support import TESTS, TOP
 WORDS = """name args folders files set links umask stdin output closed descriptors status stdout stdout_begins
     stdout_holds stderr stderr_begins after modes gone left"""
 KEYS = set(WORDS.split())
+SECONDS = 300
 
 
 def content(text):
@@ -121,10 +122,10 @@ def run(program, case):
             command = ["sh", "-c", f'exec {closing}; {limit}exec "$@"', "sh", *command]
         umask = int(case.get("umask", "022"), 8)
         try:
-            ran = subprocess.run(command, cwd=room, input=given, stdout=out, stderr=subprocess.PIPE, timeout=60,
+            ran = subprocess.run(command, cwd=room, input=given, stdout=out, stderr=subprocess.PIPE, timeout=SECONDS,
                                  umask=umask)
         except subprocess.TimeoutExpired:
-            return "it did not end within 60 seconds"
+            return f"it did not end within {SECONDS} seconds"
         ran.stdout = ran.stdout or b""
         return difference(case, ran, room)
 

@@ -104,13 +104,19 @@ class Installed:
         return {service: self.run(*program, KEYTAB, service, REQUEST).stdout.strip() for service in ANSWERS}
 
 
+def of_tests(folder, names):
+    """What tests keep in the folder of what is built: it isn't packed, and changes while they run."""
+    kept = ("pytest", "heimdal", "pictures", ".lock", "tmp")
+    return [it for it in names if it.startswith(kept)] if Path(folder) == ROOT / "build" else []
+
+
 def copied(room, built=True):
     """A copy of the repository, with what was built unless it is to be left out: packing there leaves no file here."""
     for name in tracked():
         (room / name).parent.mkdir(parents=True, exist_ok=True)
         shutil.copy2(ROOT / name, room / name)
     if built:
-        shutil.copytree(ROOT / "build", room / "build", symlinks=True, ignore=lambda _, names: {"pytest", ".lock"} & set(names))
+        shutil.copytree(ROOT / "build", room / "build", symlinks=True, ignore=of_tests)
     return room
 
 

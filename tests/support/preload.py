@@ -16,7 +16,7 @@ OLD = b"what OUT held"
 ALL = 1_000_000
 # How many times the words are collected: where room for all words at once is refused, std asks again as it goes.
 PASSED_OVER = 2
-SECONDS = 60
+SECONDS = 300
 TAILS = ("--service", "host/web@EX")
 CONFOUNDER = bytes(range(0x20, 0x30)).hex()
 # A key that no hole of the examples is long enough for.

@@ -34,7 +34,7 @@ class Root:
     def run(self, *words):
         env = {"PATH": "/usr/sbin:/usr/bin:/sbin:/bin", "LC_ALL": "C.UTF-8", "DEBIAN_FRONTEND": "noninteractive", "HOME": "/root",
                "PYTHONDONTWRITEBYTECODE": "1"}
-        return subprocess.run(["chroot", self.folder, *map(str, words)], capture_output=True, text=True, env=env, timeout=300)
+        return subprocess.run(["chroot", self.folder, *map(str, words)], capture_output=True, text=True, env=env, timeout=1200)
 
     def shell(self, script, *words):
         """Runs a script in /home/work."""

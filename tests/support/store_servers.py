@@ -24,7 +24,8 @@ from fevstunik.stores import File, PostgreSQL, SQLite, _file
 
 from support import TOP
 
-SECONDS, AGE = 60, 1000
+# How long a server may take to start or to answer on a busy machine; and how old a store becomes by `age`.
+SECONDS, AGE = 300, 1000
 
 
 def statements():
@@ -209,6 +210,8 @@ class Postgres(Server):
         """Signals each process that the server started, and the server, which is stopped before, so that it starts no
         more."""
         self.process.send_signal(signal.SIGSTOP)
+        state = Path(f"/proc/{self.process.pid}/stat")
+        wait_for(lambda: state.read_text().rpartition(")")[2].split()[0] in "TZ", "postgres doesn't stop")
         started = Path(f"/proc/{self.process.pid}/task/{self.process.pid}/children").read_text().split()
         for it in started:
             with contextlib.suppress(ProcessLookupError):
@@ -223,11 +226,14 @@ class Postgres(Server):
 
 
 class Proxy:
-    """Hands on what a server says, after so many seconds."""
+    """Hands on what a server says: at once, or held back from `hold` on until `release`. What comes after `go_on` is
+    handed on at once again, though what was held before stays so."""
 
     def __init__(self, server, folder):
         name = server.socket.name if server.name == "Redis" else ".s.PGSQL.5432"
-        self.seconds, self.to = 0.0, str(server.folder / name)
+        self.to, self.holds = str(server.folder / name), threading.Event()
+        self.at_once = self.gate = threading.Event()
+        self.at_once.set()
         self.where = server.where.replace(str(server.folder), str(folder))
         self.listening = socket.socket(socket.AF_UNIX)
         self.listening.bind(str(folder / name))
@@ -238,14 +244,26 @@ class Proxy:
         while True:
             client, server = self.listening.accept()[0], socket.socket(socket.AF_UNIX)
             server.connect(self.to)
-            for words in ((client, server, lambda: 0.0), (server, client, lambda: self.seconds)):
+            for words in ((client, server, lambda: self.at_once), (server, client, lambda: self.gate)):
                 threading.Thread(target=self.hand_on, args=words, daemon=True).start()
 
-    @staticmethod
-    def hand_on(source, to, seconds):
+    def hold(self):
+        self.holds.clear()
+        self.gate = threading.Event()
+
+    def go_on(self):
+        """Waits until something is held, and hands on what comes from now on. Returns what releases what is held."""
+        assert self.holds.wait(SECONDS), "the server says nothing"
+        held, self.gate = self.gate, self.at_once
+        return held.set
+
+    def hand_on(self, source, to, gate):
         try:
             while data := source.recv(65536):
-                time.sleep(seconds())
+                passed = gate()
+                if not passed.is_set():
+                    self.holds.set()
+                    passed.wait()
                 to.sendall(data)
             to.shutdown(socket.SHUT_RDWR)
         except OSError:

@@ -4,7 +4,7 @@ import os
 import ssl
 import subprocess
 
-from support import TOP, kdc, web
+from support import TOP, kdc, web, web_servers
 
 SITE = (TOP / "examples/negotiate/nginx.conf").read_text()
 CONTEXT = ssl.SSLContext(ssl.PROTOCOL_TLS_CLIENT)
@@ -23,6 +23,7 @@ http {{
     fastcgi_temp_path {folder}/fastcgi;
     uwsgi_temp_path {folder}/uwsgi;
     scgi_temp_path {folder}/scgi;
+    {patience}
     include {folder}/site.conf;
     server {{
         listen 127.0.0.1:{application};
@@ -47,20 +48,22 @@ class Nginx:
         for old, new in (("listen 80;", f"listen 127.0.0.1:{plain};"),
                          ("listen 443 ", f"listen 127.0.0.1:{self.port} "),
                          ("127.0.0.1:9000", f"127.0.0.1:{application}"),
+                         ("proxy_read_timeout 10s;", f"proxy_read_timeout {web_servers.SECONDS}s;"),
                          ("/etc/ssl/www.example.com.pem", f"{folder}/tls.pem"),
                          ("/etc/ssl/private/www.example.com.key", f"{folder}/tls.key"),
                          ("/run/fevstunik-web/socket", f"{folder}/socket")):
             assert old in site
             site = site.replace(old, new)
         (folder / "site.conf").write_text(site)
-        (folder / "nginx.conf").write_text(MAIN.format(folder=folder, application=application))
+        (folder / "nginx.conf").write_text(MAIN.format(folder=folder, application=application,
+                                                       patience=web_servers.PATIENCE))
         self.plain = plain
         words = ["/usr/sbin/nginx", "-p", folder, "-e", folder / "nginx.log", "-c", folder / "nginx.conf"]
         self.process = kdc.Process(words, folder / "nginx.out", os.environ)
         self.process.wait_for(self.port)
 
     def connection(self):
-        return http.client.HTTPSConnection("127.0.0.1", self.port, timeout=30, context=CONTEXT)
+        return http.client.HTTPSConnection("127.0.0.1", self.port, timeout=web_servers.SECONDS, context=CONTEXT)
 
     def ask(self, method="GET", path="/", token=None, headers=None, body=None):
         more = {} if token is None else {"Authorization": web.negotiate(token)}

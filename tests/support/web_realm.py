@@ -15,7 +15,8 @@ REALM, SERVICE, OTHER = "WEB.TEST", "HTTP/localhost", "HTTP/other.test"
 OTHER_HOST, ADDRESS = "www.localhost", "127.0.0.1"
 ALICE = f"alice@{REALM}"
 PYTHON = "/usr/bin/python3"
-SECONDS = 60
+# How long a client waits, and how long ago at most tickets were issued that are made to seem valid for longer.
+SECONDS, ISSUED = 300, 3_600
 # How far a clock is wrong that is refused, and how far both are ahead when a ticket of ten hours has expired.
 WRONG, LATER = 3_600, 39_600
 EXAMPLE = TOP / "examples/negotiate/serve.py"
@@ -49,7 +50,7 @@ def valid_for_longer(cache):
     now, cache = int(time.time()), bytearray(cache)
     for at in range(len(cache) - 12):
         begins, starts, ends = struct.unpack_from(">3I", cache, at)
-        if begins <= starts <= now and now - begins < SECONDS and 0 < ends - now <= 36_000:
+        if begins <= starts <= now and now - begins < ISSUED and 0 < ends - now <= 36_000:
             struct.pack_into(">I", cache, at + 8, ends + 86_400)
     return bytes(cache)
 

@@ -5,15 +5,20 @@ import json
 import os
 import socket
 import sys
-import time
 
 from support import TESTS, TOP, kdc, web
 from support.web import Answer
 
-SECONDS = 30
-GUNICORN = [sys.executable, "-m", "gunicorn", "--log-level", "warning", "--limit-request-field_size", "0"]
+# How long a client waits. The servers are told to wait as long for a process that gets no processor.
+SECONDS = 300
+GUNICORN = [sys.executable, "-m", "gunicorn", "--log-level", "warning", "--limit-request-field_size", "0", "--timeout",
+            str(SECONDS)]
 UWSGI = ["uwsgi", "--plugin", "python3", "--master", "--die-on-term", "--need-app", "--disable-logging",
-         "--buffer-size", "65535", "--listen", "1024"]
+         "--buffer-size", "65535", "--listen", "1024", "--socket-timeout", str(SECONDS)]
+# The same for nginx.
+PATIENCE = "\n    ".join(f"{it} {SECONDS}s;" for it in (
+    "client_header_timeout", "client_body_timeout", "send_timeout", "keepalive_timeout", "proxy_connect_timeout",
+    "proxy_send_timeout", "proxy_read_timeout", "uwsgi_connect_timeout", "uwsgi_send_timeout", "uwsgi_read_timeout"))
 # nginx with TLS left out, in front of an application that has a port of its own.
 NGINX = """
 user root;
@@ -29,6 +34,7 @@ http {{
     fastcgi_temp_path {folder}/fastcgi;
     uwsgi_temp_path {folder}/uwsgi;
     scgi_temp_path {folder}/scgi;
+    {patience}
     server {{
         listen 127.0.0.1:{port} backlog=1024;
 {lines}
@@ -48,26 +54,15 @@ class Server:
         self.port, self.path, self.log = port, socket_path, folder / "server.log"
         self.process = kdc.Process(command, self.log, env)
         self.front = kdc.Process(front, folder / "front.log", env) if front else None
-        if not port:
-            self.wait_for(self.path)
-            return
+        self.wait_for(self.port or self.path)
+
+    def wait_for(self, place):
+        """Waits for a port or a Unix socket, or stops it all."""
         try:
-            (self.front or self.process).wait_for(port)
+            (self.front if self.front and place == self.port else self.process).wait_for(place)
         except kdc.Trouble:
             self.__exit__()
             raise
-
-    def wait_for(self, path):
-        """Waits for a Unix socket, or stops it all."""
-        for _ in range(600):
-            if self.process.process.poll() is not None:
-                break
-            with socket.socket(socket.AF_UNIX) as stream:
-                if stream.connect_ex(str(path)) == 0:
-                    return
-            time.sleep(0.05)
-        self.__exit__()
-        raise kdc.Trouble(self.log.read_text())
 
     def __enter__(self):
         return self
@@ -122,7 +117,7 @@ def uvicorn(folder, app, *words, **terms):
 
 def nginx(folder, port, lines):
     """The command of nginx with these lines for its server."""
-    (folder / "nginx.conf").write_text(NGINX.format(folder=folder, port=port, lines=lines))
+    (folder / "nginx.conf").write_text(NGINX.format(folder=folder, port=port, lines=lines, patience=PATIENCE))
     return ["/usr/sbin/nginx", "-p", folder, "-e", folder / "nginx.log", "-c", folder / "nginx.conf"]
 
 

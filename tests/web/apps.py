@@ -6,13 +6,19 @@ and other paths are 404.
 import json
 import os
 
+from fevstunik.stores import File
 from fevstunik.web import Negotiate, Sessions
+
+# How long the store is waited for: a process may get no processor for a while.
+SECONDS = 300
 
 
 def made():
     terms = json.loads(os.environ["WEB_TERMS"])
     if "sessions" in terms:
         terms["sessions"] = Sessions(**terms["sessions"])
+    if "store" in terms:
+        terms["store"] = File(terms["store"], seconds=SECONDS)
     return Negotiate(**terms)
 
 

@@ -4,6 +4,7 @@ import pytest
 
 from fevstunik.web import Negotiate
 from support import TOP, fixture, web
+from support.patience import PATIENT, let_stores_wait
 
 
 @pytest.fixture(scope="session", autouse=True)
@@ -17,6 +18,9 @@ def at_the_top(library, monkeypatch):
     monkeypatch.setenv("FEVSTUNIK_LIBRARY", str(library))
     monkeypatch.setenv("PYTHONPATH", str(TOP / "python"))
     monkeypatch.chdir(TOP)
+    let_stores_wait(monkeypatch)
+    # (the same for a client whose negotiation goes on; it has a minute)
+    monkeypatch.setattr("fevstunik.web._serving._PATIENCE", PATIENT)
 
 
 @pytest.fixture

@@ -2,6 +2,7 @@
 import inspect
 import re
 import shlex
+from collections import Counter
 
 import pytest
 
@@ -10,6 +11,8 @@ from support import TOP, kdc, web, web_servers
 
 pytestmark = [pytest.mark.packages, pytest.mark.slow, pytest.mark.xdist_group("web-documents")]
 TEXT = (TOP / "docs/WEB.md").read_text()
+# What lets a server wait for a process that gets no processor.
+PATIENT = {"gunicorn": ["--timeout", str(web_servers.SECONDS)]}
 
 
 def page(title, *kinds):
@@ -41,7 +44,7 @@ def test_from_nothing_to_a_login(tmp_path, monkeypatch, keytab, title, greeting)
     write_app(tmp_path, keytab, title)
     command, = page(title, "sh")
     port = kdc.free_port()
-    words = shlex.split(command.replace("8000", str(port)))
+    words = [*shlex.split(command.replace("8000", str(port))), *PATIENT.get(title, [])]
     monkeypatch.chdir(tmp_path)
     with web_servers.Server(tmp_path, ["/usr/bin/python3", "-m", *words], port) as server:
         greets(server, greeting)
@@ -73,15 +76,20 @@ def test_the_service_over_several_processes(tmp_path, monkeypatch, keytab):
     (tmp_path / "web.toml").write_text(f'keytab = "{keytab}"\nservice = "{web.NAME}"\nfirst_life = true\n'
                                        f'store = "{tmp_path}/run/stamps"\n')
     words = shlex.split(command.replace("/run/fevstunik-web", str(tmp_path)).replace("/etc/fevstunik", str(tmp_path)))
+    words += PATIENT["gunicorn"]
     monkeypatch.chdir(tmp_path)
-    tokens = [web.token() for _ in range(10)]
-    for already in (False, True):
+    tokens, let_in = [web.token() for _ in range(10)], Counter()
+    in_time = set(tokens)
+    for _ in range(2):
         with web_servers.Server(tmp_path, ["/usr/bin/python3", "-m", *words], None, tmp_path / "socket") as server:
-            answers = [server.ask(token=it) for _ in range(4) for it in tokens]
-            let_in = [it for it in answers if it.status == 200]
-            assert len(let_in) == (0 if already else 10) and {it.status for it in answers} <= {200, 401}
-            assert all(it.one("Remote-User") == "alice@EX" and it.token for it in let_in)
-            assert server.ask(token=web.token()).status == 200
+            asked = [(it, server.ask(token=it)) for _ in range(4) for it in tokens]
+            assert {it.status for _, it in asked} <= {200, 401, 503}
+            assert all(it.one("Remote-User") == "alice@EX" and it.token for _, it in asked if it.status == 200)
+            let_in.update(it for it, answer in asked if answer.status == 200)
+            # (the store has two seconds: a worker that gets no processor for so long lets nobody in)
+            in_time -= {it for it, answer in asked if answer.status == 503}
+            assert in_time and in_time <= set(let_in) and set(let_in.values()) == {1}
+            assert 200 in (server.ask(token=web.token()).status for _ in range(5))
 
 
 def test_terms():

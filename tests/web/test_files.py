@@ -1,14 +1,15 @@
 """A keytab that changes while the service runs, the moment at which the service is made, and what is logged."""
 import logging
-import multiprocessing
 import os
+from types import SimpleNamespace
 
 import pytest
 
 from fevstunik import Fault
 from fevstunik.stores import StoreFailed
-from fevstunik.web import Users
+from fevstunik.web import Users, _files
 from support import fixture, web
+from support.forked import in_processes
 from support.web import negotiate, token
 
 NEW_KEYS = ((3, 19, fixture.SERVICE_KEY), (4, 19, fixture.SERVICE_KEY))
@@ -48,11 +49,19 @@ def test_an_old_key_is_dropped(made, keytab, monkeypatch):
 
 
 def test_the_file_is_looked_at_once_a_second(made, keytab, monkeypatch):
-    looks, stat = [], os.stat
-    monkeypatch.setattr("fevstunik.web._files.os.stat", lambda path: looks.append(path) or stat(path))
+    looks, stat, now = [], os.stat, [100.0]
+
+    def looked_at(path, *words, **more):
+        looks.extend([path] if path == str(keytab) else [])
+        return stat(path, *words, **more)
+
+    monkeypatch.setattr("fevstunik.web._files.os.stat", looked_at)
+    monkeypatch.setattr(_files, "time", SimpleNamespace(monotonic=lambda: now[0]))
     ask = web.by_wsgi(made())
-    assert [asked(ask) for _ in range(5)] == [200] * 5 and len(looks) == 1
-    assert asked(ask, kvno=9) == 401 and len(looks) == 2
+    for at, count in ((100.0, 1), (100.9, 1), (101.1, 2), (102.0, 2)):
+        now[0] = at
+        assert [asked(ask) for _ in range(5)] == [200] * 5 and len(looks) == count
+    assert asked(ask, kvno=9) == 401 and len(looks) == 3
 
 
 @pytest.mark.parametrize("spoil", [
@@ -121,13 +130,8 @@ def test_why_a_store_fails_is_logged(made, tmp_path, caplog):
 def test_a_fork(made):
     """The service belongs to a process: made before the fork, it serves in parent and child."""
     ask = web.by_wsgi(made())
-    children = multiprocessing.get_context("fork")
     for _ in range(2):
-        queue = children.Queue()
-        child = children.Process(target=lambda: queue.put(asked(ask)))
-        child.start()
-        assert queue.get(timeout=30) == 200
-        child.join()
+        assert in_processes(1, lambda _: asked(ask)) == [200]
         assert asked(ask) == 200
 
 

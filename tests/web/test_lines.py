@@ -1,7 +1,6 @@
 """The log in a file: its lines are those of logging, whoever writes them."""
 import io
 import logging
-import os
 import re
 import resource
 import sys
@@ -13,6 +12,7 @@ from fevstunik.web import LogFile
 from fevstunik.web._events import Event, Events
 from fevstunik.web._users import User
 
+from support.descriptors import open_below
 from support.forked import in_processes
 
 ALICE = User("alice", "alice@EX", "EX", ("alice",), 0)
@@ -202,9 +202,8 @@ def test_standard_error(logger, capfd):
 
 
 def test_it_is_closed(path):
-    before = len(os.listdir("/proc/self/fd"))
     handler = LogFile(path)
-    assert len(os.listdir("/proc/self/fd")) == before + 1
+    assert open_below(path.parent) == [str(path)]
     for _ in range(2):
         handler.close()
-        assert len(os.listdir("/proc/self/fd")) == before
+        assert open_below(path.parent) == []

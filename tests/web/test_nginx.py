@@ -172,12 +172,12 @@ def test_nobody_gets_another_ones_answer(site, name):
 def test_over_http_2(site, folder):
     command = ["curl", "-sSki", "--http2", "-H", f"Authorization: {web.negotiate(web.token())}", "--connect-to",
                f"www.example.com:443:127.0.0.1:{site.port}", "https://www.example.com/"]
-    said = subprocess.run(command, capture_output=True, text=True, timeout=60).stdout
+    said = subprocess.run(command, capture_output=True, text=True, timeout=web_servers.SECONDS).stdout
     assert said.startswith("HTTP/2 200") and "www-authenticate: Negotiate o" in said and "user 'alice'" in said
 
 
 def test_plain_http_is_sent_on(site):
-    connection = http.client.HTTPConnection("127.0.0.1", site.plain, timeout=30)
+    connection = http.client.HTTPConnection("127.0.0.1", site.plain, timeout=web_servers.SECONDS)
     connection.request("GET", "/a?b", headers={"Host": "www.example.com", "Authorization": "Negotiate YQ=="})
     answer = connection.getresponse()
     assert (answer.status, answer.getheader("Location")) == (301, "https://www.example.com/a?b")
@@ -228,7 +228,7 @@ def curl(folder, tmp_path_factory):
     def asked(user, version):
         env = realm.environment("default", KRB5CCNAME=str(realm.folder / f"{user}.ccache"))
         url = f"https://localhost:{site.port}/"
-        return kdc.done(["curl", "-sSki", version, "--negotiate", "-u", ":", url], seconds=30, env=env).stdout
+        return kdc.done(["curl", "-sSki", version, "--negotiate", "-u", ":", url], env=env).stdout
     with service(other, keytab=keytab, name=f"{web_realm.SERVICE}@{web_realm.REALM}"):
         yield asked
     site.process.stop()
@@ -274,7 +274,7 @@ def test_a_file_in_the_place_of_the_socket_stays(tmp_path, keytab):
     (tmp_path / "web.toml").write_text('keytab = "web.keytab"\nservice = "host/web@EX"\n')
     (tmp_path / "socket").write_text("kept")
     command = [sys.executable, "-m", "fevstunik.web", "--config", "web.toml", "--socket", "socket"]
-    ran = subprocess.run(command, capture_output=True, text=True, timeout=60, cwd=tmp_path)
+    ran = subprocess.run(command, capture_output=True, text=True, timeout=web_servers.SECONDS, cwd=tmp_path)
     assert ran.returncode == 1 and "in use" in ran.stderr and (tmp_path / "socket").read_text() == "kept"
 
 
@@ -282,5 +282,5 @@ def test_a_file_in_the_place_of_the_socket_stays(tmp_path, keytab):
 def test_configurations_that_are_wrong(tmp_path, keytab, lines, said):
     (tmp_path / "web.toml").write_text(f'keytab = "web.keytab"\n{lines}\n')
     command = [sys.executable, "-m", "fevstunik.web", "--config", "web.toml", "--socket", tmp_path / "socket"]
-    ran = subprocess.run(command, capture_output=True, text=True, timeout=60, cwd=tmp_path)
+    ran = subprocess.run(command, capture_output=True, text=True, timeout=web_servers.SECONDS, cwd=tmp_path)
     assert ran.returncode == 1 and "Traceback" not in ran.stderr and said in ran.stderr, ran.stderr

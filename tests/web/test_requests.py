@@ -350,7 +350,7 @@ def test_a_store_that_is_down(made, over, monkeypatch):
 
 def test_the_loop_goes_on_while_a_store_is_asked(made, monkeypatch):
     """Two requests that wait for each other are both answered."""
-    both = threading.Barrier(2, timeout=20)
+    both = threading.Barrier(2, timeout=300)
     monkeypatch.setattr(_gate.Gate, "decide", lambda self, request: (both.wait(), _gate.Passed(None))[1])
     seen = []
 

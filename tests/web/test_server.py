@@ -8,6 +8,10 @@ import time
 import pytest
 
 from fevstunik.web import _server, serve
+from support.patience import least_seconds
+
+# How long a client waits, and the server for one. (By itself it has 30 seconds.)
+SECONDS = 300.0
 
 
 def app(environ, start_response):
@@ -22,14 +26,26 @@ def app(environ, start_response):
 
 @pytest.fixture(scope="module")
 def port():
-    listener = socket.create_server(("127.0.0.1", 0), backlog=1024)
-    threading.Thread(target=serve, args=(app, listener), daemon=True).start()
-    return listener.getsockname()[1]
+    with pytest.MonkeyPatch.context() as patch:
+        patch.setattr(_server, "_PATIENCE", SECONDS)
+        listener = socket.create_server(("127.0.0.1", 0), backlog=1024)
+        threading.Thread(target=serve, args=(app, listener), daemon=True).start()
+        yield listener.getsockname()[1]
 
 
 def sent(port, data, pieces=1):
-    """What comes back until the connection ends, of bytes that are sent in some pieces."""
-    with socket.create_connection(("127.0.0.1", port), timeout=20) as stream:
+    """What comes back until the connection ends, of bytes that are sent in some pieces. A server that ends a connection
+    waits a second for those that a client sends still: a client that gets no processor for so long begins again."""
+    for left in reversed(range(10 if pieces > 1 or len(data) > 65_536 else 1)):
+        try:
+            return sent_once(port, data, pieces)
+        except ConnectionError:
+            if not left:
+                raise
+
+
+def sent_once(port, data, pieces):
+    with socket.create_connection(("127.0.0.1", port), timeout=SECONDS) as stream:
         step = max(1, len(data) // pieces)
         for at in range(0, len(data), step):
             stream.sendall(data[at:at + step])
@@ -134,7 +150,7 @@ def test_head_has_no_body(port):
 
 
 def test_a_client_that_waits_for_the_body_to_be_wanted(port):
-    with socket.create_connection(("127.0.0.1", port), timeout=20) as stream:
+    with socket.create_connection(("127.0.0.1", port), timeout=SECONDS) as stream:
         stream.sendall(asks("POST / HTTP/1.1", "Content-Length: 5", "Expect: 100-continue"))
         assert stream.recv(100).startswith(b"HTTP/1.1 100 ")
         stream.sendall(b"hello")
@@ -148,12 +164,14 @@ def test_long_tokens(port):
 
 def test_many_slow_clients(port):
     """500 connections that send a byte and wait: others are answered meanwhile, and these in the end."""
-    slow = [socket.create_connection(("127.0.0.1", port), timeout=20) for _ in range(500)]
+    slow = [socket.create_connection(("127.0.0.1", port), timeout=SECONDS) for _ in range(500)]
     for it in slow:
         it.sendall(ONE[:5])
-    began = time.monotonic()
-    assert all(answers(sent(port, ONE)) == [(200, "GET,/one,,,-")] for _ in range(20))
-    assert time.monotonic() - began < 10
+
+    def others():
+        assert all(answers(sent(port, ONE)) == [(200, "GET,/one,,,-")] for _ in range(20))
+
+    assert least_seconds(others, 10) < 10
     for it in slow:
         it.sendall(ONE[5:])
     assert all(re.match(rb"HTTP/1.1 200 ", it.recv(1000)) for it in slow)
@@ -167,7 +185,7 @@ def test_patience_has_an_end(monkeypatch):
     ours, theirs = socket.socketpair()
     thread = threading.Thread(target=_server._Connection(ours, ("192.0.2.7", 1), app).run)
     thread.start()
-    for _ in range(100):
+    for _ in range(2_000):
         if not thread.is_alive():
             break
         theirs.send(b"a")

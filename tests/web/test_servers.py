@@ -120,7 +120,8 @@ def test_refused_uploads(server):
 @pytest.mark.parametrize("kind", ["Flask, uWSGI", "Starlette, uvicorn", "Django, uvicorn"])
 def test_many_slow_clients(server):
     """500 connections that send a byte: others log in meanwhile, and these in the end. (gunicorn needs a proxy.)"""
-    slow = [socket.create_connection(("127.0.0.1", server.port), timeout=30) for _ in range(500)]
+    slow = [socket.create_connection(("127.0.0.1", server.port), timeout=web_servers.SECONDS)
+            for _ in range(500)]
     for it in slow:
         it.sendall(b"G")
     assert {server.ask(token=web.token()).status for _ in range(5)} == {200}
@@ -150,7 +151,7 @@ def test_a_token_is_good_once(tmp_path, keytab, kind):
     (tmp_path / "run").mkdir(mode=0o700)
     terms = {"keytab": keytab, "service": web.NAME, "first_life": True, "store": tmp_path / "run/stamps"}
     tokens = [web.token() for _ in range(30)]
-    order = random.sample(tokens * 6, 180)
+    order = random.Random(30).sample(tokens * 6, 180)
     start = web_servers.KINDS[kind]
     with start(tmp_path, **terms) as server, ThreadPoolExecutor(30) as pool:
         statuses = list(pool.map(lambda it: server.ask(token=it).status, order))

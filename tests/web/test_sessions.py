@@ -2,11 +2,13 @@
 import os
 import re
 import time
+from types import SimpleNamespace
 
 import pytest
 
-from fevstunik.web import Sessions, Users
+from fevstunik.web import Sessions, Users, _sessions
 
+from support import web
 from support.web import negotiate, token
 
 
@@ -27,10 +29,8 @@ def with_cookie(ask, *cookies, path="/"):
 
 @pytest.fixture
 def clock(monkeypatch):
-    """Sets how far the clock of sessions is ahead."""
-    real, ahead = time.time, [0]
-    monkeypatch.setattr("fevstunik.web._sessions.time.time", lambda: real() + ahead[0])
-    return lambda seconds: ahead.__setitem__(0, seconds)
+    """Sets the clock of sessions."""
+    return lambda moment: monkeypatch.setattr(_sessions, "time", SimpleNamespace(time=lambda: moment))
 
 
 def test_a_session(made, over):
@@ -69,11 +69,13 @@ def test_no_other_cookie_is_taken(made, over):
 
 @pytest.mark.parametrize("hours, ticket, ends", [(1, 8, 3600), (8, 1, 3600)])
 def test_the_end(made, over, clock, hours, ticket, ends):
-    """That of the session, or of the ticket."""
+    """That of the session, or of the ticket, which is made now."""
     ask = over(made(sessions=Sessions(hours=hours)))
+    web.ticket.cache_clear()
+    before = int(time.time())
     cookie = cookie_of(logged_in(ask, hours=ticket))
-    for ahead, wanted in ((ends - 30, "alice@EX"), (ends + 30, 401)):
-        clock(ahead)
+    for moment, wanted in ((before + ends - 0.1, "alice@EX"), (int(time.time()) + ends, 401)):
+        clock(moment)
         assert with_cookie(ask, cookie) == wanted
 
 
