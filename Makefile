@@ -146,6 +146,6 @@ test:
 	$(PYTEST) $(if $(T),-k '$(T)',-n auto --dist loadgroup) tests
 
 lint:
-	flake8 tests tools
+	flake8 bench examples packaging python tests tools
 	clang-format --dry-run --Werror $$(git ls-files 'tests/peers/*.[ch]' 'tests/support/*.[ch]' 'tests/context/*.[ch]' 'examples/service/*.[ch]' 'examples/sign/*.[ch]')
 	shellcheck --severity=warning --exclude=SC2164 $(SHELL_FILES)

@@ -1,4 +1,5 @@
-"""The library for C and krbtool, as they are timed: as `make` left them in build/, or else built."""
+"""The library for C and krbtool, as they are timed: as `make` left them in build/, or else built. Whoever imports this
+first finds the package for Python, and what the tests share."""
 import os
 import subprocess
 import sys
@@ -6,10 +7,12 @@ from pathlib import Path
 
 HERE = Path(__file__).resolve().parent
 TOP = HERE.parent
+sys.path += [str(TOP), str(TOP / "tests"), str(TOP / "python")]
 # The builds for each kind of processor, the newest last.
 KINDS = ("x86-64", "x86-64-v2", "x86-64-v3")
 LOADER = "/lib64/ld-linux-x86-64.so.2"
-# The variables with which krbtool takes its build for every x86-64: the C library then says that the processor lacks an extension.
+# The variables with which krbtool takes its build for every x86-64: the C library then says that the processor lacks an
+# extension.
 OLDEST = {"GLIBC_TUNABLES": "glibc.cpu.hwcaps=-SSSE3"}
 
 

@@ -1,15 +1,11 @@
 """Tickets, keytabs and caches of the requests that are timed, and requests that a service refuses."""
 import calendar
 import struct
-import sys
 import threading
 import time
-from pathlib import Path
 
+import builds  # noqa: F401  (with it what the tests share is found)
 import files
-
-TOP = Path(__file__).resolve().parent.parent
-sys.path.append(str(TOP / "tests"))
 from support import der, fixture
 from support.sealing import BASE, sealed
 
@@ -117,14 +113,17 @@ def refused(now):
     yield "a service that isn't served", der.request(0, ticket_for((b"host", b"other.example.test")), other)
     yield "a version number that the keytab lacks", der.request(0, ticket_for(SERVICE, 2), other)
     yield "a ticket that isn't sealed with the key", der.request(0, ticket_for(SERVICE), other)
-    yield "an authenticator that isn't sealed with the session key", der.request(0, good, der.encrypted(19, b"\x5a" * 100))
+    unsealed = der.request(0, good, der.encrypted(19, b"\x5a" * 100))
+    yield "an authenticator that isn't sealed with the session key", unsealed
     yield "another client's name", der.request(0, good, authenticator(now, b"mallory"))
     yield "a clock that is an hour off", der.request(0, good, authenticator(now - 3600))
     yield "a ticket that isn't valid yet", der.request(0, ticket(19, now + 3600, 0), other)
     yield "a ticket that has expired", der.request(0, ticket(19, now - HOURS_10 - 3600, 0), other)
     yield REPEATED, der.request(0, good, other)
-    yield "1 MiB: a service of 523,000 empty components", der.request(0, ticket_for([b""] * ((FILLED - 1_500) // 2)), other)
+    yield "1 MiB: a service of 523,000 empty components", der.request(0, ticket_for([b""] * ((FILLED - 1_500) // 2)),
+                                                                      other)
     yield "1 MiB: a service of one long component", der.request(0, ticket_for([b"host", b"a" * (FILLED - 500)]), other)
-    yield "1 MiB: a ticket that isn't sealed with the key", der.request(0, ticket_for(SERVICE, 1, b"\x5a" * (FILLED - 500)), other)
+    large = ticket_for(SERVICE, 1, b"\x5a" * (FILLED - 500))
+    yield "1 MiB: a ticket that isn't sealed with the key", der.request(0, large, other)
     yield ("1 MiB: an authenticator that isn't sealed with the session key",
            der.request(0, good, der.encrypted(19, b"\x5a" * (FILLED - 500))))

@@ -1,5 +1,6 @@
 #!/usr/bin/env python3
-"""Keytabs and credential caches of many entries; and, as a program, how much memory krbtool takes for a file of the greatest size.
+"""Keytabs and credential caches of many entries; and, as a program, how much memory krbtool takes for a file of the
+greatest size.
 
     bench/files.py [PROGRAM]    prints a table for this krbtool, or for the one that make left
 """
@@ -22,7 +23,8 @@ def data16(text):
 
 def keytab_record(index, name=None):
     """An entry of a name and a version number of its own, or of the name of this index."""
-    body = struct.pack(">H", 2) + data16(b"EXAMPLE.TEST") + data16(b"host") + data16(b"web%d.example.test" % (index if name is None else name))
+    host = b"web%d.example.test" % (index if name is None else name)
+    body = struct.pack(">H", 2) + data16(b"EXAMPLE.TEST") + data16(b"host") + data16(host)
     body += struct.pack(">iIBh", 3, 1_700_000_000, index % 256, 19) + data16(bytes(16)) + struct.pack(">I", index + 1)
     return struct.pack(">i", len(body)) + body
 
@@ -54,7 +56,8 @@ def credential(index):
     times = struct.pack(">4I", 1_700_000_000, 1_700_000_000, 1_700_036_000, 0)
     names = principal(b"alice") + principal(b"host", b"web%d.example.test" % index)
     lists = struct.pack(">II", 0, 0)
-    return names + struct.pack(">h", 20) + data32(bytes(32)) + times + struct.pack(">BI", 0, 0x4061_0000) + lists + data32(bytes(470)) + data32(b"")
+    key, flags = struct.pack(">h", 20) + data32(bytes(32)), struct.pack(">BI", 0, 0x4061_0000)
+    return names + key + times + flags + lists + data32(bytes(470)) + data32(b"")
 
 
 def cache(credentials):
@@ -95,7 +98,8 @@ def many_components(head, empty, tail, limit):
 
 def empty_keytab(limit):
     body = struct.pack(">H", 129) + data16(b"") + data16(b"") * 129 + struct.pack(">iIBh", 1, 0, 1, 19) + data16(b"")
-    return b"\x05\x02" + many_components(struct.pack(">i", len(body)) + body[:4], data16(b""), body[4 + 2 * 129:], limit)
+    return b"\x05\x02" + many_components(struct.pack(">i", len(body)) + body[:4], data16(b""), body[4 + 2 * 129:],
+                                         limit)
 
 
 def empty_cache(limit):
@@ -123,7 +127,8 @@ def cache_of_long_credentials(limit, size):
 
 
 def at_the_limit(launcher, word, path, files):
-    """How much memory a command takes on files, as a multiple of their size, and how much more than on the first, which is one of nothing."""
+    """How much memory a command takes on files, as a multiple of their size, and how much more than on the first, which
+    is one of nothing."""
     own = None
     for name, data in files.items():
         path.write_bytes(data)
@@ -132,24 +137,31 @@ def at_the_limit(launcher, word, path, files):
             sys.exit(f"{word} on {name} ended with {done.returncode}")
         used = int(done.stdout)
         own = own or used
-        print(f"| {word[1]} | {name} | {len(data):,} | {used:,} | {used / len(data):.2f} | {used - own:,} |", flush=True)
+        print(f"| {word[1]} | {name} | {len(data):,} | {used:,} | {used / len(data):.2f} | {used - own:,} |",
+              flush=True)
 
 
 def kinds_of_keytabs():
-    return {"nothing": keytab(0), "an ordinary file": keytab((LIMIT - 2) // len(keytab_record(999_999))), "smallest records": small_keytab(LIMIT),
-            "names with 129 empty components": empty_keytab(LIMIT), "records of 1 MiB": keytab_of_long_records(LIMIT, 1 << 20)}
+    return {"nothing": keytab(0), "an ordinary file": keytab((LIMIT - 2) // len(keytab_record(999_999))),
+            "smallest records": small_keytab(LIMIT),
+            "names with 129 empty components": empty_keytab(LIMIT),
+            "records of 1 MiB": keytab_of_long_records(LIMIT, 1 << 20)}
 
 
 def kinds_of_caches():
-    return {"nothing": cache(0), "an ordinary file": cache((LIMIT - 100) // len(credential(99_999))), "smallest credentials": small_cache(LIMIT),
-            "names with 129 empty components": empty_cache(LIMIT), "credentials of 1 MiB": cache_of_long_credentials(LIMIT, 1 << 20)}
+    return {"nothing": cache(0), "an ordinary file": cache((LIMIT - 100) // len(credential(99_999))),
+            "smallest credentials": small_cache(LIMIT),
+            "names with 129 empty components": empty_cache(LIMIT),
+            "credentials of 1 MiB": cache_of_long_credentials(LIMIT, 1 << 20)}
 
 
 def table(program):
-    print("| command | file | bytes | memory, bytes | times the file | more than for nothing |\n|---|---|---|---|---|---|")
+    print("| command | file | bytes | memory, bytes | times the file | more than for nothing "
+          "|\n|---|---|---|---|---|---|")
     with tempfile.TemporaryDirectory() as folder:
         launcher, path = built_peak(folder), Path(folder) / "file"
-        for words, kinds in ((("list-keytab", "check-keytab"), kinds_of_keytabs()), (("list-ccache", "check-ccache"), kinds_of_caches())):
+        for words, kinds in ((("list-keytab", "check-keytab"), kinds_of_keytabs()),
+                             (("list-ccache", "check-ccache"), kinds_of_caches())):
             for word in words:
                 at_the_limit(launcher, (program, word), path, kinds)
 

@@ -3,10 +3,11 @@
 
     bench/growth.py PROGRAM LIBRARY
 
-PROGRAM is krbtool, LIBRARY the shared library for C. Each row has two sizes, one 16 times the other, and the least processor time of some runs
-of each. Before each run the processor's caches are filled with other data, as they are when a program reads a file once: what is repeated at
-once finds the smaller size in the caches, and the larger one not. The time may grow by a factor of 24: what takes longer for its size is a
-fault to mend, and makes the script end with 1. The last column is the factor of runs that are repeated at once; it decides nothing.
+PROGRAM is krbtool, LIBRARY the shared library for C. Each row has two sizes, one 16 times the other, and the least
+processor time of some runs of each. Before each run the processor's caches are filled with other data, as they are when
+a program reads a file once: what is repeated at once finds the smaller size in the caches, and the larger one not. The
+time may grow by a factor of 24: what takes longer for its size is a fault to mend, and makes the script end with 1. The
+last column is the factor of runs that are repeated at once; it decides nothing.
 """
 import ctypes
 import os
@@ -15,12 +16,9 @@ import tempfile
 import time
 from pathlib import Path
 
-HERE = Path(__file__).resolve().parent
-sys.path += [str(HERE.parent / "python"), str(HERE.parent / "tests")]
-import exchange  # noqa: E402
-import files  # noqa: E402
-
-import fevstunik  # noqa: E402
+import exchange
+import files
+import fevstunik
 
 FACTOR, MOST, RUNS = 16, 24, 5
 # Options of mallopt (malloc.h), and the greatest size that malloc takes for one of them.
@@ -64,7 +62,8 @@ def row(name, small, run_of):
     run = run_of(small * FACTOR)
     there, warm_there = least_cold(run), least(run)
     said = "" if there <= MOST * here else ": it grows faster than its size"
-    print(f"| {name} | {small:,} | {shown(here)} | {shown(there)} | {there / here:.1f}{said} | {warm_there / warm:.1f} |", flush=True)
+    print(f"| {name} | {small:,} | {shown(here)} | {shown(there)} | {there / here:.1f}{said} | {warm_there / warm:.1f} "
+          f"|", flush=True)
     return not said
 
 
@@ -79,7 +78,8 @@ def commands(program, folder):
     def on_keytab(*words):
         def run_of(size):
             keys.write_bytes(files.keytab(size))
-            return files.processor_time([program, words[0], str(keys), *(it.format(last=size - 1, out=out) for it in words[1:])])
+            return files.processor_time([program, words[0], str(keys),
+                                         *(it.format(last=size - 1, out=out) for it in words[1:])])
 
         return run_of
 
@@ -131,7 +131,8 @@ def lines_of(program, folder):
     now = int(time.time())
 
     def run_of(size):
-        made = (fevstunik.make_request(cache, "host/web0.example.test@EXAMPLE.TEST", now=fevstunik.Moment(now, at))[0] for at in range(size))
+        made = (fevstunik.make_request(cache, "host/web0.example.test@EXAMPLE.TEST", now=fevstunik.Moment(now, at))[0]
+                for at in range(size))
         (folder / "lines").write_text("".join(f"{now} 0 {request.hex()}\n" for request in made))
         return files.processor_time(["sh", "-c", f"{program} accept {keys} < {folder}/lines"])
 
@@ -159,8 +160,10 @@ def accepting(folder):
     def run_of(size):
         keys, tickets, now = exchange.laid_out(folder, 19, 1, size)
         keytab = fevstunik.Keytab.read(keys)
-        request, _ = fevstunik.make_request(fevstunik.CredentialCache.read(tickets), "host/web0.example.test@EXAMPLE.TEST", now=int(now))
-        return of_a_call(lambda: fevstunik.Acceptor(keytab, None, any_name=True, first_life=True).accept(request, now=int(now)))
+        request, _ = fevstunik.make_request(fevstunik.CredentialCache.read(tickets),
+                                            "host/web0.example.test@EXAMPLE.TEST", now=int(now))
+        return of_a_call(
+            lambda: fevstunik.Acceptor(keytab, None, any_name=True, first_life=True).accept(request, now=int(now)))
 
     return run_of
 
@@ -176,13 +179,15 @@ def calls(folder):
         return keytab_of[size]
 
     entry = fevstunik.KeytabEntry("host/web@EX", key, 3)
-    yield "fevstunik_keytab_check, entries", 10_000, lambda size: of_a_call(lambda data=files.keytab(size): fevstunik.Keytab(data))
+    yield ("fevstunik_keytab_check, entries", 10_000,
+           lambda size: of_a_call(lambda data=files.keytab(size): fevstunik.Keytab(data)))
     yield "all of fevstunik_keytab_entry, entries", 500, lambda size: of_a_call(
         lambda data=files.keytab(size): fevstunik.Keytab(data).entries)
     yield "fevstunik_keytab_add, entries", 10_000, lambda size: of_a_call(lambda: keytab(size).added(entry))
     yield "fevstunik_keytab_remove, entries", 10_000, lambda size: of_a_call(lambda: keytab(size).removed(size - 1))
     yield "fevstunik_keytab_write, entries", 10_000, lambda size: of_a_call(keytab(size).compacted)
-    yield "fevstunik_acceptor_new, entries", 10_000, lambda size: of_a_call(lambda: fevstunik.Acceptor(keytab(size), None, any_name=True, first_life=True))
+    yield ("fevstunik_acceptor_new, entries", 10_000, lambda size: of_a_call(
+        lambda: fevstunik.Acceptor(keytab(size), None, any_name=True, first_life=True)))
     yield "fevstunik_acceptor_accept, bytes of a ticket's authorization data", 1 << 15, accepting(folder)
     yield "fevstunik_cache_new, credentials", 1_500, lambda size: of_a_call(
         lambda data=files.cache(size): fevstunik.CredentialCache(data))
@@ -193,13 +198,15 @@ def calls(folder):
         lambda text="/".join(["part"] * size) + "@EX": fevstunik.check_name(text))
     yield "fevstunik_seal, bytes", 1 << 20, lambda size: of_a_call(lambda text=bytes(size): key.seal(7, text))
     yield "fevstunik_checksum, bytes", 1 << 20, lambda size: of_a_call(lambda text=bytes(size): key.checksum(7, text))
-    yield "fevstunik_open, bytes", 1 << 20, lambda size: of_a_call(lambda text=key.seal(7, bytes(size)): key.open(7, text))
+    yield ("fevstunik_open, bytes", 1 << 20,
+           lambda size: of_a_call(lambda text=key.seal(7, bytes(size)): key.open(7, text)))
     yield "fevstunik_token_open, bytes", 1 << 15, lambda size: of_a_call(
         lambda token=fevstunik.wrap_request(bytes(size)): fevstunik.Token.open(token))
 
 
 def keep_memory():
-    """Makes malloc keep what is freed. To give it back to the system, and ask for it again, takes longer for some sizes than for others."""
+    """Makes malloc keep what is freed. To give it back to the system, and ask for it again, takes longer for some sizes
+    than for others."""
     mallopt = ctypes.CDLL(None).mallopt
     kept = [mallopt(option, KEPT) for option in (TOP_PAD, MMAP_THRESHOLD)] + [mallopt(TRIM_THRESHOLD, 64 * KEPT - 1)]
     assert all(kept), "malloc refuses an option"
@@ -210,7 +217,8 @@ def main():
     keep_memory()
     fevstunik.load(library)
     with tempfile.TemporaryDirectory() as name:
-        print(f"| what | size | its time | {FACTOR} times the size | ratio | repeated at once |\n|---|---|---|---|---|---|")
+        print(f"| what | size | its time | {FACTOR} times the size | ratio | repeated at once "
+              f"|\n|---|---|---|---|---|---|")
         rows = [*commands(program, Path(name)), *calls(Path(name))]
         is_well = [row(*it) for it in rows]
     sys.exit(0 if all(is_well) else 1)

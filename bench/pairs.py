@@ -41,11 +41,14 @@ def paired(ours: Callable[[], float], theirs: Callable[[], float], short: int = 
     return min(it[0] for it in runs), min(it[1] for it in runs)
 
 
-def compared(ours: Callable[[], float], theirs: Callable[[], float], pairs: int = PAIRS, short: int = SHORT) -> Compared:
+def compared(ours: Callable[[], float], theirs: Callable[[], float], pairs: int = PAIRS,
+             short: int = SHORT) -> Compared:
     """`ours` and `theirs` run a program once, and return the time that it took."""
     return of_pairs([paired(ours, theirs, short) for _ in range(pairs)])
 
 
 def time_of(nanoseconds: float) -> str:
     """A time for a table, with two digits or more."""
-    return f"{nanoseconds:,.0f} ns" if nanoseconds < 1_000 else f"{nanoseconds / 1_000:,.3g} µs" if nanoseconds < 100_000 else f"{nanoseconds / 1_000:,.0f} µs"
+    if nanoseconds < 1_000:
+        return f"{nanoseconds:,.0f} ns"
+    return f"{nanoseconds / 1_000:,.3g} µs" if nanoseconds < 100_000 else f"{nanoseconds / 1_000:,.0f} µs"

@@ -8,14 +8,13 @@ import sys
 from pathlib import Path
 from typing import Iterator
 
-import run
 from builds import HERE, TOP, said
-from rows import LIVES, PAC_SIZES, SIZES, Row, Side, messages, named, nothing
 
-sys.path.append(str(TOP / "tests"))
-import edits  # noqa: E402
-from support import der  # noqa: E402
-from support.msg_values import TICKET  # noqa: E402
+import edits
+import run
+from rows import LIVES, PAC_SIZES, SIZES, Row, Side, messages, named, nothing
+from support import der
+from support.msg_values import TICKET
 
 # Our programs, and the crates that each stands on.
 PROGRAMS = {

@@ -216,11 +216,14 @@ def sealing() -> Iterator[Row]:
 
 def after_logins() -> Iterator[Row]:
     for etype in (19, 20):
-        for way, said, theirs in (("sealed", "wrap, sealed", "gss_wrap"), ("plain", "wrap, in plain", "gss_wrap"), ("mic", "mic", "gss_get_mic")):
+        for way, said, theirs in (("sealed", "wrap, sealed", "gss_wrap"), ("plain", "wrap, in plain", "gss_wrap"),
+                                  ("mic", "mic", "gss_get_mic")):
             for size, shown in [(64, "64 bytes"), *SIZES[1:]]:
                 words = f"{way} {size} {{at}}/keytab {{at}}/messages {{count}}"
-                yield Row("messages", f"type {etype}: {said}, {shown}", Side(f"{{messages}} ours {words}"), Side(f"{{messages}} theirs {words}"), theirs,
-                          messages("tokens", etype, 0, 1, 1, 1), max(2, 3_000_000 // (size + 1_000)), (1, 2) if size > 10_000 else (20, 40))
+                yield Row("messages", f"type {etype}: {said}, {shown}", Side(f"{{messages}} ours {words}"),
+                          Side(f"{{messages}} theirs {words}"), theirs,
+                          messages("tokens", etype, 0, 1, 1, 1), max(2, 3_000_000 // (size + 1_000)),
+                          (1, 2) if size > 10_000 else (20, 40))
 
 
 def starts() -> Iterator[Row]:
@@ -237,5 +240,5 @@ def starts() -> Iterator[Row]:
 
 
 # In the order in which they are printed.
-GROUPS = {"services": services, "logins": logins, "parts": parts, "python": in_python, "refused": refused, "clients": clients,
-          "processes": processes, "sealing": sealing, "messages": after_logins, "starts": starts}
+GROUPS = {"services": services, "logins": logins, "parts": parts, "python": in_python, "refused": refused,
+          "clients": clients, "processes": processes, "sealing": sealing, "messages": after_logins, "starts": starts}

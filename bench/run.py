@@ -39,7 +39,8 @@ import written
 from builds import HERE, TOP, said
 from rows import GROUPS, Row, Side
 
-PROGRAMS = {"client": "krb5", "service": "krb5-gssapi", "seal": "krb5", "messages": "krb5-gssapi", "mit_process": "krb5"}
+PROGRAMS = {"client": "krb5", "service": "krb5-gssapi", "seal": "krb5", "messages": "krb5-gssapi",
+            "mit_process": "krb5"}
 # Short runs of each side, in turn, in so many pairs.
 PAIRS, SHORT = 7, 3
 

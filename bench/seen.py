@@ -15,8 +15,10 @@ from pairs import time_of
 REMEMBERED = (1_000, 100_000, 1_000_000)
 # So many requests are timed.
 COUNT = 20_000
-# The clients whose requests are remembered, if they aren't as many as the requests, and how many of them send those that are timed, in turn.
-SHAPES = ((1, 1, "one client"), (1_000, 1_000, "1,000 clients"), (None, 1_000, "as many clients, 1,000 of whom come in turn"),
+# The clients whose requests are remembered, if they aren't as many as the requests, and how many of them send those
+# that are timed, in turn.
+SHAPES = ((1, 1, "one client"), (1_000, 1_000, "1,000 clients"),
+          (None, 1_000, "as many clients, 1,000 of whom come in turn"),
           (None, COUNT, "as many clients, 20,000 of whom come in turn"))
 RUNS = 3
 

@@ -1,13 +1,15 @@
 #!/usr/bin/env python3
-"""Times processes of a service that share a store, and prints two tables: logins a second with the processor time of each, and what a store adds
-to one login.
+"""Times processes of a service that share a store, and prints two tables: logins a second with the processor time of
+each, and what a store adds to one login.
 
-    bench/stores.py [FOLDER]     FOLDER has libfevstunik.a and the shared library, as build/x86-64-v2 of `make`; else they are built
+    bench/stores.py [FOLDER]     FOLDER has libfevstunik.a and the shared library, as build/x86-64-v2 of `make`; else
+                                 they are built
       --write                    writes the tables into bench/README.md, too
 
-Each process is sent a part of the requests: examples/service/service in C over TCP, some at a time, and examples/shared.py by lines, one at a time.
-Beside them are processes without a store, each of which remembers for itself, and MIT krb5's krb5_rd_req with its replay cache in a file, which its
-processes share. Needs what tests/stores and bench/from_c.py need; takes about two minutes. Nothing here is a test, but each request has to be accepted.
+Each process is sent a part of the requests: examples/service/service in C over TCP, some at a time, and
+examples/shared.py by lines, one at a time. Beside them are processes without a store, each of which remembers for
+itself, and MIT krb5's krb5_rd_req with its replay cache in a file, which its processes share. Needs what tests/stores
+and bench/from_c.py need; takes about two minutes. Nothing here is a test, but each request has to be accepted.
 """
 import argparse
 import contextlib
@@ -21,18 +23,17 @@ from concurrent.futures import ThreadPoolExecutor
 from pathlib import Path
 from typing import NamedTuple
 
+import builds
+from builds import TOP
+
 import exchange
 import written
+from support import c_programs, instances, store_servers
+from fevstunik import Moment
+from fevstunik.stores import File, PostgreSQL, Redis, SQLite
 
-TOP = Path(__file__).resolve().parent.parent
-sys.path += [str(TOP), str(TOP / "tests"), str(TOP / "python")]
-import builds  # noqa: E402
-from support import c_programs, instances, store_servers  # noqa: E402
-from fevstunik import Moment  # noqa: E402
-from fevstunik.stores import File, PostgreSQL, Redis, SQLite  # noqa: E402
-
-# How many processes; how many requests (a store that syncs gets a part); how often each is timed; and how many clients each process in C
-# has at a time.
+# How many processes; how many requests (a store that syncs gets a part); how often each is timed; and how many clients
+# each process in C has at a time.
 COUNTS, REQUESTS, SYNCED, RUNS, CLIENTS = (1, 2, 4), 2_000, 400, 2, 4
 SOURCES = [TOP / f"examples/service/{it}.c" for it in ("store", "sqlite_store", "redis_store")]
 
@@ -62,8 +63,8 @@ class OfSQLite(ThisBoot, store_servers.OfSQLite):
     pass
 
 
-# What the stores are named in the tables, how one is made, how it is opened in Python, whether it syncs, and whether there is one in C. (/run is in
-# memory on most machines.)
+# What the stores are named in the tables, how one is made, how it is opened in Python, whether it syncs, and whether
+# there is one in C. (/run is in memory on most machines.)
 STORES = (("a file in memory", lambda: OfRecords("/dev/shm"), File, False, False),
           ("a file on disk", lambda: OfRecords(TOP / "build"), File, False, False),
           ("SQLite in memory", lambda: OfSQLite("/dev/shm"), SQLite, False, True),
@@ -144,7 +145,8 @@ def in_python(words, count, requests):
 
 def in_c(folder, words, count, requests):
     def by_clients(instance, part):
-        ran = subprocess.run([folder / "load", instance.port, str(CLIENTS)], input="\n".join(part) + "\n", capture_output=True, text=True)
+        ran = subprocess.run([folder / "load", instance.port, str(CLIENTS)], input="\n".join(part) + "\n",
+                             capture_output=True, text=True)
         return int(must(ran).split()[0])
 
     return rate_of(instances.Served, [folder / "service", *instances.SERVICE, *words], count, requests, by_clients)
@@ -192,7 +194,8 @@ def row(name, measured):
 def requests_of(cache, library):
     """Requests for each run of a row, each of another second, far enough from the others for a busy machine."""
     with ThreadPoolExecutor(4) as pool:
-        return list(pool.map(lambda run: instances.made_requests(cache, REQUESTS, library, 20 * run), range(len(COUNTS) * RUNS)))
+        return list(pool.map(lambda run: instances.made_requests(cache, REQUESTS, library, 20 * run),
+                             range(len(COUNTS) * RUNS)))
 
 
 def over_a_store(name, make, many, measured):
@@ -209,15 +212,19 @@ def table(folder, archive):
     os.environ["FEVSTUNIK_LIBRARY"] = str(library)
     many = requests_of(cache, library)
     few = [it[:SYNCED] for it in many]
-    show("\n| logins a second (processor time of each) | " + " | ".join(f"{it} process{'es' * (it > 1)}" for it in COUNTS) + " |\n|---|---|---|---|")
+    heads = " | ".join(f"{it} process{'es' * (it > 1)}" for it in COUNTS)
+    show(f"\n| logins a second (processor time of each) | {heads} |\n|---|---|---|---|")
     row("C, no store", lambda count, run: in_c(folder, ["first"], count, many[run]))
     for name, make, _, syncs, is_in_c in STORES:
         if is_in_c:
-            over_a_store(f"C, {name}", make, few if syncs else many, lambda store, *it: in_c(folder, [store.in_c, 20], *it))
-    row("Python, no store", lambda count, run: in_python([TOP / "examples/serve.py", *instances.SERVICE, "--first"], count, many[run]))
+            over_a_store(f"C, {name}", make, few if syncs else many,
+                         lambda store, *it: in_c(folder, [store.in_c, 20], *it))
+    row("Python, no store",
+        lambda count, run: in_python([TOP / "examples/serve.py", *instances.SERVICE, "--first"], count, many[run]))
     for name, make, _, syncs, _ in STORES:
         words = [TOP / "examples/shared.py", *instances.SERVICE]
-        over_a_store(f"Python, {name}", make, few if syncs else many, lambda store, *it: in_python([*words, store.where, "--wait", 20], *it))
+        over_a_store(f"Python, {name}", make, few if syncs else many,
+                     lambda store, *it: in_python([*words, store.where, "--wait", 20], *it))
     row("MIT krb5 in C, a replay cache in a file", lambda count, run: with_file(folder, count))
 
 
@@ -228,7 +235,8 @@ def added(folder):
         with contextlib.closing(make()) as store:
             store.start()
             nanoseconds = must(c_programs.run(folder / "adds", store.in_c, SYNCED)) if is_in_c else None
-            in_c, where = f"{int(nanoseconds) / 1000:,.0f} µs" if nanoseconds else "", store.where.removeprefix("sqlite:")
+            in_c = f"{int(nanoseconds) / 1000:,.0f} µs" if nanoseconds else ""
+            where = store.where.removeprefix("sqlite:")
             show(f"| {name} | {in_c} | {micros_of(opened(where)):,.0f} µs |")
 
 

@@ -1,14 +1,17 @@
 #!/usr/bin/python3
-"""Times web logins by fevstunik.web beside Apache's mod_auth_gssapi, and prints a table: logins a second, and processor time for one.
+"""Times web logins by fevstunik.web beside Apache's mod_auth_gssapi, and prints a table: logins a second, and processor
+time for one.
 
     bench/web.py [WORD..]       servers whose names have one of these words, or all
-      --write                   writes the tables of all servers into bench/README.md, and those of 1,000 users into docs/WEB.md
+      --write                   writes the tables of all servers into bench/README.md, and those of 1,000 users into
+                                docs/WEB.md
 
-Each server has four workers, and answers a page to who has logged in. In each round all get the same tokens, in turn: each has a new
-authenticator, of one user or of 1,000 users with a ticket each. A program in C sends them (bench/web_load.c). The servers log who was let in.
-Needs a C compiler and Debian's packages apache2, libapache2-mod-auth-gssapi, uwsgi, uwsgi-plugin-python3, gunicorn, nginx and python3-gssapi
-(so run it by /usr/bin/python3, as ./test does). It takes one or two minutes, once the library is proved and built. Nothing here is a test: it
-asserts nothing but that each login is let in.
+Each server has four workers, and answers a page to who has logged in. In each round all get the same tokens, in turn:
+each has a new authenticator, of one user or of 1,000 users with a ticket each. A program in C sends them
+(bench/web_load.c). The servers log who was let in. Needs a C compiler and Debian's packages apache2,
+libapache2-mod-auth-gssapi, uwsgi, uwsgi-plugin-python3, gunicorn, nginx and python3-gssapi (so run it by
+/usr/bin/python3, as ./test does). It takes one or two minutes, once the library is proved and built. Nothing here is a
+test: it asserts nothing but that each login is let in.
 """
 import argparse
 import base64
@@ -24,13 +27,11 @@ import time
 from pathlib import Path
 
 import builds
+from builds import HERE, TOP
+
 import exchange
 import written
-
-HERE = Path(__file__).resolve().parent
-TOP = HERE.parent
-sys.path[:0] = [str(TOP / "python")]
-from support import kdc  # noqa: E402
+from support import kdc
 
 SERVICE = "host/web0.example.test@EXAMPLE.TEST"
 WORKERS, LOGINS, ROUNDS, USERS = 4, 1_500, 5, (1, 1_000)
@@ -75,7 +76,8 @@ DocumentRoot {folder}/pages
 </Location>
 '''
 SIZES = {"prefork": f"MinSpareServers {WORKERS}\nMaxSpareServers {WORKERS}\nMaxRequestWorkers {WORKERS}",
-         "event": f"ThreadsPerChild 25\nMaxRequestWorkers {25 * WORKERS}\nMinSpareThreads 25\nMaxSpareThreads {25 * WORKERS}"}
+         "event": f"ThreadsPerChild 25\nMaxRequestWorkers {25 * WORKERS}\nMinSpareThreads 25\nMaxSpareThreads "
+                  f"{25 * WORKERS}"}
 NGINX = '''
 daemon off;
 pid {folder}/nginx.pid;
@@ -127,7 +129,8 @@ class Server:
         env = {**os.environ, "KRB5RCACHEDIR": str(self.run), "PYTHONPATH": str(TOP / "python")}
         commands, more = kind(self)
         for number, command in enumerate(commands):
-            # (each in a session of its own: Apache ends all processes of its own, and the kernel shares the processors between sessions)
+            # (each in a session of its own: Apache ends all processes of its own, and the kernel shares the processors
+            # between sessions)
             self.processes.append(kdc.Process(["setsid", *command], self.folder / f"out{number}", {**env, **more}))
         try:
             self.processes[-1].wait_for(self.port)
@@ -147,7 +150,8 @@ class Server:
     def write_app(self, has_store):
         """Writes the application to app.py."""
         store = str(self.run / "stamps") if has_store else None
-        (self.folder / "app.py").write_text(APP.format(log=str(self.run / "log"), keytab=str(self.folder / "keytab"), service=SERVICE, store=store))
+        (self.folder / "app.py").write_text(APP.format(log=str(self.run / "log"), keytab=str(self.folder / "keytab"),
+                                                       service=SERVICE, store=store))
 
     def processor_time(self):
         """What the server's processes have used, in seconds."""
@@ -169,15 +173,18 @@ def used(pid):
 
 def apache(mpm, **env):
     def kind(server):
-        text = APACHE.format(folder=server.folder, port=server.port, modules="/usr/lib/apache2/modules", mpm=mpm, workers=WORKERS, sizes=SIZES[mpm])
+        text = APACHE.format(folder=server.folder, port=server.port, modules="/usr/lib/apache2/modules", mpm=mpm,
+                             workers=WORKERS, sizes=SIZES[mpm])
         (server.folder / "apache.conf").write_text(text + (f"User {OTHER}\nGroup {OTHER}\n" if IS_ROOT else ""))
         return [["/usr/sbin/apache2", "-f", server.folder / "apache.conf", "-DFOREGROUND"]], env
     return kind
 
 
 def uwsgi_command(server, *listening):
-    return ["uwsgi", "--plugin", "python3", "--master", "--die-on-term", "--processes", WORKERS, *listening, "--buffer-size", 65535, "--listen", 1024,
-            "--disable-logging", "--need-app", "--chdir", server.folder, "--wsgi-file", "app.py", *other_words("--uid", "--gid")]
+    return ["uwsgi", "--plugin", "python3", "--master", "--die-on-term", "--processes", WORKERS, *listening,
+            "--buffer-size", 65535, "--listen", 1024,
+            "--disable-logging", "--need-app", "--chdir", server.folder, "--wsgi-file", "app.py",
+            *other_words("--uid", "--gid")]
 
 
 def uwsgi(has_store):
@@ -195,14 +202,16 @@ def nginx_uwsgi(has_store):
         words = {"folder": server.folder, "run": server.run, "port": server.port, "workers": WORKERS}
         (server.folder / "nginx.conf").write_text((f"user {OTHER};" if IS_ROOT else "") + NGINX.format(**words))
         return [uwsgi_command(server, "--socket", server.run / "socket"),
-                ["/usr/sbin/nginx", "-p", server.folder, "-e", server.folder / "error.log", "-c", server.folder / "nginx.conf"]], {}
+                ["/usr/sbin/nginx", "-p", server.folder, "-e", server.folder / "error.log", "-c",
+                 server.folder / "nginx.conf"]], {}
     return kind
 
 
 def gunicorn(has_store):
     def kind(server):
         server.write_app(has_store)
-        return [[sys.executable, "-m", "gunicorn", "--workers", WORKERS, "--bind", f"127.0.0.1:{server.port}", "--chdir", server.folder,
+        return [[sys.executable, "-m", "gunicorn", "--workers", WORKERS, "--bind", f"127.0.0.1:{server.port}",
+                 "--chdir", server.folder,
                  "--limit-request-field_size", 0, *other_words("--user", "--group"), "app:application"]], {}
     return kind
 
@@ -253,7 +262,8 @@ class Tokens:
         return [self._one(self._held[index % len(self._held)]) for index in range(count)]
 
     def _one(self, credentials):
-        context = self._gssapi.SecurityContext(name=self._name, creds=credentials, mech=self._mechanism, usage="initiate",
+        context = self._gssapi.SecurityContext(name=self._name, creds=credentials, mech=self._mechanism,
+                                               usage="initiate",
                                                flags=[self._gssapi.RequirementFlag.mutual_authentication])
         return base64.b64encode(context.step())
 
@@ -262,7 +272,8 @@ def run(program, server, way, tokens):
     """The logins in a second, and the processor time of one in microseconds."""
     reused, width = WAYS[way]
     before = server.processor_time()
-    ran = subprocess.run([program, str(server.port), str(width), str(reused), str(len(tokens))], input=b"\n".join(tokens) + b"\n", capture_output=True)
+    ran = subprocess.run([program, str(server.port), str(width), str(reused), str(len(tokens))],
+                         input=b"\n".join(tokens) + b"\n", capture_output=True)
     if ran.returncode:
         sys.exit(f"{ran.stderr.decode()}: see {server.folder}")
     let_in, seconds = ran.stdout.split()
@@ -292,11 +303,13 @@ def shown(ratios):
 def table_of(title, found):
     """Each row has the ratios of its rounds to those of the first server, which is Apache's alone."""
     first = next(iter(found))
-    rows = [f"| {title} | logins a second | beside the first row | processor time for one | the first row's beside it |", "|---|---|---|---|---|"]
+    rows = [f"| {title} | logins a second | beside the first row | processor time for one "
+            "| the first row's beside it |", "|---|---|---|---|---|"]
     for name, pairs in found.items():
         faster = [ours / theirs for (ours, _), (theirs, _) in zip(pairs, found[first])]
         less = [theirs / ours for (_, ours), (_, theirs) in zip(pairs, found[first])]
-        rows.append(f"| {name} | {median_of(pairs, 0):,.0f} | {shown(faster)} | {median_of(pairs, 1):,.0f} µs | {shown(less)} |")
+        rows.append(f"| {name} | {median_of(pairs, 0):,.0f} | {shown(faster)} | {median_of(pairs, 1):,.0f} µs | "
+                    f"{shown(less)} |")
     return "\n".join(rows)
 
 
@@ -336,14 +349,16 @@ def main():
         for it in (folder, memory):
             it.chmod(0o755)
         os.environ["KRB5_CONFIG"] = str(folder / "krb5.conf")
-        (folder / "krb5.conf").write_text("[libdefaults]\n default_realm = EXAMPLE.TEST\n dns_canonicalize_hostname = false\n")
+        (folder / "krb5.conf").write_text("[libdefaults]\n default_realm = EXAMPLE.TEST\n dns_canonicalize_hostname = "
+                                          "false\n")
         write_caches(folder, max(USERS))
         subprocess.run(["cc", "-O2", "-D_GNU_SOURCE", HERE / "web_load.c", "-o", folder / "web_load"], check=True)
         servers = {}
         for server, kind in chosen.items():
             servers[server] = Server(folder, memory, server, kind)
             stack.callback(servers[server].stop)
-        print(f"{WORKERS} workers, {ROUNDS} rounds of {LOGINS:,} logins; the machine's load is {os.getloadavg()[0]:.1f} on {os.cpu_count()} processors")
+        print(f"{WORKERS} workers, {ROUNDS} rounds of {LOGINS:,} logins; the machine's load is "
+              f"{os.getloadavg()[0]:.1f} on {os.cpu_count()} processors")
         found = {}
         for it in itertools.product(USERS, WAYS):
             users, way = it

@@ -5,9 +5,7 @@ from datetime import date
 from pathlib import Path
 
 from builds import TOP
-
-sys.path.append(str(TOP / "tests"))
-from support import reflow  # noqa: E402
+from support import reflow
 
 # The rows of README's sentence, by group and what stands in them: of several, the one that is worst for us.
 SENTENCE = {
@@ -29,10 +27,12 @@ def of(found, group, words):
 
 
 def sentence(found):
-    """By how much the other side takes more in the worst row of each kind: time, if all rows could tell, or else instructions."""
+    """By how much the other side takes more in the worst row of each kind: time, if all rows could tell, or else
+    instructions."""
     rows = {said: of(found, *place) for place, said in SENTENCE.items()}
     by_time = all(it["times"] and "too busy" not in it["shown"] for kind in rows.values() for it in kind)
-    ratios = sorted((min(it["ratio"] if by_time else it["instructions"][1] / it["instructions"][0] for it in kind), said)
+    ratios = sorted((min(it["ratio"] if by_time else it["instructions"][1] / it["instructions"][0] for it in kind),
+                     said)
                     for said, kind in rows.items() if kind)
     what = "processor time" if by_time else "instructions"
     listed = ", ".join(f"{ratio:.1f} for {said}" for ratio, said in ratios)

@@ -3,7 +3,8 @@
 
     packaging/archive.py CPU OUT     CPU is x86-64, x86-64-v2 or x86-64-v3; OUT is the archive
 
-Takes the libraries that `rt ci` left, if it has just run; else builds by `rt lib`, which proves whatever isn't proved yet.
+Takes the libraries that `rt ci` left, if it has just run; else builds by `rt lib`, which proves whatever isn't proved
+yet.
 """
 import os
 import pathlib
@@ -14,7 +15,7 @@ import sys
 ROOT = pathlib.Path(__file__).resolve().parent.parent
 sys.path.insert(0, str(ROOT / "tests"))
 sys.dont_write_bytecode = True
-import edits  # noqa: E402
+import edits  # noqa: E402  (the tests are no package that is installed)
 
 CRATE = ROOT / "crates/krb_c"
 # Where `rt lib` puts the archive.
@@ -22,7 +23,8 @@ BUILT = CRATE / "out/libkrb_c.a"
 
 
 def run(*words, at=CRATE):
-    return subprocess.run([str(word) for word in words], stdout=subprocess.PIPE, stderr=subprocess.STDOUT, text=True, cwd=at)
+    return subprocess.run([str(word) for word in words], stdout=subprocess.PIPE, stderr=subprocess.STDOUT, text=True,
+                          cwd=at)
 
 
 def over_proved(folder, cpu, out, *more):
@@ -30,11 +32,13 @@ def over_proved(folder, cpu, out, *more):
     words = edits.crates_of(str(ROOT))[folder.name].words("out/incremental")
     words[words.index("check")] = "build"
     words[words.index("--jobs") + 1] = str(len(os.sched_getaffinity(0)))
-    return run(*words, *more, "--toolchain", f"{edits.KIT}/toolchain", "--backend", "llvm", f"--cpu={cpu}", "-o", out, at=folder)
+    return run(*words, *more, "--toolchain", f"{edits.KIT}/toolchain", "--backend", "llvm", f"--cpu={cpu}", "-o", out,
+               at=folder)
 
 
 def over_ci(folder, cpu, out, *more):
-    """Builds a crate over the libraries that `rt ci` left, which rt would prove and build again; None if it left none."""
+    """Builds a crate over the libraries that `rt ci` left, which rt would prove and build again; None if it left
+    none."""
     for name in edits.crates_of(str(ROOT))[folder.name].below:
         left = ROOT / "crates" / name / "out/rlib"
         if not (left / f"{name}.rlib").exists() or (left / "stamp").exists():

@@ -1,27 +1,33 @@
 #!/usr/bin/env python3
 """Finds how much of the stack each function of the library for C can use, from the machine code.
 
-    packaging/depths.py OBJECT                  OBJECT is the relocatable object of the proved code; prints a line of C for each
+    packaging/depths.py OBJECT                  OBJECT is the relocatable object of the proved code; prints a line of C
+    for each
                                                 function fevstunik_*
-    packaging/depths.py --chain NAME OBJECT     prints the deepest chain of calls from this function on: for each function its own
+    packaging/depths.py --chain NAME OBJECT     prints the deepest chain of calls from this function on: for each
+    function its own
                                                 bytes, those down to the end of the chain, and its name
 
-Follows the stack pointer through each function, and the calls between functions. Ends with an error if it meets what it can't bound: a stack
-pointer that is computed, a call by a pointer, or a recursion that it doesn't know; and if one function has a frame of more than 24 KiB.
+Follows the stack pointer through each function, and the calls between functions. Ends with an error if it meets what it
+can't bound: a stack pointer that is computed, a call by a pointer, or a recursion that it doesn't know; and if one
+function has a frame of more than 24 KiB.
 """
 import re
 import subprocess
 import sys
 from dataclasses import dataclass, field
 
-# What a function of the C library may use: memcpy and the like, malloc and free. None of them is given a key but to copy it.
+# What a function of the C library may use: memcpy and the like, malloc and free. None of them is given a key but to
+# copy it.
 OF_C_LIBRARY = 512
-# Functions that call themselves: they walk the trees of what was seen, which have names, times and counts, but no keys. So what they leave
-# deeper down isn't overwritten.
+# Functions that call themselves: they walk the trees of what was seen, which have names, times and counts, but no keys.
+# So what they leave deeper down isn't overwritten.
 WALKS = ("std_collections::btree::node::Node::",)
-# No frame may be larger. For a large one LLVM makes code that touches each of its pages first, which has overwritten a register in use.
+# No frame may be larger. For a large one LLVM makes code that touches each of its pages first, which has overwritten a
+# register in use.
 LARGEST_FRAME = 24 * 1024
-# For the frame of the caller, which may take back the arguments that lie on the stack before it overwrites what is below.
+# For the frame of the caller, which may take back the arguments that lie on the stack before it overwrites what is
+# below.
 ARGUMENTS = 128
 SECTION = re.compile(r"Disassembly of section (\S+):")
 SYMBOL = re.compile(r"([0-9a-f]+) <(.+)>:$")
@@ -194,7 +200,8 @@ class Depths:
         return found[2]
 
     def jump(self, function, step, places):
-        """The place that a jump leads to in the function, the name of another function, or None for a table of jumps."""
+        """The place that a jump leads to in the function, the name of another function, or None for a table of
+        jumps."""
         if step.words.startswith("*"):
             return None if not step.moved else step.moved
         if not step.moved and (found := TARGET.match(step.words)) and int(found[1], 16) in places:
@@ -204,7 +211,8 @@ class Depths:
 
 
 def depths_of(path):
-    text = subprocess.run(["objdump", "-dr", "--no-show-raw-insn", path], capture_output=True, text=True, check=True).stdout
+    text = subprocess.run(["objdump", "-dr", "--no-show-raw-insn", path], capture_output=True, text=True,
+                          check=True).stdout
     return Depths(read(text))
 
 

@@ -3,8 +3,8 @@
 
     packaging/notices.py FILE
 
-Which libraries these are is read from crates.txt and from the toolchain (`dep` lines of rlibs/NAME.rlib/format), their notices from the files
-LICENSE* in its folder rattle/NAME. A notice that several libraries share is written once.
+Which libraries these are is read from crates.txt and from the toolchain (`dep` lines of rlibs/NAME.rlib/format), their
+notices from the files LICENSE* in its folder rattle/NAME. A notice that several libraries share is written once.
 """
 import os
 import re

@@ -3,8 +3,8 @@
 
     packaging/program.py CPU OUT     CPU is x86-64, x86-64-v2 or x86-64-v3; OUT is the object file
 
-Takes the libraries that `rt ci` left, if it has just run, as packaging/archive.py does; else proves by `rt run`. The program is checked for
-each processor; what an earlier check kept isn't proved again.
+Takes the libraries that `rt ci` left, if it has just run, as packaging/archive.py does; else proves by `rt run`. The
+program is checked for each processor; what an earlier check kept isn't proved again.
 """
 import pathlib
 import sys

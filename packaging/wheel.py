@@ -3,9 +3,10 @@
 
     packaging/wheel.py VERSION BUILD
 
-The package loads fevstunik/lib/libfevstunik.so, which has no code: it needs libfevstunik.so.0 in its own folder, so that the loader takes the
-build for the processor (from glibc-hwcaps there). The platform is that of the oldest glibc that the libraries run with, as PEP 600 names it,
-and no library but glibc's is needed. The files have the commit's time, or the one that SOURCE_DATE_EPOCH says.
+The package loads fevstunik/lib/libfevstunik.so, which has no code: it needs libfevstunik.so.0 in its own folder, so
+that the loader takes the build for the processor (from glibc-hwcaps there). The platform is that of the oldest glibc
+that the libraries run with, as PEP 600 names it, and no library but glibc's is needed. The files have the commit's
+time, or the one that SOURCE_DATE_EPOCH says.
 """
 import base64
 import hashlib
@@ -35,7 +36,8 @@ def entry(build):
     """The library without code that the package loads."""
     file = build / "libfevstunik.so"
     # (by the older kind of path, which goes before LD_LIBRARY_PATH: the package uses its own library)
-    how = ["-Wl,-rpath,$ORIGIN", "-Wl,--disable-new-dtags", "-Wl,--no-as-needed", "-Wl,--build-id=none", "-Wl,-z,noexecstack"]
+    how = ["-Wl,-rpath,$ORIGIN", "-Wl,--disable-new-dtags", "-Wl,--no-as-needed", "-Wl,--build-id=none",
+           "-Wl,-z,noexecstack"]
     compiler = shlex.split(os.environ.get("CC", "cc"))
     with_library = [f"-L{build / 'x86-64'}", f"-l:{library(build, 'x86-64').name}"]
     said(*compiler, "-shared", "-nostdlib", "-o", file, "-Wl,-soname,libfevstunik.so", *how, *with_library)
@@ -63,7 +65,8 @@ def metadata(version):
     about = tomllib.loads((TOP / "python/pyproject.toml").read_text())["project"]
     if about["version"] != version:
         sys.exit(f"wheel: python/pyproject.toml has the version {about['version']}, the header {version}")
-    rows = [("Metadata-Version", "2.1"), ("Name", about["name"]), ("Version", version), ("Summary", about["description"])]
+    rows = [("Metadata-Version", "2.1"), ("Name", about["name"]), ("Version", version),
+            ("Summary", about["description"])]
     rows += [("Classifier", it) for it in about["classifiers"]] + [("Requires-Python", about["requires-python"])]
     for extra, needed in about["optional-dependencies"].items():
         rows += [("Provides-Extra", extra), *(("Requires-Dist", f'{it} ; extra == "{extra}"') for it in needed)]
@@ -79,14 +82,16 @@ def contents(version, build):
     libraries = {cpu: library(build, cpu) for cpu in PLACES}
     tag = ("py3", "none", platform(libraries.values()))
     python = TOP / "python"
-    files = {str(it.relative_to(python)): it.read_bytes() for it in [*python.glob("fevstunik/**/*.py"), python / "fevstunik/py.typed"]}
+    files = {str(it.relative_to(python)): it.read_bytes() for it in [*python.glob("fevstunik/**/*.py"),
+                                                                     python / "fevstunik/py.typed"]}
     files |= {f"fevstunik/{PLACES[cpu]}/{SONAME}": it.read_bytes() for cpu, it in libraries.items()}
     files["fevstunik/lib/libfevstunik.so"] = entry(build).read_bytes()
     about = f"fevstunik-{version}.dist-info"
     tags = [("Tag", f"{tag[0]}-{tag[1]}-{it}") for it in tag[2].split(".")]
     files[f"{about}/METADATA"] = headers(metadata(version))
     files[f"{about}/NOTICES"] = (build / "NOTICES").read_bytes()
-    files[f"{about}/WHEEL"] = headers([("Wheel-Version", "1.0"), ("Generator", "fevstunik"), ("Root-Is-Purelib", "false"), *tags])
+    files[f"{about}/WHEEL"] = headers([("Wheel-Version", "1.0"), ("Generator", "fevstunik"),
+                                       ("Root-Is-Purelib", "false"), *tags])
     files[f"{about}/RECORD"] = record(files, f"{about}/RECORD")
     return files, "-".join(tag)
 

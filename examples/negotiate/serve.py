@@ -1,12 +1,14 @@
 #!/usr/bin/env python3
-"""A web service that knows who its users are: HTTP with `Authorization: Negotiate` (RFC 4559), over the package fevstunik.web.
+"""A web service that knows who its users are: HTTP with `Authorization: Negotiate` (RFC 4559), over the package
+fevstunik.web.
 
     examples/negotiate/serve.py www.keytab HTTP/www.example.com@EXAMPLE.COM --port 8080
 
     curl --negotiate -u : http://www.example.com:8080/        hello alice@EXAMPLE.COM
 
-Until its clock and the client's are both later than its start by more than the skew, the service refuses requests (JUST_STARTED). --first
-leaves out the start, and the service accepts at once: docs/OPERATING.md, "Restarts", says when you may do so.
+Until its clock and the client's are both later than its start by more than the skew, the service refuses requests
+(JUST_STARTED). --first leaves out the start, and the service accepts at once: docs/OPERATING.md, "Restarts", says when
+you may do so.
 """
 import argparse
 import logging

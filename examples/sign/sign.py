@@ -1,12 +1,13 @@
 #!/usr/bin/env python3
-"""A client and a server that go on after a login, as SSH and LDAP do: each proves by a MIC that it has seen the same session, and then they
-send sealed lines, over TCP on the loopback.
+"""A client and a server that go on after a login, as SSH and LDAP do: each proves by a MIC that it has seen the same
+session, and then they send sealed lines, over TCP on the loopback.
 
-    sign.py serve KEYTAB NAME [--first]   NAME as host/web@EX; it prints its port, and serves one client: each line comes back as `CLIENT: LINE`
+    sign.py serve KEYTAB NAME [--first]   NAME as host/web@EX; it prints its port, and serves one client: each line
+                                          comes back as `CLIENT: LINE`
     sign.py ask CACHE NAME PORT           sends the lines of standard input, and prints what comes back
 
-sign.c is the same in C; either may talk to the other one. `serve` refuses logins in the first five minutes after it was started: --first
-doesn't, and is only for a keytab whose keys are all new.
+sign.c is the same in C; either may talk to the other one. `serve` refuses logins in the first five minutes after it was
+started: --first doesn't, and is only for a keytab whose keys are all new.
 """
 import socket
 import sys

@@ -28,9 +28,10 @@ class _List(enum.IntEnum):
 class Stamp(Shown):
     """What stands for an accepted request in a store that several instances of a service share.
 
-    data        service, client and client's time as bytes: the same if and only if the requests are of the same service, client and time
-    keep_until  until when the store must keep it, by its own clock, rounded up to what the store can keep: the client's time plus twice the
-                skew
+    data        service, client and client's time as bytes: the same if and only if the requests are of the same
+                service, client and time
+    keep_until  until when the store must keep it, by its own clock, rounded up to what the store can keep: the client's
+                time plus twice the skew
 
     >>> Stamp(b"service, client and time", Moment(1_700_000_700)).keep_until.seconds
     1700000700
@@ -75,7 +76,8 @@ class Known(Secret):
 
         >>> from fevstunik import Acceptor, Keytab
         >>> request = bytes.fromhex(open("examples/calls.txt").readline().split()[2])
-        >>> Acceptor(Keytab.read("examples/service.keytab"), "host/web@EX", first_life=True).accept(request, now=1_700_000_100).addresses
+        >>> acceptor = Acceptor(Keytab.read("examples/service.keytab"), "host/web@EX", first_life=True)
+        >>> acceptor.accept(request, now=1_700_000_100).addresses
         ()
         """
         return self._items(_List.ADDRESSES)
@@ -86,7 +88,8 @@ class Known(Secret):
 
         >>> from fevstunik import Acceptor, Keytab
         >>> request = bytes.fromhex(open("examples/calls.txt").readline().split()[2])
-        >>> Acceptor(Keytab.read("examples/service.keytab"), "host/web@EX", first_life=True).accept(request, now=1_700_000_100).authorization
+        >>> acceptor = Acceptor(Keytab.read("examples/service.keytab"), "host/web@EX", first_life=True)
+        >>> acceptor.accept(request, now=1_700_000_100).authorization
         ()
         """
         return self._items(_List.TICKET_AUTHORIZATION)
@@ -118,12 +121,13 @@ class Known(Secret):
 
     @property
     def transited(self) -> TypedData:
-        """The realms that the ticket passed through between the client's and the service's, as the ticket encodes them (RFC 4120, section
-        5.3). They weren't checked. If there are none, `data` is empty. They are read on first use.
+        """The realms that the ticket passed through between the client's and the service's, as the ticket encodes them
+        (RFC 4120, section 5.3). They weren't checked. If there are none, `data` is empty. They are read on first use.
 
         >>> from fevstunik import Acceptor, Keytab
         >>> request = bytes.fromhex(open("examples/calls.txt").readline().split()[2])
-        >>> Acceptor(Keytab.read("examples/service.keytab"), "host/web@EX", first_life=True).accept(request, now=1_700_000_100).transited
+        >>> acceptor = Acceptor(Keytab.read("examples/service.keytab"), "host/web@EX", first_life=True)
+        >>> acceptor.accept(request, now=1_700_000_100).transited
         TypedData(kind=1, data=<0 bytes>)
         """
         return self._items(_List.TRANSITED)[0]
@@ -147,10 +151,11 @@ class Known(Secret):
         return Context.read(found.data) if found is not None and found.kind == CHECKSUM else None
 
     def stamp(self, skew: int | None = None) -> Stamp:
-        """Return the stamp of the request, for a store that several instances of the service share (docs/OPERATING.md has the conditions).
+        """Return the stamp of the request, for a store that several instances of the service share (docs/OPERATING.md
+        has the conditions).
 
-        Let the client in only if the store adds the stamp in one step and says that it is new, and if the clock, read again after that,
-        isn't later than `time` by more than the skew.
+        Let the client in only if the store adds the stamp in one step and says that it is new, and if the clock, read
+        again after that, isn't later than `time` by more than the skew.
 
         skew  the largest skew of all instances, in seconds; the acceptor's own by default
 
@@ -179,7 +184,8 @@ class Known(Secret):
     def __enter__(self) -> Self:
         return self
 
-    def __exit__(self, kind: type[BaseException] | None, fault: BaseException | None, trace: TracebackType | None) -> None:
+    def __exit__(self, kind: type[BaseException] | None, fault: BaseException | None,
+                 trace: TracebackType | None) -> None:
         self.close()
 
 
@@ -201,9 +207,9 @@ class Accepted(Known):
     client_type   the type of the client's name
     service_type  the type of the service's name, as the ticket has it
 
-    It is a context manager. At the end of the block, or by close(), the library frees what it holds. Then reply and stamp raise the
-    Fault EMPTY_HANDLE, and so do addresses, authorization, authenticator_authorization, checksum, transited and context, unless they were
-    read before.
+    It is a context manager. At the end of the block, or by close(), the library frees what it holds. Then reply and
+    stamp raise the Fault EMPTY_HANDLE, and so do addresses, authorization, authenticator_authorization, checksum,
+    transited and context, unless they were read before.
 
     >>> from fevstunik import Acceptor, Keytab
     >>> request = bytes.fromhex(open("examples/calls.txt").readline().split()[2])
@@ -235,8 +241,8 @@ _Known = TypeVar("_Known", bound=Known)
 
 
 def known_by(kind: type[_Known], handle: Handle, skew: int, **more: Any) -> _Known:
-    """What the handle holds, as an object of this kind, which has more fields. The caller has the handle's lock, or has made it. (To set the
-    fields of a frozen dataclass one by one takes five times as long.)"""
+    """What the handle holds, as an object of this kind, which has more fields. The caller has the handle's lock, or has
+    made it. (To set the fields of a frozen dataclass one by one takes five times as long.)"""
     known, data = read(_interface.Known, handle.library.call, "accepted_known", handle.accepted)
     made = object.__new__(kind)
     object.__setattr__(made, "__dict__", {

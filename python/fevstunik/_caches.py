@@ -91,15 +91,19 @@ def path_of(location: str, source: str) -> str:
         return rest[1:] if rest.startswith(":") else _primary(rest)
     shown = fit_for_a_line(location)
     if kind in _ELSEWHERE:
-        raise CacheError(CacheTrouble.OTHER_KIND, f"{source} is {shown}: {_ELSEWHERE[kind]}. Keep the tickets in a file: `export "
-                         f"{_VARIABLE}=FILE:/tmp/krb5cc_{os.getuid()}`, then `kinit`; for all programs, set `default_ccache_name = "
+        raise CacheError(CacheTrouble.OTHER_KIND, f"{source} is {shown}: {_ELSEWHERE[kind]}. Keep the tickets in a "
+                                                  f"file: `export "
+                         f"{_VARIABLE}=FILE:/tmp/krb5cc_{os.getuid()}`, then `kinit`; for all programs, set "
+                         f"`default_ccache_name = "
                          f"{_DEFAULT}` in [libdefaults] of krb5.conf")
-    raise CacheError(CacheTrouble.BAD_LOCATION, f"{source} is {shown}: name a file (FILE:/path), or a folder (DIR:/path)")
+    raise CacheError(CacheTrouble.BAD_LOCATION, f"{source} is {shown}: name a file (FILE:/path), or a folder "
+                                                f"(DIR:/path)")
 
 
 _ELSEWHERE = {
     "KEYRING": "such a cache is in the kernel's keyring, which only the libraries of MIT krb5 read",
-    "KCM": "such a cache is in the memory of a server (sssd-kcm or Heimdal's kcm), which only the Kerberos libraries ask",
+    "KCM": "such a cache is in the memory of a server (sssd-kcm or Heimdal's kcm), which only the Kerberos libraries "
+           "ask",
     "MEMORY": "such a cache is in the memory of one process",
     "API": "such a cache is kept by the system's credential server, which only the Kerberos libraries ask",
     "SCC": "such a cache is a database of Heimdal",
@@ -115,9 +119,11 @@ def _primary(folder: str) -> str:
         name = _FIRST
     except OSError as fault:
         shown = fit_for_a_line(folder)
-        raise CacheError(CacheTrouble.UNREADABLE, f"the folder of caches {shown} can't be read: {fault.strerror}") from fault
+        raise CacheError(CacheTrouble.UNREADABLE,
+                         f"the folder of caches {shown} can't be read: {fault.strerror}") from fault
     if not name.startswith(_FIRST) or "/" in name:
-        raise CacheError(CacheTrouble.BAD_LOCATION, f"the file `primary` in {fit_for_a_line(folder)} doesn't name a cache in that folder")
+        raise CacheError(CacheTrouble.BAD_LOCATION, f"the file `primary` in {fit_for_a_line(folder)} doesn't name a "
+                                                    f"cache in that folder")
     return os.path.join(folder, name)
 
 
@@ -134,14 +140,16 @@ def _configured() -> str | None:
 
 
 def _lines(path: str, deepest: int) -> Iterator[tuple[str, str]]:
-    """The lines of a configuration file that aren't in braces, each with its section, and those of the files that it includes."""
+    """The lines of a configuration file that aren't in braces, each with its section, and those of the files that it
+    includes."""
     try:
         with open(path, encoding="utf-8", errors="surrogateescape") as file:
             lines = [it.strip() for it in file]
     except FileNotFoundError:
         return
     except OSError as fault:
-        raise CacheError(CacheTrouble.UNREADABLE, f"the file {fit_for_a_line(path)} can't be read: {fault.strerror}") from fault
+        raise CacheError(CacheTrouble.UNREADABLE,
+                         f"the file {fit_for_a_line(path)} can't be read: {fault.strerror}") from fault
     section, depth = "", 0
     for line in lines:
         word, _, operand = line.partition(" ")
@@ -156,7 +164,8 @@ def _lines(path: str, deepest: int) -> Iterator[tuple[str, str]]:
 
 
 def _included(word: str, operand: str) -> list[str]:
-    """The files that a line includes. In a folder these are those named by letters, digits, `-` and `_`, or ending in ``.conf``."""
+    """The files that a line includes. In a folder these are those named by letters, digits, `-` and `_`, or ending in
+    ``.conf``."""
     if word == "include":
         return [operand]
     paths = sorted(glob.glob(os.path.join(glob.escape(operand), "*")))
@@ -171,7 +180,8 @@ def _expanded(value: str) -> str:
 
     def word(found: re.Match[str]) -> str:
         if found[1] not in words:
-            raise CacheError(CacheTrouble.BAD_LOCATION, f"default_ccache_name of krb5.conf has {fit_for_a_line(found[0])}, which isn't "
+            raise CacheError(CacheTrouble.BAD_LOCATION, f"default_ccache_name of krb5.conf has "
+                                                        f"{fit_for_a_line(found[0])}, which isn't "
                              f"understood: set {_VARIABLE}")
         return str(words[found[1]]())
     return re.sub(r"%\{([^}]*)\}", word, value)
@@ -183,7 +193,8 @@ def get_ticket(path: str, service: str, seconds: float) -> None:
     """Have kvno or kgetcred put a ticket for a service into the cache at a path."""
     tool, shown = shutil.which("kvno") or shutil.which("kgetcred"), fit_for_a_line(service)
     if tool is None:
-        raise CacheError(CacheTrouble.NO_TOOL, f"the cache has no ticket for {shown}, and neither kvno (Debian's krb5-user) nor kgetcred "
+        raise CacheError(CacheTrouble.NO_TOOL, f"the cache has no ticket for {shown}, and neither kvno (Debian's "
+                                               f"krb5-user) nor kgetcred "
                          "(heimdal-clients) is installed to get one")
     environment = {**os.environ, _VARIABLE: f"FILE:{os.path.abspath(path)}"}
     try:

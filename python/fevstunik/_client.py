@@ -47,7 +47,8 @@ class Agreed(Secret):
 
         any_order, repeats  as of Messages
 
-        Call it once for each login: other messages of the same login begin again at the first numbers, and take what was taken before.
+        Call it once for each login: other messages of the same login begin again at the first numbers, and take what
+        was taken before.
 
         >>> from fevstunik import Client, CredentialCache, Keytab, Service
         >>> service = Service(Keytab.read("examples/service.keytab"), "host/web@EX", first_life=True)
@@ -58,14 +59,15 @@ class Agreed(Secret):
         b'hello'
         """
         return Messages(Side.CLIENT, self.session_key, client_subkey=self.subkey, service_subkey=self.service_subkey,
-                        client_seq=self.seq or 0, service_seq=self.service_seq or 0, any_order=any_order, repeats=repeats)
+                        client_seq=self.seq or 0, service_seq=self.service_seq or 0, any_order=any_order,
+                        repeats=repeats)
 
 
 class Pending(Secret):
     """A request whose reply is awaited, as make_request returns it.
 
-    It is a context manager. At the end of the block, or by close(), the library frees what it holds. Then finish raises the Fault
-    EMPTY_HANDLE.
+    It is a context manager. At the end of the block, or by close(), the library frees what it holds. Then finish raises
+    the Fault EMPTY_HANDLE.
 
     >>> from fevstunik import CredentialCache, make_request
     >>> with CredentialCache.read("examples/client.ccache") as cache:
@@ -85,7 +87,8 @@ class Pending(Secret):
         >>> service = Acceptor(Keytab.read("examples/service.keytab"), "host/web@EX", first_life=True)
         >>> reply = service.accept(request, now=1_700_000_100).reply(subkey=Key.random(20))
         >>> pending.finish(reply)
-        Agreed(client='alice@EX', session_key=Key(kind=19), service_subkey=Key(kind=20), service_seq=None, client_type=1)
+        Agreed(client='alice@EX', session_key=Key(kind=19), service_subkey=Key(kind=20), service_seq=None,
+        client_type=1)
         """
         reply = octets(reply)
         found, data = read(_interface.Agreement, lambda *into: self._handle.call("finish", reply, len(reply), *into))
@@ -98,7 +101,8 @@ class Pending(Secret):
         """Free what the library holds. A second call does nothing.
 
         >>> from fevstunik import CredentialCache, make_request
-        >>> request, pending = make_request(CredentialCache.read("examples/client.ccache"), "host/web@EX", now=1_700_000_100)
+        >>> cache = CredentialCache.read("examples/client.ccache")
+        >>> request, pending = make_request(cache, "host/web@EX", now=1_700_000_100)
         >>> pending.close()
         """
         self._handle.close()
@@ -106,26 +110,31 @@ class Pending(Secret):
     def __enter__(self) -> Pending:
         return self
 
-    def __exit__(self, kind: type[BaseException] | None, fault: BaseException | None, trace: TracebackType | None) -> None:
+    def __exit__(self, kind: type[BaseException] | None, fault: BaseException | None,
+                 trace: TracebackType | None) -> None:
         self.close()
 
 
-def make_request(cache: CredentialCache, service: str, *, now: When | None = None, subkey: Key | None = None, seq: int | None = None,
-                 wants_reply: bool = True, context: ContextFlags | None = None, bindings: Bytes | None = None) -> tuple[bytes, Pending]:
+def make_request(cache: CredentialCache, service: str, *, now: When | None = None, subkey: Key | None = None,
+                 seq: int | None = None, wants_reply: bool = True, context: ContextFlags | None = None,
+                 bindings: Bytes | None = None) -> tuple[bytes, Pending]:
     """Return the bytes of a request for a service, and the Pending that reads its reply.
 
     cache        has a ticket of its owner for the service
     service      the service's name, as ``host/web@EX``
-    now          the client's clock. By default the machine's clock. Then no two requests of this process have the same moment, unless the
-                 clock is set back. If you pass `now`, never pass one moment twice: a service refuses the second request
+    now          the client's clock. By default the machine's clock. Then no two requests of this process have the same
+                 moment, unless the clock is set back. If you pass `now`, never pass one moment twice: a service refuses
+                 the second request
     subkey       a key that the client chooses, as Key.random(20), or None
     seq          the client's first sequence number, or None
     wants_reply  whether to ask the service for a reply
-    context      what a GSS-API client asks for, if the request is to be wrapped in a token. Its MUTUAL and DELEGATION don't count: MUTUAL
-                 is set if and only if a reply is asked for, and DELEGATION never. The sequence number is random unless `seq` is given
+    context      what a GSS-API client asks for, if the request is to be wrapped in a token. Its MUTUAL and DELEGATION
+                 don't count: MUTUAL is set if and only if a reply is asked for, and DELEGATION never. The sequence
+                 number is random unless `seq` is given
     bindings     the bindings of such a client's channel, as ``b"tls-server-end-point:" + hash``, or None
 
-    Raises Fault if no request can be built: NO_CREDENTIAL, NO_USABLE_KEY or CREDENTIAL_EXPIRED (no ticket fits), BAD_TICKET or TOO_LONG.
+    Raises Fault if no request can be built: NO_CREDENTIAL, NO_USABLE_KEY or CREDENTIAL_EXPIRED (no ticket fits),
+    BAD_TICKET or TOO_LONG.
 
     >>> from fevstunik import CredentialCache, make_request
     >>> with CredentialCache.read("examples/client.ccache") as cache:
@@ -137,7 +146,8 @@ def make_request(cache: CredentialCache, service: str, *, now: When | None = Non
         raise ValueError("bindings are those of a client of GSS-API: give its context, too")
     if context is not None and seq is None:
         seq = int.from_bytes(os.urandom(4), "big") >> 2
-    name, at, confounder, choice = text_of(service), clock_of_request(now), os.urandom(CONFOUNDER), chosen(subkey, seq, wants_reply)
+    name, at, confounder = text_of(service), clock_of_request(now), os.urandom(CONFOUNDER)
+    choice = chosen(subkey, seq, wants_reply)
     call, more = ("request", ()) if context is None else ("context_request", (byref(_context(context, bindings)),))
     pending = Handle("pending")
     try:
@@ -154,9 +164,11 @@ _HINTS = {
     Code.NO_CREDENTIAL: "get one by `kvno {0}`, or by the cache's `fetch`",
     Code.CREDENTIAL_EXPIRED: "get a new one by `kinit` and `kvno {0}`",
     Code.NO_REALM: "the service's name has a realm, as host/web@EX",
-    Code.BAD_TEXT: "in the service's name, a byte that isn't visible ASCII is written as \\x and two hexadecimal digits",
+    Code.BAD_TEXT: "in the service's name, a byte that isn't visible ASCII is written as \\x and two hexadecimal "
+                   "digits",
 }
-# KRB_AP_ERR_SKEW (RFC 4120, section 7.5.9), and by how many seconds clocks may differ, unless a service has another limit.
+# KRB_AP_ERR_SKEW (RFC 4120, section 7.5.9), and by how many seconds clocks may differ, unless a service has another
+# limit.
 _SKEW, _MOST = 37, 300
 # The first bytes of a reply and of a KRB-ERROR without a token around them.
 _REPLY, _ERROR = b"\x6f", b"\x7e"
@@ -166,7 +178,8 @@ class ServiceError(Exception):
     """A service refused a client, or answered without a proof that it is the right one.
 
     error         the KRB-ERROR of its answer, or None. Nobody has signed it: it may be forged
-    clock_offset  by how many seconds the service's clock is ahead of the client's, as the error says; or None without an error
+    clock_offset  by how many seconds the service's clock is ahead of the client's, as the error says; or None without
+                  an error
     says          what a negotiation says in place of a reply, or None
 
     >>> from fevstunik import KrbError, Moment, ServiceError
@@ -188,7 +201,8 @@ class ServiceError(Exception):
             return text
         if abs(self.clock_offset) < _MOST:
             return f"{text}; the clocks agree, so the service may have just started: try again in five minutes"
-        return f"{text}; its clock is {abs(self.clock_offset):.0f} seconds {'ahead' if self.clock_offset > 0 else 'behind'}"
+        side = "ahead" if self.clock_offset > 0 else "behind"
+        return f"{text}; its clock is {abs(self.clock_offset):.0f} seconds {side}"
 
 
 _UNPROVED = {
@@ -207,8 +221,8 @@ class Client(Secret):
     negotiated   whether the token is in a negotiation (SPNEGO), as web services want it
     context      what a GSS-API client asks for, as of make_request; or None for a request without a token around it
     bindings     the bindings of the channel, as tls_server_end_point returns them, or None
-    subkey       a key that the client chooses: by default a random one for each request, of the type of the ticket's key. So messages that
-                 were recorded in an earlier login aren't taken again
+    subkey       a key that the client chooses: by default a random one for each request, of the type of the ticket's
+                 key. So messages that were recorded in an earlier login aren't taken again
     wants_reply  whether to ask the service for a reply. Without one, nothing proves who the service is
 
     It is a context manager. At the end of the block, or by close(), the library frees what it holds.
@@ -221,10 +235,12 @@ class Client(Secret):
     'alice@EX'
     """
 
-    def __init__(self, cache: CredentialCache, service: str, *, negotiated: bool = True, context: ContextFlags | None = ContextFlags(0),
+    def __init__(self, cache: CredentialCache, service: str, *, negotiated: bool = True,
+                 context: ContextFlags | None = ContextFlags(0),
                  bindings: Bytes | None = None, subkey: Key | None = None, wants_reply: bool = True) -> None:
         if not isinstance(cache, CredentialCache):
-            raise TypeError(f"cache is a CredentialCache, as CredentialCache.read(path) returns it, not a {type(cache).__name__}")
+            raise TypeError(f"cache is a CredentialCache, as CredentialCache.read(path) returns it, not a "
+                            f"{type(cache).__name__}")
         self._cache, self._service, self._negotiated, self._wants_reply = cache, service, negotiated, wants_reply
         self._context, self._bindings, self._subkey = context, bindings, subkey
         self._sent: tuple[Pending, Moment] | None = None
@@ -244,8 +260,8 @@ class Client(Secret):
         here = clock_of_request(now)
         moment = Moment(*divmod(1_000_000 * here.seconds + here.micros + round(1_000_000 * clock_offset), 1_000_000))
         subkey = self._subkey or Key.random(self._type_at(moment))
-        request, pending = make_request(self._cache, self._service, now=moment, subkey=subkey, wants_reply=self._wants_reply,
-                                        context=self._context, bindings=self._bindings)
+        request, pending = make_request(self._cache, self._service, now=moment, subkey=subkey,
+                                        wants_reply=self._wants_reply, context=self._context, bindings=self._bindings)
         self.close()
         self._sent = pending, moment
         return request if self._context is None else wrap_request(request, negotiated=self._negotiated)
@@ -253,14 +269,16 @@ class Client(Secret):
     def _type_at(self, moment: Moment) -> int:
         """The type of the ticket's session key, which the KDC chose as one that the service has."""
         usable = [it for it in self._cache.credentials
-                  if it.server == self._service and it.key.kind in KEY_SIZES and it.endtime > moment.seconds and not it.is_skey]
+                  if it.server == self._service and it.key.kind in KEY_SIZES and it.endtime > moment.seconds
+                  and not it.is_skey]
         return max(usable, key=lambda it: it.endtime).key.kind if usable else max(KEY_SIZES)
 
     def finish(self, answer: Bytes) -> Agreed:
-        """Read the service's answer: a token or a message without one. Only after this, the client knows that it talks to the service.
+        """Read the service's answer: a token or a message without one. Only after this, the client knows that it talks
+        to the service.
 
-        Raises ServiceError if the service refused the client, or didn't reply; and Fault if these bytes aren't the reply. The right one may
-        still be read afterwards.
+        Raises ServiceError if the service refused the client, or didn't reply; and Fault if these bytes aren't the
+        reply. The right one may still be read afterwards.
 
         >>> from fevstunik import Client, CredentialCache
         >>> client = Client(CredentialCache.read("examples/client.ccache"), "host/web@EX")
@@ -301,20 +319,21 @@ class Client(Secret):
     def __enter__(self) -> Client:
         return self
 
-    def __exit__(self, kind: type[BaseException] | None, fault: BaseException | None, trace: TracebackType | None) -> None:
+    def __exit__(self, kind: type[BaseException] | None, fault: BaseException | None,
+                 trace: TracebackType | None) -> None:
         self.close()
 
 
 def login(cache: CredentialCache, service: str, exchange: Callable[[bytes], bytes], *, now: When | None = None,
-          adjust_clock: bool = False, negotiated: bool = True, context: ContextFlags | None = ContextFlags(0), bindings: Bytes | None = None,
-          subkey: Key | None = None) -> Agreed:
+          adjust_clock: bool = False, negotiated: bool = True, context: ContextFlags | None = ContextFlags(0),
+          bindings: Bytes | None = None, subkey: Key | None = None) -> Agreed:
     """Log in to a service as a Client, and return what both agreed on.
 
     exchange      sends the service some bytes, and returns what it answers
     now           the client's clock: the machine's clock by default
-    adjust_clock  whether to try once more by the service's clock, if it answers that the clocks differ too much (RFC 4120, section 5.9.1).
-                  Nobody has signed that answer, and a request made by a forged time is of use then. So ask for it only if your machine's
-                  clock is known to be wrong
+    adjust_clock  whether to try once more by the service's clock, if it answers that the clocks differ too much (RFC
+                  4120, section 5.9.1). Nobody has signed that answer, and a request made by a forged time is of use
+                  then. So ask for it only if your machine's clock is known to be wrong
 
     The others are those of Client. Raises ServiceError or Fault as Client.first and Client.finish do.
 
@@ -326,7 +345,8 @@ def login(cache: CredentialCache, service: str, exchange: Callable[[bytes], byte
     ...         return opened.reply(service.accept(opened.request, now=1_700_000_100).reply())
     ...     except Refused as refused:
     ...         return opened.error(refused.error("host/web@EX", now=1_700_000_100))
-    >>> login(CredentialCache.read("examples/client.ccache"), "host/web@EX", exchange, now=1_700_000_500, adjust_clock=True).client
+    >>> cache = CredentialCache.read("examples/client.ccache")
+    >>> login(cache, "host/web@EX", exchange, now=1_700_000_500, adjust_clock=True).client
     'alice@EX'
     """
     with Client(cache, service, negotiated=negotiated, context=context, bindings=bindings, subkey=subkey) as client:

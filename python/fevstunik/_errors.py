@@ -61,7 +61,8 @@ class LibraryError(OSError):
 class StoreFailed(Exception):
     """The store doesn't say in time whether a stamp is new. It may have added the stamp.
 
-    A service then lets nobody in: it refuses the client with STORE_FAILED, and the client may try again with a new request.
+    A service then lets nobody in: it refuses the client with STORE_FAILED, and the client may try again with a new
+    request.
 
     >>> from fevstunik.stores import StoreFailed
     >>> print(StoreFailed("no answer in 2 seconds"))

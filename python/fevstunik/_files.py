@@ -27,7 +27,8 @@ def content(path: str | os.PathLike[str]) -> bytes:
 
 
 # What a file is that begins with these two bytes.
-_KINDS = {b"\x05\x02": "a keytab", b"\x05\x01": "a keytab of an older version", b"\x05\x03": "a credential cache", b"\x05\x04": "a credential cache"}
+_KINDS = {b"\x05\x02": "a keytab", b"\x05\x01": "a keytab of an older version", b"\x05\x03": "a credential cache",
+          b"\x05\x04": "a credential cache"}
 
 
 def _checked(answer: Answer, data: bytes) -> Answer:
@@ -117,7 +118,8 @@ class Keytab(Secret):
     @staticmethod
     def _entry(handle: Handle, index: int) -> KeytabEntry:
         entry, data = read(_interface.KeyEntry, lambda struct, *into: handle.call("keytab_entry", index, struct, *into))
-        return KeytabEntry(entry.name.text(data), Key(entry.key_type, entry.key.of(data)), entry.kvno, entry.timestamp, entry.name_type)
+        return KeytabEntry(entry.name.text(data), Key(entry.key_type, entry.key.of(data)), entry.kvno, entry.timestamp,
+                           entry.name_type)
 
     def added(self, entry: KeytabEntry) -> Keytab:
         """Return a keytab with one more entry, in the first hole that is long enough, or at the end.
@@ -129,7 +131,8 @@ class Keytab(Secret):
         True
         """
         name, key = text_of(entry.name), octets(entry.key.data)
-        parts = _interface.KeyParts(fitting(entry.timestamp, 32), fitting(entry.kvno, 32), fitting(entry.name_type, 32, signed=True),
+        parts = _interface.KeyParts(fitting(entry.timestamp, 32), fitting(entry.kvno, 32),
+                                    fitting(entry.name_type, 32, signed=True),
                                   fitting(entry.key.kind, 16, signed=True))
         # A record takes at most twice its name's bytes, the key's, and 64 more.
         room = len(self._data) + 2 * len(name) + len(key) + 64
@@ -146,7 +149,8 @@ class Keytab(Secret):
         ()
         """
         index, room = fitting(index, 64), len(self._data)
-        return Keytab(filled(lambda *into: library().call("keytab_remove", self._data, len(self._data), index, *into), room))
+        return Keytab(filled(lambda *into: library().call("keytab_remove", self._data, len(self._data), index, *into),
+                             room))
 
     def compacted(self) -> Keytab:
         """Return a keytab with the same entries and without holes.
@@ -176,7 +180,8 @@ def kvnos_of(keytab: Keytab) -> dict[tuple[str, int], list[int]]:
 
 @dataclass(frozen=True)
 class Owner:
-    """The owner of a cache: the default principal, and the offset of its KDC's clock as (seconds, microseconds), if the cache has one.
+    """The owner of a cache: the default principal, and the offset of its KDC's clock as (seconds, microseconds), if the
+    cache has one.
 
     >>> CredentialCache.read("examples/client.ccache").owner
     Owner(name='alice@EX', name_type=1, clock_offset=None)
@@ -228,19 +233,22 @@ def _has_realm(name: str) -> bool:
         except Fault:
             continue
         return has_realm
-    raise CacheError(CacheTrouble.BAD_SERVICE, f"{fit_for_a_line(name)!r} isn't the name of a service, such as HTTP/www.example.com")
+    raise CacheError(CacheTrouble.BAD_SERVICE, f"{fit_for_a_line(name)!r} isn't the name of a service, such as "
+                                               f"HTTP/www.example.com")
 
 
 def _owner(handle: Handle) -> Owner:
     owner, data = read(_interface.Owner, lambda struct, *into: handle.call("cache_owner", struct, *into))
-    return Owner(owner.name.text(data), owner.name_type, (owner.offset_seconds, owner.offset_micros) if owner.has_offset else None)
+    return Owner(owner.name.text(data), owner.name_type,
+                 (owner.offset_seconds, owner.offset_micros) if owner.has_offset else None)
 
 
 class CredentialCache(Secret):
-    """A credential cache, from the bytes of a file of version 0x0503 or 0x0504. Invalid bytes raise Fault, with an offset.
+    """A credential cache, from the bytes of a file of version 0x0503 or 0x0504. Invalid bytes raise Fault, with an
+    offset.
 
-    It is a context manager. At the end of the block, or by close(), the library frees what it holds. Then make_request raises the
-    Fault EMPTY_HANDLE for it.
+    It is a context manager. At the end of the block, or by close(), the library frees what it holds. Then make_request
+    raises the Fault EMPTY_HANDLE for it.
 
     >>> with CredentialCache.read("examples/client.ccache") as cache:
     ...     cache
@@ -270,11 +278,11 @@ class CredentialCache(Secret):
     def default(cls) -> CredentialCache:
         """Return the cache of the user who runs the program, as it is in its file now.
 
-        The variable KRB5CCNAME says where it is: ``FILE:PATH``, a path, or ``DIR:PATH``, the folder's current cache. Without it,
-        default_ccache_name of krb5.conf does, and without that the file is /tmp/krb5cc_UID.
+        The variable KRB5CCNAME says where it is: ``FILE:PATH``, a path, or ``DIR:PATH``, the folder's current cache.
+        Without it, default_ccache_name of krb5.conf does, and without that the file is /tmp/krb5cc_UID.
 
-        Raises CacheError if there is none (NO_FILE), or if it isn't a file (OTHER_KIND: KEYRING, KCM, MEMORY, API). Its text says what to
-        do. Invalid bytes raise Fault.
+        Raises CacheError if there is none (NO_FILE), or if it isn't a file (OTHER_KIND: KEYRING, KCM, MEMORY, API). Its
+        text says what to do. Invalid bytes raise Fault.
 
         >>> import os
         >>> os.environ["KRB5CCNAME"] = "FILE:examples/client.ccache"
@@ -290,10 +298,12 @@ class CredentialCache(Secret):
             fault.hint = f"the credential cache is {fit_for_a_line(path)}{more}"
             raise
         except FileNotFoundError:
-            raise CacheError(CacheTrouble.NO_FILE, f"there is no credential cache at {fit_for_a_line(path)}: run `kinit`") from None
+            raise CacheError(CacheTrouble.NO_FILE, f"there is no credential cache at {fit_for_a_line(path)}: run "
+                                                   f"`kinit`") from None
         except OSError as fault:
             raise CacheError(
-                CacheTrouble.UNREADABLE, f"the credential cache at {fit_for_a_line(path)} can't be read: {fault.strerror}") from fault
+                CacheTrouble.UNREADABLE, f"the credential cache at {fit_for_a_line(path)} can't be read: "
+                                         f"{fault.strerror}") from fault
 
     def ticket_for(self, service: str, *, now: When | None = None) -> Credential | None:
         """Return the owner's ticket for a service that ends last and hasn't ended, or None.
@@ -310,11 +320,13 @@ class CredentialCache(Secret):
         at = (Moment.now() if now is None else Moment.of(now)).seconds
         prefix = service if _has_realm(service) else f"{service}@"
         found = [it for it in self.credentials if it.client == self.owner.name and not it.is_skey and it.endtime > at
-                 and (it.server == service or prefix != service and it.server.startswith(prefix) and it.server != prefix)]
+                 and (it.server == service
+                      or prefix != service and it.server.startswith(prefix) and it.server != prefix)]
         return max(found, key=lambda it: it.endtime) if found else None
 
     def fetch(self, service: str, *, seconds: float = 30.0) -> CredentialCache:
-        """Return a cache that has a ticket for a service: this one, or what its file holds after ``kvno`` or ``kgetcred`` got one.
+        """Return a cache that has a ticket for a service: this one, or what its file holds after ``kvno`` or
+        ``kgetcred`` got one.
 
         service  the service's name, as ``HTTP/www.example.com``; the program finds the realm, if the name has none
         seconds  how long the program may take. It is found by PATH, and run without a shell
@@ -324,17 +336,20 @@ class CredentialCache(Secret):
         >>> CredentialCache(open("examples/client.ccache", "rb").read()).fetch("host/mail@EX")
         Traceback (most recent call last):
             ...
-        fevstunik.CacheError: NO_PATH: the cache has no ticket for host/mail@EX, and was made from bytes: read it from its file
+        fevstunik.CacheError: NO_PATH: the cache has no ticket for host/mail@EX, and was made from bytes: read it from
+        its file
         """
         if self.ticket_for(service) is not None:
             return self
         shown = fit_for_a_line(service)
         if self._path is None:
-            raise CacheError(CacheTrouble.NO_PATH, f"the cache has no ticket for {shown}, and was made from bytes: read it from its file")
+            raise CacheError(CacheTrouble.NO_PATH, f"the cache has no ticket for {shown}, and was made from bytes: "
+                                                   f"read it from its file")
         get_ticket(self._path, service, seconds)
         again = CredentialCache.read(self._path)
         if again.ticket_for(service) is None:
-            raise CacheError(CacheTrouble.NO_TICKET, f"the cache at {fit_for_a_line(self._path)} has no ticket for {shown} that is still "
+            raise CacheError(CacheTrouble.NO_TICKET, f"the cache at {fit_for_a_line(self._path)} has no ticket for "
+                                                     f"{shown} that is still "
                              "valid, though one was got")
         return again
 
@@ -360,11 +375,13 @@ class CredentialCache(Secret):
 
     @staticmethod
     def _credential(handle: Handle, index: int) -> Credential:
-        entry, data = read(_interface.CacheEntry, lambda struct, *into: handle.call("cache_credential", index, struct, *into))
+        entry, data = read(_interface.CacheEntry,
+                           lambda struct, *into: handle.call("cache_credential", index, struct, *into))
         return Credential(
-            entry.client.text(data), entry.server.text(data), Key(entry.key_type, entry.key.of(data)), entry.ticket.of(data),
-            entry.authtime, entry.starttime, entry.endtime, entry.renew_till, TicketFlags(entry.flags), entry.client_type,
-            entry.server_type, entry.is_skey)
+            entry.client.text(data), entry.server.text(data), Key(entry.key_type, entry.key.of(data)),
+            entry.ticket.of(data),
+            entry.authtime, entry.starttime, entry.endtime, entry.renew_till, TicketFlags(entry.flags),
+            entry.client_type, entry.server_type, entry.is_skey)
 
     def close(self) -> None:
         """Free what the library holds for the cache. A second call does nothing.
@@ -376,7 +393,8 @@ class CredentialCache(Secret):
     def __enter__(self) -> CredentialCache:
         return self
 
-    def __exit__(self, kind: type[BaseException] | None, fault: BaseException | None, trace: TracebackType | None) -> None:
+    def __exit__(self, kind: type[BaseException] | None, fault: BaseException | None,
+                 trace: TracebackType | None) -> None:
         self.close()
 
     def __repr__(self) -> str:

@@ -24,26 +24,30 @@ Bytes = Union[bytes, bytearray, memoryview]
 
 
 class Library:
-    """The library's functions, by their names without ``fevstunik_``. A call releases the GIL, as those of ctypes.CDLL do."""
+    """The library's functions, by their names without ``fevstunik_``. A call releases the GIL, as those of ctypes.CDLL
+    do."""
 
     def __init__(self, path: str) -> None:
         try:
             loaded = ctypes.CDLL(path)
         except OSError as fault:
-            raise LibraryError(f"the shared library {path} can't be loaded: {fault}. Install this project's package libfevstunik0, or name the "
+            raise LibraryError(f"the shared library {path} can't be loaded: {fault}. Install this project's package "
+                               f"libfevstunik0, or name the "
                                f"file in the environment variable {VARIABLE} or to fevstunik.load(..)") from None
         self.path = path
         self._functions: dict[str, Callable[..., Any]] = {}
         for name, (result, words) in FUNCTIONS.items():
             function = getattr(loaded, f"fevstunik_{name}", None)
             if function is None:
-                raise LibraryError(f"the shared library {path} has no function fevstunik_{name}, which this package calls")
+                raise LibraryError(f"the shared library {path} has no function fevstunik_{name}, which this package "
+                                   f"calls")
             function.restype, function.argtypes = result, words
             self._functions[name] = function
         # A later library of the same major number serves the package too: sizes of options and codes only grow.
         found = self.version
         if found[0] != VERSION[0] or found < VERSION:
-            raise LibraryError(f"the shared library {path} is of version {numbered(found)}, and this package needs {numbered(VERSION)} or a later "
+            raise LibraryError(f"the shared library {path} is of version {numbered(found)}, and this package needs "
+                               f"{numbered(VERSION)} or a later "
                                f"one with the same first number")
 
     @property
@@ -65,9 +69,10 @@ _loaded: Library | None = None
 def load(path: str | os.PathLike[str] | None = None) -> None:
     """Load the shared library at a path, for all objects that are made from now on.
 
-    You needn't call this: the library is loaded when it is first needed. Without a path, loads the file that the environment variable
-    FEVSTUNIK_LIBRARY names, or else the one that came with the wheel, or else the libfevstunik.so.0 that the system's loader finds. Raises
-    LibraryError if it can't be loaded, or is older than the package, or of another major number.
+    You needn't call this: the library is loaded when it is first needed. Without a path, loads the file that the
+    environment variable FEVSTUNIK_LIBRARY names, or else the one that came with the wheel, or else the
+    libfevstunik.so.0 that the system's loader finds. Raises LibraryError if it can't be loaded, or is older than the
+    package, or of another major number.
 
     >>> import fevstunik
     >>> fevstunik.load()
@@ -118,7 +123,8 @@ Buffer = ctypes.c_char * ROOM
 
 
 def filled(call: Callable[[Any, int], Answer], room: int = ROOM) -> bytes:
-    """The bytes that a call with a buffer returns. The first buffer has this room; a call that needs more is made again."""
+    """The bytes that a call with a buffer returns. The first buffer has this room; a call that needs more is made
+    again."""
     buffer: Any = Buffer() if room == ROOM else ctypes.create_string_buffer(room)
     answer = call(buffer, room)
     while answer.code == _SHORT:
@@ -184,7 +190,8 @@ class Secret:
     __slots__ = ()
 
     def __reduce_ex__(self, protocol: SupportsIndex) -> NoReturn:
-        raise TypeError(f"{type(self).__name__} objects hold a key or belong to a process, and can't be pickled or copied")
+        raise TypeError(f"{type(self).__name__} objects hold a key or belong to a process, and can't be pickled or "
+                        f"copied")
 
 
 class Shown:
@@ -194,7 +201,8 @@ class Shown:
 
     def __repr__(self) -> str:
         named = ((it.name, getattr(self, it.name)) for it in fields(self) if it.repr)
-        words = ", ".join(f"{name}={size_of(value) if isinstance(value, bytes) else repr(value)}" for name, value in named)
+        words = ", ".join(f"{name}={size_of(value) if isinstance(value, bytes) else repr(value)}"
+                          for name, value in named)
         return f"{type(self).__name__}({words})"
 
 
@@ -203,7 +211,8 @@ def size_of(data: bytes) -> str:
 
 
 class _Life:
-    """A process, from its start or from the fork that made it. (A child may have the number of a process that is gone.)"""
+    """A process, from its start or from the fork that made it. (A child may have the number of a process that is
+    gone.)"""
 
 
 _life = _Life()

@@ -88,7 +88,8 @@ class Login(Known):
 
     client          the client, as ``alice@EX``
     reply           the bytes to send to the client; none if they are empty
-    service_subkey  the key that the reply sends, if the service was made with `subkey`, and the client asks for a reply; else None
+    service_subkey  the key that the reply sends, if the service was made with `subkey`, and the client asks for a
+                    reply; else None
     list_shown      whether the client's list of mechanisms was checked by its MIC: then each side has sent one
     service         the service that was asked for, as ``host/web@EX``
     time            the client's time
@@ -103,8 +104,9 @@ class Login(Known):
     client_type     the type of the client's name
     service_type    the type of the service's name, as the ticket has it
 
-    It is a context manager. At the end of the block, or by close(), the library frees what it holds. Then stamp raises the Fault
-    EMPTY_HANDLE, and so do addresses, authorization, authenticator_authorization, checksum and context, unless they were read before.
+    It is a context manager. At the end of the block, or by close(), the library frees what it holds. Then stamp raises
+    the Fault EMPTY_HANDLE, and so do addresses, authorization, authenticator_authorization, checksum and context,
+    unless they were read before.
 
     >>> from fevstunik import Client, CredentialCache, Keytab, Service
     >>> service = Service(Keytab.read("examples/service.keytab"), "host/web@EX", first_life=True)
@@ -123,10 +125,11 @@ class Login(Known):
 
         any_order, repeats  as of Messages
 
-        Call it once for each login: other messages of the same login begin again at the first numbers, and take what was taken before.
+        Call it once for each login: other messages of the same login begin again at the first numbers, and take what
+        was taken before.
 
-        If the client asked for no reply, both sides count from its own number, as MIT krb5 does. If its list of mechanisms was checked, the
-        messages go on after the MICs of both sides.
+        If the client asked for no reply, both sides count from its own number, as MIT krb5 does. If its list of
+        mechanisms was checked, the messages go on after the MICs of both sides.
 
         >>> from fevstunik import Client, CredentialCache, Keytab, Service
         >>> service = Service(Keytab.read("examples/service.keytab"), "host/web@EX", first_life=True, subkey=20)
@@ -139,8 +142,10 @@ class Login(Known):
         first = self.seq or 0
         # (the client's subkey doesn't count then, and may be of any type)
         subkey = self.subkey if self.service_subkey is None else None
-        return Messages(Side.SERVICE, self.session_key, client_subkey=subkey, service_subkey=self.service_subkey, client_seq=first,
-                        service_seq=0 if self.wants_reply else first, any_order=any_order, repeats=repeats, after_list=self.list_shown)
+        return Messages(Side.SERVICE, self.session_key, client_subkey=subkey, service_subkey=self.service_subkey,
+                        client_seq=first,
+                        service_seq=0 if self.wants_reply else first, any_order=any_order, repeats=repeats,
+                        after_list=self.list_shown)
 
 
 class Connection(Secret):
@@ -157,10 +162,11 @@ class Connection(Secret):
         self._random = b""
 
     def answer(self, data: Bytes, now: When | None = None) -> Login | GoOn | Refused:
-        """Answer the client's next bytes, as Service.answer does. After GoOn, call it again with the client's next message.
+        """Answer the client's next bytes, as Service.answer does. After GoOn, call it again with the client's next
+        message.
 
-        A client whose negotiation names another mechanism before Kerberos is asked for its token and for the MIC of its list of mechanisms
-        (RFC 4178, section 5). It isn't let in without that, and sends two or three messages.
+        A client whose negotiation names another mechanism before Kerberos is asked for its token and for the MIC of its
+        list of mechanisms (RFC 4178, section 5). It isn't let in without that, and sends two or three messages.
 
         After a Login or a Refused the login is over, and other bytes are refused with NEGOTIATION_OVER.
 
@@ -178,7 +184,8 @@ class Connection(Secret):
         return decision.settled()
 
     async def answer_async(self, data: Bytes, now: When | None = None) -> Login | GoOn | Refused:
-        """Answer the client's next bytes, as `answer` does, but ask the store in another thread: the loop goes on meanwhile.
+        """Answer the client's next bytes, as `answer` does, but ask the store in another thread: the loop goes on
+        meanwhile.
 
         >>> import asyncio
         >>> from fevstunik import Keytab, Service
@@ -264,7 +271,8 @@ class Connection(Secret):
         kind, shown = self._service._subkey, self._handle.inside("accepted_sent").size == 1
         login = known_by(Login, self._handle, self._service._skew, reply=reply, service_subkey=None, list_shown=shown)
         if kind is not None and login.wants_reply:
-            # (nothing goes back to a last message that has a MIC alone: the reply went back before, with other random bytes)
+            # (nothing goes back to a last message that has a MIC alone: the reply went back before, with other random
+            # bytes)
             drawn = random if reply else self._random
             object.__setattr__(login, "service_subkey", Key(kind, drawn[CONFOUNDER:]))
         return login
@@ -355,48 +363,57 @@ class _LoginHandle(Handle):
 
 
 class Service(Serving):
-    """A service that lets clients in, or says why not. Unlike an Acceptor, it takes what a client sends as it is, and makes what goes back.
+    """A service that lets clients in, or says why not. Unlike an Acceptor, it takes what a client sends as it is, and
+    makes what goes back.
 
     keytab      its keys
     service     the name that is served, as ``host/web@EX``, as for Acceptor
     skew        by how many seconds clocks may differ
-    store       what all processes of the service share, so that no two let a client in by one request: a path, as ``"/run/web/stamps"``, for
-                the processes of one machine, or another store of fevstunik.stores. The service's start is the moment at which the store was
-                made, so there is a pause when it is new, and none when the service is started again
-    started     the service's clock at this start, as time.time(), if there is no store; with one, the later start counts
-    first_life  True if every key of the keytab is new: Acceptor says what both mean. With a store this leaves out the pause after it was made.
-                Take it out again when the service has been started: after the next boot, the keys aren't new
+    store       what all processes of the service share, so that no two let a client in by one request: a path, as
+                ``"/run/web/stamps"``, for the processes of one machine, or another store of fevstunik.stores. The
+                service's start is the moment at which the store was made, so there is a pause when it is new, and none
+                when the service is started again
+    started     the service's clock at this start, as time.time(), if there is no store; with one, the later start
+                counts
+    first_life  True if every key of the keytab is new: Acceptor says what both mean. With a store this leaves out the
+                pause after it was made. Take it out again when the service has been started: after the next boot, the
+                keys aren't new
     limit, limit_for_client
                 the most requests that it remembers, as for Acceptor
     bindings    the bindings of the channel, as tls_server_end_point returns them; None looks at no client's
     bindings_required
-                whether each client must send these bindings. Otherwise one that sends none is let in, but none that sends others
+                whether each client must send these bindings. Otherwise one that sends none is let in, but none that
+                sends others
     anonymous   whether anonymous clients are let in (RFC 8062)
     realms      the realms whose clients are let in, as ["EX"], or None for any: a KDC checked the realms between
-    subkey      19 or 20 to send a new key of this type with each reply, or None. Those who go on to seal messages want one
+    subkey      19 or 20 to send a new key of this type with each reply, or None. Those who go on to seal messages want
+                one
     any_name    True to serve each name of the keytab, as for Acceptor. The service is None then
 
     Pass a store, or just one of started and first_life. The skew is no larger than that of the store.
 
     A client that breaks these terms is Refused with ANONYMOUS_CLIENT, FOREIGN_REALM or CHANNEL_BINDINGS.
 
-    Make one and keep it. Any thread may call it, for any number of clients at once. A lock lets one decision run at a time. A Service
-    belongs to the process that made it: after a fork, the child's calls raise RuntimeError.
+    Make one and keep it. Any thread may call it, for any number of clients at once. A lock lets one decision run at a
+    time. A Service belongs to the process that made it: after a fork, the child's calls raise RuntimeError.
 
-    It is a context manager. At the end of the block, or by close(), the library frees what it holds. Then calls raise the Fault
-    EMPTY_HANDLE, and `remembered` is 0.
+    It is a context manager. At the end of the block, or by close(), the library frees what it holds. Then calls raise
+    the Fault EMPTY_HANDLE, and `remembered` is 0.
 
     >>> import time
     >>> from fevstunik import Keytab, Service
-    >>> with Service(Keytab.read("examples/service.keytab"), "host/web@EX", started=time.time(), realms=["EX"]) as service:
+    >>> keytab = Keytab.read("examples/service.keytab")
+    >>> with Service(keytab, "host/web@EX", started=time.time(), realms=["EX"]) as service:
     ...     print(service.answer(b"hello"))
     NOT_A_TOKEN: the first byte isn't that of a token
     """
 
-    def __init__(self, keytab: Keytab, service: str | None, skew: int = 300, *, started: When | None = None, first_life: bool = False,
+    def __init__(self, keytab: Keytab, service: str | None, skew: int = 300, *, started: When | None = None,
+                 first_life: bool = False,
                  limit: int | None = None, limit_for_client: int | None = None, bindings: Bytes | None = None,
                  bindings_required: bool = False, anonymous: bool = False, realms: Iterable[str] | None = None,
-                 subkey: int | None = None, store: Store | str | os.PathLike[str] | None = None, any_name: bool = False) -> None:
+                 subkey: int | None = None, store: Store | str | os.PathLike[str] | None = None,
+                 any_name: bool = False) -> None:
         asked = None if store is None else _store_of(store, fitting(skew, 32))
         if asked is not None and not first_life:
             started = _start_over(asked, skew, started)
@@ -419,18 +436,21 @@ class Service(Serving):
             done(self._handle.call("acceptor_add_realm", realm, len(realm)))
 
     def answer(self, data: Bytes, now: When | None = None) -> Login | GoOn | Refused:
-        """Answer what a client sent: a request, a Kerberos token or a token of a negotiation. The first bytes say which it is.
+        """Answer what a client sent: a request, a Kerberos token or a token of a negotiation. The first bytes say which
+        it is.
 
         data  what the client sent, whatever it is
-        now   the service's clock: the machine's clock by default. Time doesn't go back: the latest moment given so far is the one that counts
+        now   the service's clock: the machine's clock by default. Time doesn't go back: the latest moment given so far
+              is the one that counts
 
-        Returns a Login, a GoOn or a Refused (it isn't raised); each has the bytes to send back in `reply`, which may be empty. Only a Login
-        is true. A GoOn says that the client has sent no request yet: to take its next token, too, use login(). If memory runs out, the
-        client is Refused with OUT_OF_MEMORY.
+        Returns a Login, a GoOn or a Refused (it isn't raised); each has the bytes to send back in `reply`, which may be
+        empty. Only a Login is true. A GoOn says that the client has sent no request yet: to take its next token, too,
+        use login(). If memory runs out, the client is Refused with OUT_OF_MEMORY.
 
-        A service that has a store asks it after it has accepted a request, with no lock held, and then reads its clock again: to `now`, if
-        it was passed, the time is added that has gone by. Nothing of the request can be read before. Of a stamp that the store has, the
-        client is Refused with REPEAT; if the store fails, or doesn't answer in time, with STORE_FAILED.
+        A service that has a store asks it after it has accepted a request, with no lock held, and then reads its clock
+        again: to `now`, if it was passed, the time is added that has gone by. Nothing of the request can be read
+        before. Of a stamp that the store has, the client is Refused with REPEAT; if the store fails, or doesn't answer
+        in time, with STORE_FAILED.
 
         >>> from fevstunik import Keytab, Service
         >>> request = bytes.fromhex(open("examples/calls.txt").readline().split()[2])
@@ -507,8 +527,8 @@ class Service(Serving):
         self._keytab, self._serves = keytab, service
 
     def _held(self, asked: Asked | None) -> tuple[int, ...]:
-        """The version numbers of the keys that the keytab has for a ticket's service and encryption type. Nobody needs them but to find a
-        fault, so they are read when it is there."""
+        """The version numbers of the keys that the keytab has for a ticket's service and encryption type. Nobody needs
+        them but to find a fault, so they are read when it is there."""
         keytab, kvnos = self._keytab, self._kvnos
         if asked is None:
             return ()
@@ -523,13 +543,14 @@ def _store_of(store: Store | str | os.PathLike[str], skew: int) -> Store:
         from .stores import File
         store = File(store, skew if skew > _SKEW else None)
     if skew > store.largest_skew:
-        raise ValueError(f"the store is made for a skew of up to {store.largest_skew} seconds, and the service's is {skew}")
+        raise ValueError(f"the store is made for a skew of up to {store.largest_skew} seconds, and the service's is "
+                         f"{skew}")
     return store
 
 
 def _start_over(store: Store, skew: int, started: When | None) -> Moment:
-    """The start of a service that has a store. What a service with the store's largest skew may have accepted before the store was made isn't
-    later than this start by more than the skew."""
+    """The start of a service that has a store. What a service with the store's largest skew may have accepted before
+    the store was made isn't later than this start by more than the skew."""
     made = store.remembers_from
     start = Moment(made.seconds + store.largest_skew - skew, made.micros)
     return start if started is None else max(start, Moment.of(started))

@@ -71,7 +71,8 @@ class Message(Shown):
 
 
 class Messages(Secret):
-    """One side's messages after a login, as Login.messages and Agreed.messages make them. What one side writes, the other one checks or opens.
+    """One side's messages after a login, as Login.messages and Agreed.messages make them. What one side writes, the
+    other one checks or opens.
 
     side            which side this is
     session_key     the key that both sides share
@@ -79,16 +80,19 @@ class Messages(Secret):
     service_subkey  the key that the service's reply has, or None
     client_seq      the client's first sequence number: 0 if its request has none
     service_seq     the service's: 0 if its reply has none
-    any_order       False: only the other side's next message is taken, and another one raises the Fault MESSAGE_GAP, MESSAGE_REPEAT or
-                    MESSAGE_OLD. True: those after a gap and late ones are taken, too, as over datagrams
-    repeats         whether, with any_order, repeats are taken too, and those that are too old to tell: then look at each one's order
-    after_list      whether each side has sent its first message, the MIC of the client's list of mechanisms (RFC 4178, section 5): the messages
-                    go on with the next numbers
+    any_order       False: only the other side's next message is taken, and another one raises the Fault MESSAGE_GAP,
+                    MESSAGE_REPEAT or MESSAGE_OLD. True: those after a gap and late ones are taken, too, as over
+                    datagrams
+    repeats         whether, with any_order, repeats are taken too, and those that are too old to tell: then look at
+                    each one's order
+    after_list      whether each side has sent its first message, the MIC of the client's list of mechanisms (RFC 4178,
+                    section 5): the messages go on with the next numbers
 
-    Keys of types 19 and 20 protect messages; the service's subkey counts before the client's, and that before the session key.
+    Keys of types 19 and 20 protect messages; the service's subkey counts before the client's, and that before the
+    session key.
 
-    Any thread may call it; one call at a time runs. It is a context manager. At the end of the block, or by close(), the library frees what
-    it holds. Then calls raise the Fault EMPTY_HANDLE.
+    Any thread may call it; one call at a time runs. It is a context manager. At the end of the block, or by close(),
+    the library frees what it holds. Then calls raise the Fault EMPTY_HANDLE.
 
     >>> key = Key.random(20)
     >>> client, service = Messages(Side.CLIENT, key), Messages(Side.SERVICE, key)
@@ -98,12 +102,15 @@ class Messages(Secret):
     'NEXT'
     """
 
-    def __init__(self, side: Side, session_key: Key, *, client_subkey: Key | None = None, service_subkey: Key | None = None,
-                 client_seq: int = 0, service_seq: int = 0, any_order: bool = False, repeats: bool = False, after_list: bool = False) -> None:
+    def __init__(self, side: Side, session_key: Key, *, client_subkey: Key | None = None,
+                 service_subkey: Key | None = None,
+                 client_seq: int = 0, service_seq: int = 0, any_order: bool = False, repeats: bool = False,
+                 after_list: bool = False) -> None:
         keys = [session_key, client_subkey, service_subkey]
         kinds = [0 if it is None else fitting(it.kind, 32, signed=True) for it in keys]
         datas = [b"" if it is None else octets(it.data) for it in keys]
-        options = _interface.MessageOptions(Side(side), *kinds, fitting(client_seq, 32), fitting(service_seq, 32), 0, any_order, repeats)
+        options = _interface.MessageOptions(Side(side), *kinds, fitting(client_seq, 32), fitting(service_seq, 32), 0,
+                                            any_order, repeats)
         self._handle = Handle("messages")
         begin = "messages_after_list" if after_list else "messages_new"
         done(self._handle.call(begin, byref(options), *(word for data in datas for word in (data, len(data)))))
@@ -118,10 +125,11 @@ class Messages(Secret):
         return filled(lambda *into: self._handle.call("messages_mic", text, len(text), *into))
 
     def verify_mic(self, text: Bytes, token: Bytes) -> Order:
-        """Check that a token is the other side's MIC token of a text, and take it. Return how it stands to those before it.
+        """Check that a token is the other side's MIC token of a text, and take it. Return how it stands to those before
+        it.
 
-        Raises Fault if it isn't one: MESSAGE_DEFECTIVE, MESSAGE_DIRECTION, MESSAGE_OTHER_KEY or MESSAGE_INTEGRITY; or if it isn't taken for
-        its order: MESSAGE_GAP, MESSAGE_REPEAT or MESSAGE_OLD.
+        Raises Fault if it isn't one: MESSAGE_DEFECTIVE, MESSAGE_DIRECTION, MESSAGE_OTHER_KEY or MESSAGE_INTEGRITY; or
+        if it isn't taken for its order: MESSAGE_GAP, MESSAGE_REPEAT or MESSAGE_OLD.
 
         >>> key = Key.random(19)
         >>> client, service = Messages(Side.CLIENT, key), Messages(Side.SERVICE, key)
@@ -147,7 +155,9 @@ class Messages(Secret):
         (77, 45)
         """
         text, confounder = octets(text), os.urandom(CONFOUNDER)
-        return filled(lambda *into: self._handle.call("messages_wrap", sealed, confounder, CONFOUNDER, text, len(text), *into), len(text) + _MORE)
+        return filled(
+            lambda *into: self._handle.call("messages_wrap", sealed, confounder, CONFOUNDER, text, len(text), *into),
+            len(text) + _MORE)
 
     def unwrap(self, token: Bytes) -> Message:
         """Open a Wrap token of the other side, and take it. Raises Fault as verify_mic does.
@@ -185,5 +195,6 @@ class Messages(Secret):
     def __enter__(self) -> Messages:
         return self
 
-    def __exit__(self, kind: type[BaseException] | None, fault: BaseException | None, trace: TracebackType | None) -> None:
+    def __exit__(self, kind: type[BaseException] | None, fault: BaseException | None,
+                 trace: TracebackType | None) -> None:
         self.close()

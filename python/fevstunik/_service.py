@@ -31,8 +31,8 @@ _LISTED = 8
 class Refused(Error):
     """A refusal of a request.
 
-    cause     the first cause that applies, such as ``Code.REPEAT``; from Service.answer also a fault of a token, FULL, OUT_OF_MEMORY or
-              STORE_FAILED, whose `__cause__` and text say what is wrong with the store
+    cause     the first cause that applies, such as ``Code.REPEAT``; from Service.answer also a fault of a token, FULL,
+              OUT_OF_MEMORY or STORE_FAILED, whose `__cause__` and text say what is wrong with the store
     code      the same
     kerberos  the error code of RFC 4120, section 7.5.9, that belongs to it
     offset    the place of the fault, if the cause is MALFORMED or TOKEN_MALFORMED
@@ -99,7 +99,8 @@ class Refused(Error):
         """
         name, at = text_of(service), clock(now)
         return filled(lambda *into: library().call(
-            "error", fitting(_AS_GENERIC.get(self.code, self.code), 32), name, len(name), fitting(name_type, 32, signed=True), byref(at), *into))
+            "error", fitting(_AS_GENERIC.get(self.code, self.code), 32), name, len(name),
+            fitting(name_type, 32, signed=True), byref(at), *into))
 
 
 class _Restart(enum.IntEnum):
@@ -140,8 +141,8 @@ class Serving(Secret):
         done(self._handle.call("acceptor_new", keytab.data, len(keytab.data), name, len(name), byref(options)))
 
     def replace_keytab(self, keytab: Keytab, service: str | None) -> None:
-        """Take another keytab, for example with a changed key. What the service has seen is kept, so nothing is accepted twice.
-        If it was made with first_life, each key that the new keytab adds has to be new, too.
+        """Take another keytab, for example with a changed key. What the service has seen is kept, so nothing is
+        accepted twice. If it was made with first_life, each key that the new keytab adds has to be new, too.
 
         service  the name that is served; None only for a service that was made with `any_name`
 
@@ -155,7 +156,8 @@ class Serving(Secret):
         1
         """
         name = _wanted(keytab, service, self._any_name and service is None)
-        done(self._handle.call("acceptor_replace_keytab", keytab.data, len(keytab.data), name, len(name), service is None))
+        done(self._handle.call("acceptor_replace_keytab", keytab.data, len(keytab.data), name, len(name),
+                               service is None))
 
     @property
     def remembered(self) -> int:
@@ -206,7 +208,8 @@ class Serving(Secret):
     def __enter__(self) -> Self:
         return self
 
-    def __exit__(self, kind: type[BaseException] | None, fault: BaseException | None, trace: TracebackType | None) -> None:
+    def __exit__(self, kind: type[BaseException] | None, fault: BaseException | None,
+                 trace: TracebackType | None) -> None:
         self.close()
 
 
@@ -214,26 +217,29 @@ class Acceptor(Serving):
     """A service. It accepts requests, and remembers them to recognize a repeat.
 
     keytab      its keys
-    service     the name that is served, as ``host/web@EX``. If the keytab has no entry of this name, that is no fault: then every ticket is
-                refused. With `any_name` it is None
+    service     the name that is served, as ``host/web@EX``. If the keytab has no entry of this name, that is no fault:
+                then every ticket is refused. With `any_name` it is None
     skew        by how many seconds clocks may differ
-    started     the service's clock at this start, as time.time(). A restarted service has forgotten what it accepted. So it refuses requests
-                with the cause JUST_STARTED until its clock and the client's are both later than this start by more than the skew
-    first_life  True if every key of the keytab is new, so that no service has used one of them before, or if a store of stamps has lost
-                nothing (docs/OPERATING.md, "Restarts"). Then the service accepts at once
+    started     the service's clock at this start, as time.time(). A restarted service has forgotten what it accepted.
+                So it refuses requests with the cause JUST_STARTED until its clock and the client's are both later than
+                this start by more than the skew
+    first_life  True if every key of the keytab is new, so that no service has used one of them before, or if a store of
+                stamps has lost nothing (docs/OPERATING.md, "Restarts"). Then the service accepts at once
     limit       the most requests that it remembers: a million by default
     limit_for_client
                 the most of one client: a tenth of the limit by default
-    any_name    True to serve each name of the keytab: docs/OPERATING.md ("Keys") says what is wrong with that. The service is None then
+    any_name    True to serve each name of the keytab: docs/OPERATING.md ("Keys") says what is wrong with that. The
+                service is None then
 
-    Pass just one of started and first_life: neither is the default. A start before the year 2020, so any of time.monotonic(), raises the Fault
-    EARLY_START.
+    Pass just one of started and first_life: neither is the default. A start before the year 2020, so any of
+    time.monotonic(), raises the Fault EARLY_START.
 
-    Make one and keep it. Any thread may call it. A lock lets one decision run at a time; what was accepted is read without that lock. An
-    Acceptor belongs to the process that made it: after a fork, the child's calls raise RuntimeError.
+    Make one and keep it. Any thread may call it. A lock lets one decision run at a time; what was accepted is read
+    without that lock. An Acceptor belongs to the process that made it: after a fork, the child's calls raise
+    RuntimeError.
 
-    It is a context manager. At the end of the block, or by close(), the library frees what it holds. Then calls raise the Fault
-    EMPTY_HANDLE, and `remembered` is 0.
+    It is a context manager. At the end of the block, or by close(), the library frees what it holds. Then calls raise
+    the Fault EMPTY_HANDLE, and `remembered` is 0.
 
     >>> import time
     >>> from fevstunik import Acceptor, Keytab
@@ -242,15 +248,18 @@ class Acceptor(Serving):
     0
     """
 
-    def __init__(self, keytab: Keytab, service: str | None, skew: int = 300, *, started: When | None = None, first_life: bool = False,
+    def __init__(self, keytab: Keytab, service: str | None, skew: int = 300, *, started: When | None = None,
+                 first_life: bool = False,
                  limit: int | None = None, limit_for_client: int | None = None, any_name: bool = False) -> None:
-        super().__init__(keytab, service, skew, options_of(any_name, skew, started, first_life, (limit, limit_for_client)))
+        super().__init__(keytab, service, skew,
+                         options_of(any_name, skew, started, first_life, (limit, limit_for_client)))
 
     def accept(self, request: Bytes, now: When | None = None) -> Accepted:
         """Accept the bytes of a request, or raise Refused. `now` is the moment, by default of the machine's clock.
 
-        Time doesn't go back: the latest moment given so far is the one that counts. If a limit is reached, so that the request can't be
-        remembered, this raises the Fault FULL. Then the request isn't decided, and nothing has changed.
+        Time doesn't go back: the latest moment given so far is the one that counts. If a limit is reached, so that the
+        request can't be remembered, this raises the Fault FULL. Then the request isn't decided, and nothing has
+        changed.
 
         >>> from fevstunik import Acceptor, Keytab
         >>> request = bytes.fromhex(open("examples/calls.txt").readline().split()[2])
@@ -286,19 +295,22 @@ def _wanted(keytab: Keytab, service: str | None, any_name: bool) -> bytes:
 
 def options_of(any_name: bool, skew: int, started: When | None, first_life: bool, limits: tuple[int | None, int | None],
                is_shared: bool = False) -> _interface.AcceptorOptions:
-    """What a service is made with, as the library takes it. One that shares a store has a start in its first life, too: long ago."""
+    """What a service is made with, as the library takes it. One that shares a store has a start in its first life, too:
+    long ago."""
     if any(limit is not None and limit < 1 for limit in limits):
         raise ValueError("a limit is at least 1")
     for name, flag in ("first_life", first_life), ("any_name", any_name):
         if not isinstance(flag, bool):
             raise TypeError(f"{name} is a bool, not {flag!r}")
     if first_life == (started is not None):
-        raise TypeError("pass either started, the clock of this start, or first_life=True, if every key of the keytab is new")
+        raise TypeError("pass either started, the clock of this start, or first_life=True, if every key of the keytab "
+                        "is new")
     restarts = _Restart.SHARED if is_shared else _Restart.FIRST_LIFE if started is None else _Restart.STARTED
     size, at = ctypes.sizeof(_interface.AcceptorOptions), _interface.Time() if started is None else clock(started)
     all_clients, one_client = (fitting(limit or 0, 64) for limit in limits)
     is_long_ago = is_shared and started is None
-    return _interface.AcceptorOptions(size, at, fitting(skew, 32), restarts, any_name, is_long_ago, all_clients, one_client)
+    return _interface.AcceptorOptions(size, at, fitting(skew, 32), restarts, any_name, is_long_ago, all_clients,
+                                      one_client)
 
 
 def _decided(answer: Answer) -> None:

@@ -76,8 +76,8 @@ class Verdict:
     """A service's answer in a negotiation that holds no reply and no error.
 
     says       what it says
-    mechanism  the mechanism that it names. COMPLETED names the one that the negotiation names first in the first answer to a client, and
-               none later; INCOMPLETE names one, and REJECTED none
+    mechanism  the mechanism that it names. COMPLETED names the one that the negotiation names first in the first answer
+               to a client, and none later; INCOMPLETE names one, and REJECTED none
 
     >>> from fevstunik import Mechanism, Says, Verdict
     >>> Verdict(Says.COMPLETED, Mechanism.KERBEROS).token().hex()
@@ -134,7 +134,8 @@ class Token(Shown):
 
     @classmethod
     def open(cls, token: Bytes) -> Token:
-        """Open the first token of a client. Raises Fault for bytes that aren't one, for example if the client offers NTLM.
+        """Open the first token of a client. Raises Fault for bytes that aren't one, for example if the client offers
+        NTLM.
 
         >>> from fevstunik import Token
         >>> Token.open(b"NTLMSSP")
@@ -143,7 +144,8 @@ class Token(Shown):
         fevstunik.Fault: NOT_A_TOKEN: the first byte isn't that of a token
         """
         token = octets(token)
-        wrapped, request = read(_interface.Wrapped, lambda *into: library().call("token_open", token, len(token), *into))
+        wrapped, request = read(_interface.Wrapped,
+                                lambda *into: library().call("token_open", token, len(token), *into))
         return cls(request, Mechanism(wrapped.mechanism), Mechanism(wrapped.negotiated) if wrapped.negotiated else None)
 
     def reply(self, reply: Bytes) -> bytes:
@@ -165,8 +167,8 @@ class Token(Shown):
         return self._answer("token_error", octets(error))
 
     def completed(self) -> bytes:
-        """Return the answer that accepts a client that asked for no reply. It is empty if there is no negotiation: then there is
-        nothing to send.
+        """Return the answer that accepts a client that asked for no reply. It is empty if there is no negotiation: then
+        there is nothing to send.
 
         >>> from fevstunik import Token, read_verdict, wrap_request
         >>> read_verdict(Token.open(wrap_request(b"a request")).completed()).says
@@ -177,8 +179,8 @@ class Token(Shown):
         return b"" if self.negotiated is None else Verdict(Says.COMPLETED, self.negotiated).token()
 
     def rejected(self) -> bytes:
-        """Return the answer that refuses a client without a KRB-ERROR, as MIT krb5 answers one that asked for no reply. It is empty if
-        there is no negotiation.
+        """Return the answer that refuses a client without a KRB-ERROR, as MIT krb5 answers one that asked for no reply.
+        It is empty if there is no negotiation.
 
         >>> from fevstunik import Token, wrap_request
         >>> Token.open(wrap_request(b"a request")).rejected().hex()
@@ -187,7 +189,8 @@ class Token(Shown):
         return Verdict(Says.REJECTED).token() if self.is_later or self.negotiated is not None else b""
 
     def _answer(self, name: str, message: bytes) -> bytes:
-        wrapped = _interface.Wrapped(self.mechanism, NAMED) if self.is_later else _wrapped(self.mechanism, self.negotiated)
+        wrapped = (_interface.Wrapped(self.mechanism, NAMED) if self.is_later
+                   else _wrapped(self.mechanism, self.negotiated))
         return filled(lambda *into: library().call(name, byref(wrapped), message, len(message), *into))
 
 
@@ -195,8 +198,8 @@ class Token(Shown):
 class GoOn(Shown):
     """What a negotiation answers a client that has to send one more message: send it, and take the client's next one.
 
-    So it goes on with a client that named Kerberos first and sent no token; and, in a Service's login, with one that named another
-    mechanism first, which has to show its list of mechanisms.
+    So it goes on with a client that named Kerberos first and sent no token; and, in a Service's login, with one that
+    named another mechanism first, which has to show its list of mechanisms.
 
     reply  the bytes to send
 
@@ -214,8 +217,8 @@ class GoOn(Shown):
 class Negotiation(Secret):
     """The service's side of one client's negotiation: it takes the client's tokens, one after another.
 
-    A negotiation has at most two rounds. It is over when a token held a request, or was refused. A negotiation whose first mechanism
-    isn't Kerberos is refused, also if Kerberos is in its list.
+    A negotiation has at most two rounds. It is over when a token held a request, or was refused. A negotiation whose
+    first mechanism isn't Kerberos is refused, also if Kerberos is in its list.
 
     >>> from fevstunik import GoOn, Negotiation
     >>> Negotiation().take(bytes.fromhex("601b06062b0601050502a011300fa00d300b06092a864886f712010202")).reply.hex()
@@ -248,8 +251,8 @@ def _wrapped(mechanism: Mechanism, negotiated: Mechanism | None) -> _interface.W
 
 
 def wrap_request(request: Bytes, *, negotiated: bool = True) -> bytes:
-    """Return the first token of a client for a request. Make the request with the argument `context`: services built on other libraries
-    may refuse it otherwise.
+    """Return the first token of a client for a request. Make the request with the argument `context`: services built on
+    other libraries may refuse it otherwise.
 
     negotiated  whether it is wrapped in a negotiation (SPNEGO), as web services want it
 
@@ -288,7 +291,8 @@ class TokenAnswer(Shown):
 # The errors of services (RFC 4120, section 7.5.9).
 _ERRORS = {
     14: "KDC_ERR_ETYPE_NOSUPP", 31: "KRB_AP_ERR_BAD_INTEGRITY", 32: "KRB_AP_ERR_TKT_EXPIRED", 33: "KRB_AP_ERR_TKT_NYV",
-    34: "KRB_AP_ERR_REPEAT", 35: "KRB_AP_ERR_NOT_US", 36: "KRB_AP_ERR_BADMATCH", 37: "KRB_AP_ERR_SKEW", 38: "KRB_AP_ERR_BADADDR",
+    34: "KRB_AP_ERR_REPEAT", 35: "KRB_AP_ERR_NOT_US", 36: "KRB_AP_ERR_BADMATCH", 37: "KRB_AP_ERR_SKEW",
+    38: "KRB_AP_ERR_BADADDR",
     39: "KRB_AP_ERR_BADVERSION", 40: "KRB_AP_ERR_MSG_TYPE", 41: "KRB_AP_ERR_MODIFIED", 42: "KRB_AP_ERR_BADORDER",
     44: "KRB_AP_ERR_BADKEYVER", 45: "KRB_AP_ERR_NOKEY", 46: "KRB_AP_ERR_MUT_FAIL", 47: "KRB_AP_ERR_BADDIRECTION",
     48: "KRB_AP_ERR_METHOD", 49: "KRB_AP_ERR_BADSEQ", 50: "KRB_AP_ERR_INAPP_CKSUM", 51: "KRB_AP_PATH_NOT_ACCEPTED",
@@ -332,7 +336,8 @@ class KrbError(Shown):
         fevstunik.Fault: ERROR_MALFORMED: the bytes aren't a KRB-ERROR
         """
         error = octets(error)
-        found, data = read(_interface.KrbError, lambda *into: library().call("krb_error_read", error, len(error), *into))
+        found, data = read(_interface.KrbError,
+                           lambda *into: library().call("krb_error_read", error, len(error), *into))
         return cls(
             found.code, Moment(found.stime.seconds, found.stime.micros), found.service.text(data),
             found.text.of(data) if found.has_text else None, found.data.of(data) if found.has_data else None,
@@ -393,8 +398,8 @@ class Context(Shown):
 
     @classmethod
     def read(cls, checksum: Bytes) -> Context:
-        """Read the bytes of a checksum of type 0x8003. Check the type first, as `Accepted.context` does: this call can't. Bytes that
-        aren't such a checksum raise Fault.
+        """Read the bytes of a checksum of type 0x8003. Check the type first, as `Accepted.context` does: this call
+        can't. Bytes that aren't such a checksum raise Fault.
 
         >>> from fevstunik import Context
         >>> Context.read(bytes([16]) + bytes(22))
@@ -403,12 +408,14 @@ class Context(Shown):
         fevstunik.Fault: CONTEXT_TRUNCATED: the checksum of type 0x8003 is cut off
         """
         checksum = octets(checksum)
-        found, data = read(_interface.Context, lambda *into: library().call("context_read", checksum, len(checksum), *into))
+        found, data = read(_interface.Context,
+                           lambda *into: library().call("context_read", checksum, len(checksum), *into))
         delegation = found.delegation.of(data) if found.has_delegation else None
         return cls(ContextFlags(found.flags), found.bindings.of(data), delegation, found.extensions.of(data))
 
     def is_bound_to(self, application_data: Bytes) -> bool:
-        """Return whether the client's channel is the one with these bindings, such as ``b"tls-server-end-point:" + hash``.
+        """Return whether the client's channel is the one with these bindings, such as ``b"tls-server-end-point:" +
+        hash``.
 
         They have no addresses (RFC 4121, section 4.1.1.2; RFC 5929).
 

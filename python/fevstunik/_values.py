@@ -93,8 +93,8 @@ def _taken(moment: Moment) -> _interface.Time:
 
 
 class _OwnMoments:
-    """Moments of the machine's clock, each handed out once, in any number of threads, unless the clock is set back by a second or more. A
-    clock that stands still, or is set back by less, is counted on by microseconds."""
+    """Moments of the machine's clock, each handed out once, in any number of threads, unless the clock is set back by a
+    second or more. A clock that stands still, or is set back by less, is counted on by microseconds."""
 
     def __init__(self) -> None:
         # (a signal handler may ask for a moment while its thread has the lock)
@@ -148,7 +148,8 @@ class TicketFlags(enum.IntFlag):
 
 @dataclass(frozen=True, repr=False)
 class TypedData(Shown):
-    """An address, an item of authorization data or a checksum: the number of its type, and its bytes. Its `repr` has their number.
+    """An address, an item of authorization data or a checksum: the number of its type, and its bytes. Its `repr` has
+    their number.
 
     >>> TypedData(2, bytes([192, 0, 2, 1]))
     TypedData(kind=2, data=<4 bytes>)
@@ -164,10 +165,11 @@ KEY_SIZES = {19: 16, 20: 32}
 
 @dataclass(frozen=True)
 class Key(Secret):
-    """A key: the number of its encryption type, and its bytes, which its `repr` doesn't have. It can't be pickled or copied.
+    """A key: the number of its encryption type, and its bytes, which its `repr` doesn't have. It can't be pickled or
+    copied.
 
-    Keys of types 19 (16 bytes) and 20 (32 bytes) seal and open texts, and make checksums (RFC 8009), for a usage (RFC 4120, section 7.5.1).
-    With a key of another type or length, these methods raise Fault.
+    Keys of types 19 (16 bytes) and 20 (32 bytes) seal and open texts, and make checksums (RFC 8009), for a usage (RFC
+    4120, section 7.5.1). With a key of another type or length, these methods raise Fault.
 
     >>> Key(19, bytes(16))
     Key(kind=19)
@@ -190,17 +192,19 @@ class Key(Secret):
     def seal(self, usage: int, plain: Bytes) -> bytes:
         """Seal a plain text with a new random confounder, and return the sealed bytes.
 
-        A sealed text can be sent again, to either side, as long as the key is used: put a number into each text, and use a usage of its
-        own for each direction.
+        A sealed text can be sent again, to either side, as long as the key is used: put a number into each text, and
+        use a usage of its own for each direction.
 
         >>> len(Key.random(19).seal(1024, b"hello"))
         37
         """
         confounder, plain = os.urandom(CONFOUNDER), octets(plain)
-        return filled(lambda *into: library().call("seal", *self._words(usage), confounder, CONFOUNDER, plain, len(plain), *into))
+        return filled(lambda *into: library().call("seal", *self._words(usage), confounder, CONFOUNDER, plain,
+                                                   len(plain), *into))
 
     def open(self, usage: int, sealed: Bytes) -> bytes:
-        """Return the plain text of a sealed text. Raise the Fault TEXT_INTEGRITY if it wasn't sealed under this key for this usage.
+        """Return the plain text of a sealed text. Raise the Fault TEXT_INTEGRITY if it wasn't sealed under this key for
+        this usage.
 
         >>> key = Key.random(19)
         >>> key.open(1024, key.seal(1024, b"hello"))

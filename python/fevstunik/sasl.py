@@ -1,4 +1,5 @@
-"""SASL's mechanism GSSAPI (RFC 4752): logins of LDAP, IMAP, SMTP, Kafka and others, and what protects the data after them.
+"""SASL's mechanism GSSAPI (RFC 4752): logins of LDAP, IMAP, SMTP, Kafka and others, and what protects the data after
+them.
 
 A server answers each response of its client, until it is done:
 
@@ -39,7 +40,8 @@ __all__ = ["Client", "Layer", "SaslError", "Server"]
 
 # What a client asks of the context: all that a layer may need.
 _FLAGS = ContextFlags.REPLAY | ContextFlags.SEQUENCE | ContextFlags.CONFIDENTIALITY | ContextFlags.INTEGRITY
-# The largest token that the size of a layer, which has three bytes, can name; and the largest that a side takes by default.
+# The largest token that the size of a layer, which has three bytes, can name; and the largest that a side takes by
+# default.
 _LARGEST, _SIZE = (1 << 24) - 1, 65_536
 
 
@@ -136,9 +138,11 @@ class _Side(Secret):
             yield messages.wrap(data[at:at + most], sealed=is_sealed)
 
     def decode(self, received: Bytes) -> bytes:
-        """Return the data of what was received, under the layer: any piece of the stream. What isn't whole yet is kept for the next call.
+        """Return the data of what was received, under the layer: any piece of the stream. What isn't whole yet is kept
+        for the next call.
 
-        Raises SaslError if it was changed, repeated or left out, if it isn't protected as agreed, or if it is longer than this side takes.
+        Raises SaslError if it was changed, repeated or left out, if it isn't protected as agreed, or if it is longer
+        than this side takes.
         """
         received = octets(received)
         if self.layer == Layer.NONE:
@@ -190,7 +194,8 @@ class _Side(Secret):
     def __enter__(self) -> Self:
         return self
 
-    def __exit__(self, kind: type[BaseException] | None, fault: BaseException | None, trace: TracebackType | None) -> None:
+    def __exit__(self, kind: type[BaseException] | None, fault: BaseException | None,
+                 trace: TracebackType | None) -> None:
         self.close()
 
 
@@ -198,8 +203,9 @@ class Server(_Side):
     """A server's side of one login.
 
     service    the Service that lets clients in
-    authorize  whether a client (its Login) may act as a name that it gives; the name is empty if it gives none. It decides who comes in: for
-               a server of one realm, compare `login.client` with what you know, never a part of it
+    authorize  whether a client (its Login) may act as a name that it gives; the name is empty if it gives none. It
+               decides who comes in: for a server of one realm, compare `login.client` with what you know, never a part
+               of it
     layers     the layers that the server offers: without TLS, pass Layer.PROTECTED
     size       how many bytes a token of the client may have
 
@@ -208,7 +214,8 @@ class Server(_Side):
 
     _PEER = "client"
 
-    def __init__(self, service: Service, *, authorize: Callable[[Login, str], bool], layers: Layer = Layer.ANY, size: int = _SIZE) -> None:
+    def __init__(self, service: Service, *, authorize: Callable[[Login, str], bool], layers: Layer = Layer.ANY,
+                 size: int = _SIZE) -> None:
         super().__init__(layers, size)
         self._service, self._authorize = service, authorize
         self._login: Login | None = None
@@ -224,13 +231,15 @@ class Server(_Side):
 
     @property
     def name(self) -> str:
-        """The name that the client acts as, which may be empty. Until the login has succeeded, this raises SaslError."""
+        """The name that the client acts as, which may be empty. Until the login has succeeded, this raises
+        SaslError."""
         self.layer
         assert self._name is not None
         return self._name
 
     def step(self, response: Bytes, now: When | None = None) -> bytes:
-        """Return the challenge that answers the client's response. If the login is done then, there is none, and it is empty.
+        """Return the challenge that answers the client's response. If the login is done then, there is none, and it is
+        empty.
 
         now  the moment, by default of the machine's clock
 
@@ -331,13 +340,15 @@ class Client(_Side):
     cache    has a ticket of its owner for the service
     service  the service's name, as ``imap/mail.example.com@EXAMPLE.COM``
     name     the name to act as; empty for the one that the server has for this client
-    layers   the layers that the client takes; it chooses the strongest one that the server offers, too. Without TLS, pass Layer.PROTECTED
+    layers   the layers that the client takes; it chooses the strongest one that the server offers, too. Without TLS,
+             pass Layer.PROTECTED
     size     how many bytes a token of the server may have
     """
 
     _PEER = "server"
 
-    def __init__(self, cache: CredentialCache, service: str, *, name: str = "", layers: Layer = Layer.ANY, size: int = _SIZE) -> None:
+    def __init__(self, cache: CredentialCache, service: str, *, name: str = "", layers: Layer = Layer.ANY,
+                 size: int = _SIZE) -> None:
         super().__init__(layers, size)
         self._first = FirstSide(cache, service, negotiated=False, context=_FLAGS)
         self._name = name.encode()
@@ -348,8 +359,8 @@ class Client(_Side):
 
         now  the client's clock, as of make_request
 
-        When `is_done`, send what is returned, and see what the server says of the login. Raises SaslError if the login fails, and Fault if no
-        request can be made.
+        When `is_done`, send what is returned, and see what the server says of the login. Raises SaslError if the login
+        fails, and Fault if no request can be made.
         """
         return self._stepped(octets(challenge), now)
 

@@ -3,7 +3,6 @@ session keys of both types, with and without a subkey of the service, with and w
 whose list of mechanisms names NTLM first; and examples/sign."""
 import os
 import subprocess
-import sys
 from pathlib import Path
 
 import pytest
@@ -11,8 +10,6 @@ import pytest
 from support import TESTS, TOP, gss_rules, kdc, tickets
 from support.der import element
 from support.web_realm import ALICE, PYTHON, REALM, SERVICE, realm_in
-
-sys.path.insert(0, str(TOP / "python"))
 
 pytestmark = [pytest.mark.packages, pytest.mark.slow, pytest.mark.xdist_group("messages")]
 SIDE = TESTS / "peers/messages/side.py"

@@ -4,14 +4,11 @@ import itertools
 import os
 import socket
 import subprocess
-import sys
 
 import pytest
 
-from support import TOP, kdc
+from support import kdc
 from support.web_realm import ALICE, REALM, realm_in
-
-sys.path.insert(0, str(TOP / "python"))
 
 pytestmark = [pytest.mark.packages, pytest.mark.slow, pytest.mark.xdist_group("sasl")]
 # (The sample server goes by the name of its machine.)

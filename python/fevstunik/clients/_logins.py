@@ -48,10 +48,12 @@ class LoginTrouble(enum.Enum):
 
 
 class LoginError(Exception):
-    """A request with a login failed. Its ``__cause__`` is the ServiceError, Fault or CacheError that says more, if there is one.
+    """A request with a login failed. Its ``__cause__`` is the ServiceError, Fault or CacheError that says more, if
+    there is one.
 
     trouble   why
-    response  the response as the library has it, closed, and perhaps without its body; or None. Nothing proves who it is from
+    response  the response as the library has it, closed, and perhaps without its body; or None. Nothing proves who it
+              is from
 
     >>> from fevstunik.clients import LoginError, LoginTrouble
     >>> str(LoginError(LoginTrouble.NOT_PROVED, "https://www.example.com sent no proof of who it is"))
@@ -80,7 +82,8 @@ class Origin(NamedTuple):
         return cls(scheme, host, _PORTS.get(scheme, 0) if port is None else port)
 
     def __str__(self) -> str:
-        return fit_for_a_line(f"{self.scheme}://{self.host}" + ("" if _PORTS.get(self.scheme) == self.port else f":{self.port}"))
+        return fit_for_a_line(f"{self.scheme}://{self.host}"
+                              + ("" if _PORTS.get(self.scheme) == self.port else f":{self.port}"))
 
 
 @dataclass(frozen=True)
@@ -107,24 +110,27 @@ class Heard:
 
 
 class Settings:
-    """What a user of Negotiate wants, and what its logins have learnt: the services that proved who they are, and how far ahead the clocks
-    of some are."""
+    """What a user of Negotiate wants, and what its logins have learnt: the services that proved who they are, and how
+    far ahead the clocks of some are."""
 
-    def __init__(self, cache: CredentialCache | None, service: str | None, mutual: Mutual, bindings: bool, adjust_clock: bool,
-                 preemptive: bool, canonicalize: bool) -> None:
+    def __init__(self, cache: CredentialCache | None, service: str | None, mutual: Mutual, bindings: bool,
+                 adjust_clock: bool, preemptive: bool, canonicalize: bool) -> None:
         if mutual not in get_args(Mutual):
             raise ValueError(f"mutual is one of {', '.join(get_args(Mutual))}, not {mutual!r}")
         if adjust_clock and mutual == "off":
-            raise ValueError("a service says what its clock is only if it is asked for a proof: mutual has to be required or optional")
+            raise ValueError("a service says what its clock is only if it is asked for a proof: mutual has to be "
+                             "required or optional")
         if preemptive and bindings:
             raise ValueError("a first request has no bindings, since its channel isn't there yet: leave out preemptive")
         self.cache, self.service, self.mutual = cache, service, mutual
-        self.bindings, self.adjust_clock, self.preemptive, self.canonicalize = bindings, adjust_clock, preemptive, canonicalize
+        self.bindings, self.adjust_clock = bindings, adjust_clock
+        self.preemptive, self.canonicalize = preemptive, canonicalize
         self.proved: set[Origin] = set()
         self.ahead: dict[Origin, float] = {}
 
     def __repr__(self) -> str:
-        return f"<Negotiate of {'the default cache' if self.cache is None else self.cache.owner.name}, mutual authentication {self.mutual}>"
+        owner = "the default cache" if self.cache is None else self.cache.owner.name
+        return f"<Negotiate of {owner}, mutual authentication {self.mutual}>"
 
     def service_at(self, host: str) -> str:
         """The name of the service at a host, without a realm."""
@@ -136,8 +142,8 @@ class Settings:
 
 @dataclass(frozen=True, repr=False)
 class _Sent:
-    """A token that was sent, as the field Authorization; whether that was before the service asked for it, and whether a redirect has
-    answered it. (httpx then sends it again to the same host.)"""
+    """A token that was sent, as the field Authorization; whether that was before the service asked for it, and whether
+    a redirect has answered it. (httpx then sends it again to the same host.)"""
 
     client: Client
     field: str
@@ -164,8 +170,8 @@ class HttpLogin:
         return self._token(self._first, None) if self._settings.preemptive else None
 
     def answered(self, heard: Heard) -> str | None:
-        """Return the field Authorization with which the request of this response is to be sent again, or None if the response may be handed
-        on. Raises LoginError."""
+        """Return the field Authorization with which the request of this response is to be sent again, or None if the
+        response may be handed on. Raises LoginError."""
         self._is_over_tls = self._is_over_tls or heard.origin.scheme == "https"
         offered, text = _challenge(heard.challenges)
         sent = self._sent_with(heard, text)
@@ -186,7 +192,8 @@ class HttpLogin:
         return sent
 
     def _may_try_again(self, sent: _Sent, text: str | None) -> bool:
-        """Whether another token may be let in: after a repeat, if the service asks for one and doesn't say why, and by its clock."""
+        """Whether another token may be let in: after a repeat, if the service asks for one and doesn't say why, and by
+        its clock."""
         error = _error_of(sent, text)
         if text is None or error is not None and error.error is not None and error.error.code == _REPEAT:
             is_first, self._has_repeated = not self._has_repeated, True
@@ -200,19 +207,22 @@ class HttpLogin:
         return False
 
     def _judge(self, heard: Heard, sent: _Sent | None, text: str | None) -> None:
-        """Raises LoginError if the response isn't to be handed on. A redirect needs no proof: the page that it leads to does."""
+        """Raises LoginError if the response isn't to be handed on. A redirect needs no proof: the page that it leads to
+        does."""
         settings = self._settings
         if sent is not None and settings.mutual != "off" and text is not None:
             self._verify(heard, sent, text)
         if settings.mutual != "required" or heard.is_redirect or self._is_of_session(heard, sent):
             return
         if sent is None:
-            raise heard.error(LoginTrouble.NOT_PROVED, f"answered with status {heard.status} and didn't ask for a login by Negotiate, so "
+            raise heard.error(LoginTrouble.NOT_PROVED, f"answered with status {heard.status} and didn't ask for a "
+                                                       f"login by Negotiate, so "
                               "nothing proves who it is")
         if text is None and heard.status == _UNAUTHORIZED:
             raise heard.error(LoginTrouble.REFUSED, "refused the login, and didn't say why")
         if text is None:
-            raise heard.error(LoginTrouble.NOT_PROVED, f"answered with status {heard.status} and sent no proof of who it is")
+            raise heard.error(LoginTrouble.NOT_PROVED, f"answered with status {heard.status} and sent no proof of who "
+                                                       f"it is")
 
     def _is_of_session(self, heard: Heard, sent: _Sent | None) -> bool:
         """Whether the response may be one that needs no token, from a service that has proved who it is."""
@@ -226,7 +236,8 @@ class HttpLogin:
         except ServiceError as fault:
             if heard.status == _UNAUTHORIZED and self._settings.mutual != "required":
                 return
-            trouble = LoginTrouble.REFUSED if fault.error is not None or heard.status == _UNAUTHORIZED else LoginTrouble.NOT_PROVED
+            trouble = (LoginTrouble.REFUSED if fault.error is not None or heard.status == _UNAUTHORIZED
+                       else LoginTrouble.NOT_PROVED)
             raise heard.error(trouble, f"answered with status {heard.status}: {fault}") from fault
         except (Fault, binascii.Error) as fault:
             raise heard.error(LoginTrouble.NOT_PROVED, f"sent a wrong proof of who it is: {fault}") from fault
@@ -237,7 +248,8 @@ class HttpLogin:
         """The field Authorization for a service, with a new token."""
         settings, response = self._settings, None if heard is None else heard.response
         if self._is_over_tls and origin.scheme != "https":
-            raise LoginError(LoginTrouble.NOT_TLS, f"after TLS, the request was redirected to {origin}, which asks for a login", response)
+            raise LoginError(LoginTrouble.NOT_TLS, f"after TLS, the request was redirected to {origin}, which asks for "
+                                                   f"a login", response)
         bindings = _bindings(heard) if settings.bindings and heard is not None and origin.scheme == "https" else None
         ahead = self._adjusted.get(origin, settings.ahead.get(origin, 0.0))
         try:
@@ -253,7 +265,8 @@ class HttpLogin:
     def _ticket(self, origin: Origin) -> tuple[CredentialCache, str]:
         """A cache with a ticket for the service, and the service's name."""
         settings = self._settings
-        named = settings.service if settings.service is not None and origin.host == self._first.host else settings.service_at(origin.host)
+        named = (settings.service if settings.service is not None and origin.host == self._first.host
+                 else settings.service_at(origin.host))
         cache = (CredentialCache.default() if settings.cache is None else settings.cache).fetch(named)
         if settings.cache is not None:
             settings.cache = cache
@@ -285,7 +298,8 @@ def _error_of(sent: _Sent, text: str | None) -> ServiceError | None:
 def _bindings(heard: Heard) -> bytes:
     certificate = heard.certificate()
     if certificate is None:
-        raise heard.error(LoginTrouble.NO_BINDINGS, "answered by a channel whose certificate isn't known, so it has no bindings")
+        raise heard.error(LoginTrouble.NO_BINDINGS, "answered by a channel whose certificate isn't known, so it has no "
+                                                    "bindings")
     try:
         return tls_server_end_point(certificate)
     except ValueError as fault:

@@ -15,8 +15,8 @@ __all__ = ["Negotiate"]
 class Negotiate(httpx.Auth):
     """A login with Negotiate, for the argument `auth` of httpx, its Client and its AsyncClient.
 
-    The arguments, and what is promised, are those of fevstunik.clients.requests.Negotiate. An AsyncClient isn't held up while a ticket is
-    got.
+    The arguments, and what is promised, are those of fevstunik.clients.requests.Negotiate. An AsyncClient isn't held up
+    while a ticket is got.
 
     >>> from fevstunik import CredentialCache
     >>> from fevstunik.clients.httpx import Negotiate
@@ -25,7 +25,8 @@ class Negotiate(httpx.Auth):
     """
 
     def __init__(self, cache: CredentialCache | None = None, service: str | None = None, *, mutual: Mutual = "required",
-                 bindings: bool = False, adjust_clock: bool = False, preemptive: bool = False, canonicalize: bool = False) -> None:
+                 bindings: bool = False, adjust_clock: bool = False, preemptive: bool = False,
+                 canonicalize: bool = False) -> None:
         self._settings = Settings(cache, service, mutual, bindings, adjust_clock, preemptive, canonicalize)
 
     def __repr__(self) -> str:
@@ -60,8 +61,8 @@ def _begun(login: HttpLogin, request: httpx.Request) -> httpx.Request:
 
 
 def _answered(login: HttpLogin, response: httpx.Response, seen: int) -> str | None:
-    """The field Authorization for the next request. httpx has followed redirects on the way, and sent the token again to the same host.
-    The history of a response begins with those that a token followed."""
+    """The field Authorization for the next request. httpx has followed redirects on the way, and sent the token again
+    to the same host. The history of a response begins with those that a token followed."""
     header = None
     for it in [*response.history[seen:], response]:
         header = login.answered(_heard(it))
@@ -70,7 +71,8 @@ def _answered(login: HttpLogin, response: httpx.Response, seen: int) -> str | No
 
 def _heard(response: httpx.Response) -> Heard:
     return Heard(_origin(response.request), response.request.headers.get("Authorization"), response.status_code,
-                 response.has_redirect_location, response.headers.get_list("WWW-Authenticate"), lambda: _certificate(response), response)
+                 response.has_redirect_location, response.headers.get_list("WWW-Authenticate"),
+                 lambda: _certificate(response), response)
 
 
 def _origin(request: httpx.Request) -> Origin:
@@ -83,7 +85,8 @@ def _again(response: httpx.Response, header: str) -> httpx.Request:
     stream = request.stream
     # The parts of a form are made again each time; other streams are read once.
     if not isinstance(stream, httpx.ByteStream) and type(stream).__module__ != "httpx._multipart":
-        raise LoginError(LoginTrouble.BODY_SPENT, "the service asks for a login after it was sent the body, which can't be read again: "
+        raise LoginError(LoginTrouble.BODY_SPENT, "the service asks for a login after it was sent the body, which "
+                                                  "can't be read again: "
                          "pass bytes, or preemptive=True", response)
     request.headers["Authorization"] = header
     if response.cookies:

@@ -21,21 +21,22 @@ class Negotiate(AuthBase):
     """A login with Negotiate, for the argument `auth` of requests and its sessions.
 
     cache         the client's tickets: by default those of CredentialCache.default(), as they are when a token is made
-    service       the service's name, as ``HTTP/www.example.com@EXAMPLE.COM``, at the host of the request. By default, and at hosts to which
-                  it is redirected, the name is ``HTTP/`` and the host in the URL
-    mutual        ``"required"``: a response is handed on only if the service proved who it is, in its answer to a token, or earlier to this
-                  object (as in a session with a cookie). ``"optional"``: a proof is checked if there is one. ``"off"``: none is asked for
+    service       the service's name, as ``HTTP/www.example.com@EXAMPLE.COM``, at the host of the request. By default,
+                  and at hosts to which it is redirected, the name is ``HTTP/`` and the host in the URL
+    mutual        ``"required"``: a response is handed on only if the service proved who it is, in its answer to a
+                  token, or earlier to this object (as in a session with a cookie). ``"optional"``: a proof is checked
+                  if there is one. ``"off"``: none is asked for
     bindings      whether tokens are bound to the channel if it is one of TLS (RFC 5929, tls-server-end-point)
-    adjust_clock  whether to try once more by the service's clock, if it says that the clocks differ too much. Nobody has signed that: ask
-                  for it only if your machine's clock is known to be wrong
-    preemptive    whether the first request has a token already. By default a token is sent if the service asks for a login. Then a body
-                  is sent twice, and one that can be read only once raises LoginError (BODY_SPENT)
+    adjust_clock  whether to try once more by the service's clock, if it says that the clocks differ too much. Nobody
+                  has signed that: ask for it only if your machine's clock is known to be wrong
+    preemptive    whether the first request has a token already. By default a token is sent if the service asks for a
+                  login. Then a body is sent twice, and one that can be read only once raises LoginError (BODY_SPENT)
     canonicalize  whether DNS says by which name a host's service is known. Nobody has signed what DNS says
 
-    A ticket that isn't in the cache is got by ``kvno`` or ``kgetcred``. Each token is for the host that it is sent to. If the service has
-    seen it before (Repeat), or refuses it and doesn't say why, the request is sent once more with a new one. A redirect needs no proof of
-    its own; the page that it leads to does. After https, no token is sent over http. Over http, whoever is between can answer in the
-    service's name once it has proved itself.
+    A ticket that isn't in the cache is got by ``kvno`` or ``kgetcred``. Each token is for the host that it is sent to.
+    If the service has seen it before (Repeat), or refuses it and doesn't say why, the request is sent once more with a
+    new one. A redirect needs no proof of its own; the page that it leads to does. After https, no token is sent over
+    http. Over http, whoever is between can answer in the service's name once it has proved itself.
 
     Raises LoginError. Threads may share it.
 
@@ -46,7 +47,8 @@ class Negotiate(AuthBase):
     """
 
     def __init__(self, cache: CredentialCache | None = None, service: str | None = None, *, mutual: Mutual = "required",
-                 bindings: bool = False, adjust_clock: bool = False, preemptive: bool = False, canonicalize: bool = False) -> None:
+                 bindings: bool = False, adjust_clock: bool = False, preemptive: bool = False,
+                 canonicalize: bool = False) -> None:
         self._settings = Settings(cache, service, mutual, bindings, adjust_clock, preemptive, canonicalize)
 
     def __repr__(self) -> str:
@@ -84,8 +86,8 @@ def _answered(login: HttpLogin, response: requests.Response, words: dict[str, An
 
 def _heard(response: requests.Response) -> Heard:
     field = response.headers.get("WWW-Authenticate")
-    return Heard(_origin(response.request), response.request.headers.get("Authorization"), response.status_code, response.is_redirect,
-                 [] if field is None else [field], lambda: _certificate(response), response)
+    return Heard(_origin(response.request), response.request.headers.get("Authorization"), response.status_code,
+                 response.is_redirect, [] if field is None else [field], lambda: _certificate(response), response)
 
 
 def _origin(request: requests.PreparedRequest) -> Origin:
@@ -118,7 +120,8 @@ def _rewind(request: requests.PreparedRequest, response: requests.Response) -> N
     try:
         rewind_body(request)
     except requests.exceptions.UnrewindableBodyError:
-        raise LoginError(LoginTrouble.BODY_SPENT, "the service asks for a login after it was sent the body, which can't be read again: "
+        raise LoginError(LoginTrouble.BODY_SPENT, "the service asks for a login after it was sent the body, which "
+                                                  "can't be read again: "
                          "pass bytes, a file that can be rewound, or preemptive=True", response) from None
 
 

@@ -2,10 +2,10 @@
 
     Service(keytab, "HTTP/www@EX", store="/run/web/stamps")
 
-A path stands for a File, the store for the processes of one machine; an SQLite is one that they share with processes in C. Processes of
-several machines share a Redis or a PostgreSQL. A service that has a store remembers from `remembers_from` of the store on: so it refuses
-clients with JUST_STARTED only for the skew after the store was made, and a service that is started again, or replaced, lets clients in at
-once.
+A path stands for a File, the store for the processes of one machine; an SQLite is one that they share with processes in
+C. Processes of several machines share a Redis or a PostgreSQL. A service that has a store remembers from
+`remembers_from` of the store on: so it refuses clients with JUST_STARTED only for the skew after the store was made,
+and a service that is started again, or replaced, lets clients in at once.
 
 docs/OPERATING.md, "Several instances", says which store to take, and what it needs.
 """

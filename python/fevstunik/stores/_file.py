@@ -1,10 +1,12 @@
 """A store in a file to which records are appended, for the processes of one machine.
 
-The system appends one record at a time. So the order of the file is the same for all processes, and of equal stamps the first is the new one:
-nobody waits for another. A process appends its stamp, and reads on up to it what others have appended; what it has read, it keeps in memory.
+The system appends one record at a time. So the order of the file is the same for all processes, and of equal stamps the
+first is the new one: nobody waits for another. A process appends its stamp, and reads on up to it what others have
+appended; what it has read, it keeps in memory.
 
-When a file has grown, a process closes it by a record of its own, and makes the next one of what is to be kept. What is appended to a file
-after it was closed doesn't count: who finds that goes on with the next file, which has the same name.
+When a file has grown, a process closes it by a record of its own, and makes the next one of what is to be kept. What is
+appended to a file after it was closed doesn't count: who finds that goes on with the next file, which has the same
+name.
 """
 from __future__ import annotations
 
@@ -25,14 +27,16 @@ from ._folder import locked
 from ._place import Place
 from ._store import SECONDS, Made, clock, made_again, micros, moment_of, no_answer, seconds_of, skew_of
 
-# What a file begins with: what it is, when the store was made and for which skew, up to which time stamps were forgotten, and the boot. What
-# was written before a process was killed is in the page cache: so nothing is synced, and a file is used within one boot alone.
+# What a file begins with: what it is, when the store was made and for which skew, up to which time stamps were
+# forgotten, and the boot. What was written before a process was killed is in the page cache: so nothing is synced, and
+# a file is used within one boot alone.
 _HEAD, _MAGIC = struct.Struct("=16sqqq64s24x"), b"fevstunik stamps"
-# A stamp: its hash, until when it is kept, and a number that tells it from equal ones: a process counts from a random one. A page of the system
-# has a whole number of records, so none is ever written in part.
+# A stamp: its hash, until when it is kept, and a number that tells it from equal ones: a process counts from a random
+# one. A page of the system has a whole number of records, so none is ever written in part.
 _SIZE, _KEY, _REST, _NUMBERS = 32, 16, struct.Struct("=qQ"), 1 << 64
 _CLOSED = b"closed".ljust(_SIZE)
-# So much is read at once, and kept or forgotten as a whole. A file is closed when it is so large, and twice as large as at first.
+# So much is read at once, and kept or forgotten as a whole. A file is closed when it is so large, and twice as large as
+# at first.
 _PART, _LARGE = 2048 * _SIZE, 1 << 20
 
 
@@ -51,7 +55,8 @@ class _Opened:
         self._is = _identity(os.fstat(self._file))
         head = os.pread(self._file, _HEAD.size, 0)
         if len(head) != _HEAD.size or not head.startswith(_MAGIC):
-            raise StoreFailed(f"{self.path} is no store of this kind: stop the services that use it, remove it, and start them")
+            raise StoreFailed(f"{self.path} is no store of this kind: stop the services that use it, remove it, and "
+                              f"start them")
         _, made, largest_skew, self._forgotten, boot = _HEAD.unpack(head)
         if boot.rstrip(b"\0") != place.boot.encode():
             raise StoreFailed(f"{self.path} is of another boot")
@@ -66,7 +71,8 @@ class _Opened:
         return self._at >= self._large
 
     def add(self, key: bytes, until: int) -> bool | None:
-        """Append a stamp, and return whether it is the first one of its hash; or None, if the file was closed before."""
+        """Append a stamp, and return whether it is the first one of its hash; or None, if the file was closed
+        before."""
         if until <= self._forgotten:
             raise StoreFailed("the clock was set back, so the stamp may have been forgotten")
         if key in self._seen:
@@ -95,7 +101,8 @@ class _Opened:
                     return None
                 seen.add(key)
             self._at += len(part)
-        raise StoreFailed(f"{self.path} has lost what was written to it: stop the services that use it, remove it, and start them")
+        raise StoreFailed(f"{self.path} has lost what was written to it: stop the services that use it, remove it, and "
+                          f"start them")
 
     def read_all(self) -> None:
         """Read all that there is now, or all up to where the file was closed."""
@@ -124,8 +131,8 @@ class _Opened:
         return StoreFailed(f"{self.path} was removed: start the services that use it again")
 
     def replace(self) -> None:
-        """Close the file, and put the next one in its place. (If this process is killed in between, another one does it.) Whoever calls it has
-        locked the folder."""
+        """Close the file, and put the next one in its place. (If this process is killed in between, another one does
+        it.) Whoever calls it has locked the folder."""
         self.read_all()
         if not self.is_closed:
             os.write(self._file, _CLOSED)
@@ -203,19 +210,21 @@ class _Reader:
 class File(Secret):
     """A store in a file, for all processes of one machine.
 
-    path          the file, as ``"/run/web/stamps"``; the name of the machine's boot is put after it. Its folder is the service's user's
+    path          the file, as ``"/run/web/stamps"``; the name of the machine's boot is put after it. Its folder is the
+                  service's user's
     largest_skew  the largest skew of the services that use it, in seconds; 300 if this is left out, and the file is new
     seconds       how long to wait for an answer: then StoreFailed is raised
     boot          the name of the machine's boot: by default /proc/sys/kernel/random/boot_id
     unchecked     True if the file's place and mode aren't to be looked at
 
-    The first process of a boot makes the file, and removes those of earlier boots. So clients are refused with JUST_STARTED for the skew
-    after each boot, and never after a service was started again. What a killed process has added stays. Nothing is synced: a file of
-    another boot may lack stamps, and isn't used. If the file is removed, the services that use it let nobody in until they are started
-    again. Each process keeps in memory the hashes of the stamps, about 100 bytes each.
+    The first process of a boot makes the file, and removes those of earlier boots. So clients are refused with
+    JUST_STARTED for the skew after each boot, and never after a service was started again. What a killed process has
+    added stays. Nothing is synced: a file of another boot may lack stamps, and isn't used. If the file is removed, the
+    services that use it let nobody in until they are started again. Each process keeps in memory the hashes of the
+    stamps, about 100 bytes each.
 
-    Raises UnsafeStore if others may write to the folder or read the file, if the file system isn't known to be on this machine, or if the
-    file was made with another largest skew.
+    Raises UnsafeStore if others may write to the folder or read the file, if the file system isn't known to be on this
+    machine, or if the file was made with another largest skew.
 
     >>> import tempfile
     >>> from fevstunik import Moment
@@ -226,8 +235,8 @@ class File(Secret):
     (300, True)
     """
 
-    def __init__(self, path: str | os.PathLike[str], largest_skew: int | None = None, *, seconds: float = SECONDS, boot: str | None = None,
-                 unchecked: bool = False) -> None:
+    def __init__(self, path: str | os.PathLike[str], largest_skew: int | None = None, *, seconds: float = SECONDS,
+                 boot: str | None = None, unchecked: bool = False) -> None:
         self._seconds, self._place = seconds_of(seconds), Place(path, boot, not unchecked)
         self.path, skew = self._place.path, skew_of(largest_skew)
         try:
@@ -272,8 +281,8 @@ class File(Secret):
         self._own = None
 
     def _reader(self) -> _Reader:
-        """The file as this process has it open. (In a child, the parent's may be in the midst of a call. If two threads open it at once, both
-        readers are right.)"""
+        """The file as this process has it open. (In a child, the parent's may be in the midst of a call. If two threads
+        open it at once, both readers are right.)"""
         own, process = self._own, here()
         if own is not None and own[0] == process:
             return own[1]

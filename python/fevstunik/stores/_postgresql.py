@@ -27,7 +27,8 @@ _MADE = f"SELECT made, largest_skew, {_CLOCK} FROM fevstunik_store"
 _SETTINGS = """
 SELECT current_setting('fsync'), current_setting('full_page_writes'),
   set_config('synchronous_commit', current_setting('synchronous_commit'), false),
-  (SELECT bool_and(relpersistence = 'p') FROM pg_class WHERE oid IN ('fevstunik_stamps'::regclass, 'fevstunik_store'::regclass))
+  (SELECT bool_and(relpersistence = 'p') FROM pg_class
+   WHERE oid IN ('fevstunik_stamps'::regclass, 'fevstunik_store'::regclass))
 """
 # One statement, and so one transaction. A stamp is hashed: longer ones than 2,700 bytes don't fit into an index.
 _ADD = f"""
@@ -40,18 +41,23 @@ INSERT INTO fevstunik_stamps VALUES (sha256(%s), %s) ON CONFLICT DO NOTHING
 class PostgreSQL(Connected[Any]):
     """A store in a database of PostgreSQL. It needs the Python package psycopg2: ``fevstunik[postgresql]``.
 
-    where         the database, as libpq takes it: ``"dbname=web"``, ``"host=/run/postgresql dbname=web user=web"`` or ``"postgresql://.."``
-    largest_skew  the largest skew of the services that use it, in seconds; 300 if this is left out, and the store is new
-    seconds       how long to wait for an answer, and for a connection: then the connection is closed, and StoreFailed is raised
+    where         the database, as libpq takes it: ``"dbname=web"``, ``"host=/run/postgresql dbname=web user=web"`` or
+                  ``"postgresql://.."``
+    largest_skew  the largest skew of the services that use it, in seconds; 300 if this is left out, and the store is
+                  new
+    seconds       how long to wait for an answer, and for a connection: then the connection is closed, and StoreFailed
+                  is raised
     unchecked     True if the server's settings aren't to be looked at
 
-    A stamp is one statement, which also deletes two that needn't be kept any longer. The first process makes the tables `fevstunik_stamps`
-    and `fevstunik_store`. Raises UnsafeStore if the server isn't set up as docs/OPERATING.md says (`fsync`, `full_page_writes`,
-    `synchronous_commit`), if a table is unlogged or temporary, if the server's clock is ahead, or if the store was made with another
-    largest skew. If the tables were made again, the services that use them let nobody in until they are started again.
+    A stamp is one statement, which also deletes two that needn't be kept any longer. The first process makes the tables
+    `fevstunik_stamps` and `fevstunik_store`. Raises UnsafeStore if the server isn't set up as docs/OPERATING.md says
+    (`fsync`, `full_page_writes`, `synchronous_commit`), if a table is unlogged or temporary, if the server's clock is
+    ahead, or if the store was made with another largest skew. If the tables were made again, the services that use them
+    let nobody in until they are started again.
     """
 
-    def __init__(self, where: str, largest_skew: int | None = None, *, seconds: float = SECONDS, unchecked: bool = False) -> None:
+    def __init__(self, where: str, largest_skew: int | None = None, *, seconds: float = SECONDS,
+                 unchecked: bool = False) -> None:
         super().__init__(seconds)
         self._where, self._checked, self._wanted = where, not unchecked, skew_of(largest_skew)
         self._module: Any = importlib.import_module("psycopg2")

@@ -17,19 +17,21 @@ from .._values import Moment
 from ._place import Place
 from ._store import SECONDS, Connected, Made, clock, micros, skew_of
 
-# What was written before a process was killed is in the page cache: so nothing is synced, and a file is used within one boot alone.
-_TABLES = """
-PRAGMA journal_mode = WAL;
-CREATE TABLE store (boot TEXT NOT NULL, made INTEGER NOT NULL, largest_skew INTEGER NOT NULL, forgotten INTEGER NOT NULL, next BLOB NOT NULL);
-CREATE TABLE stamps (key BLOB PRIMARY KEY, keep_until INTEGER NOT NULL) WITHOUT ROWID;
-"""
-# A service's stamp ends with its time. That comes first in the key, so that new ones are added at the end of the file's order, in a page that
-# is at hand.
+# What was written before a process was killed is in the page cache: so nothing is synced, and a file is used within one
+# boot alone.
+_TABLES = ("PRAGMA journal_mode = WAL; "
+           "CREATE TABLE store (boot TEXT NOT NULL, made INTEGER NOT NULL, largest_skew INTEGER NOT NULL, "
+           "forgotten INTEGER NOT NULL, next BLOB NOT NULL); "
+           "CREATE TABLE stamps (key BLOB PRIMARY KEY, keep_until INTEGER NOT NULL) WITHOUT ROWID;")
+# A service's stamp ends with its time. That comes first in the key, so that new ones are added at the end of the file's
+# order, in a page that is at hand.
 _TIME = 8
 # A stamp that may have been forgotten isn't added: the clock was set back.
-_ADD = "INSERT INTO stamps (key, keep_until) SELECT ?1, ?2 WHERE ?2 > (SELECT forgotten FROM store) ON CONFLICT DO NOTHING"
-# After so many stamps, twice as many are looked at, in the order of their keys, and those that are old are forgotten. (An index by time would
-# cost each login as much as the stamp itself.) The last statement notes from which one to go on; after the last, that is the first again.
+_ADD = ("INSERT INTO stamps (key, keep_until) SELECT ?1, ?2 WHERE ?2 > (SELECT forgotten FROM store) "
+        "ON CONFLICT DO NOTHING")
+# After so many stamps, twice as many are looked at, in the order of their keys, and those that are old are forgotten.
+# (An index by time would cost each login as much as the stamp itself.) The last statement notes from which one to go
+# on; after the last, that is the first again.
 _PORTION = 32
 # How often a statement is tried again at once, while another process writes.
 _AT_ONCE = 1
@@ -51,8 +53,8 @@ class _File:
         self.path = str(path)
         found = os.stat(self.path)
         self.file, self.no_answer, self.added = (found.st_dev, found.st_ino), no_answer, 0
-        self.base = sqlite3.connect(f"file:{urllib.parse.quote(self.path)}?mode=rw", uri=True, timeout=0, isolation_level=None,
-                                    check_same_thread=False)
+        self.base = sqlite3.connect(f"file:{urllib.parse.quote(self.path)}?mode=rw", uri=True, timeout=0,
+                                    isolation_level=None, check_same_thread=False)
         # (a cursor for each statement takes as long as a tenth of it)
         self._cursor = self.base.cursor()
 
@@ -82,19 +84,20 @@ def _wait(tried: int) -> None:
 class SQLite(Connected[_File]):
     """A store in a file, for all processes of one machine: by SQLite, as Python has it.
 
-    path          the file, as ``"/run/web/stamps"``; the name of the machine's boot is put after it. Its folder is the service's user's
+    path          the file, as ``"/run/web/stamps"``; the name of the machine's boot is put after it. Its folder is the
+                  service's user's
     largest_skew  the largest skew of the services that use it, in seconds; 300 if this is left out, and the file is new
     seconds       how long to wait for an answer: then StoreFailed is raised
     boot          the name of the machine's boot: by default /proc/sys/kernel/random/boot_id
     unchecked     True if the file's place and mode aren't to be looked at
 
-    The first process of a boot makes the file, and removes those of earlier boots. So clients are refused with JUST_STARTED for the skew
-    after each boot, and never after a service was started again. What a killed process has added stays. Nothing is synced: a file of
-    another boot may lack stamps, and isn't used. If the file is removed, the services that use it let nobody in until they are started
-    again.
+    The first process of a boot makes the file, and removes those of earlier boots. So clients are refused with
+    JUST_STARTED for the skew after each boot, and never after a service was started again. What a killed process has
+    added stays. Nothing is synced: a file of another boot may lack stamps, and isn't used. If the file is removed, the
+    services that use it let nobody in until they are started again.
 
-    Raises UnsafeStore if others may write to the folder or read the file, if the file system isn't known to be on this machine, or if the
-    file was made with another largest skew.
+    Raises UnsafeStore if others may write to the folder or read the file, if the file system isn't known to be on this
+    machine, or if the file was made with another largest skew.
 
     >>> import tempfile
     >>> from fevstunik import Moment
@@ -105,8 +108,8 @@ class SQLite(Connected[_File]):
     (300, True)
     """
 
-    def __init__(self, path: str | os.PathLike[str], largest_skew: int | None = None, *, seconds: float = SECONDS, boot: str | None = None,
-                 unchecked: bool = False) -> None:
+    def __init__(self, path: str | os.PathLike[str], largest_skew: int | None = None, *, seconds: float = SECONDS,
+                 boot: str | None = None, unchecked: bool = False) -> None:
         super().__init__(seconds)
         self._place = Place(path, boot, not unchecked)
         self.path, skew = self._place.path, skew_of(largest_skew)
@@ -201,8 +204,8 @@ class SQLite(Connected[_File]):
             connection.base.close()
 
 
-# SQLite doesn't notice a fork, and takes locks of the parent for its own, on the same file: so nothing is open when a process forks; and if
-# a call of another thread is, the child doesn't open a file.
+# SQLite doesn't notice a fork, and takes locks of the parent for its own, on the same file: so nothing is open when a
+# process forks; and if a call of another thread is, the child doesn't open a file.
 _stores: weakref.WeakSet[SQLite] = weakref.WeakSet()
 _open_now: weakref.WeakSet[_File] = weakref.WeakSet()
 _process = here()

@@ -18,9 +18,9 @@ _MICROS = 1_000_000
 class Store(Protocol):
     """A store, as a service asks it. Any object that has these three is one.
 
-    A store never loses a stamp before `keep_until`, also if it crashes, and its clock isn't ahead of a service's by more than
-    `largest_skew`. If it may have lost stamps, `remembers_from` has to be later than what the clocks of services said when they were added,
-    and the services that use it are started again.
+    A store never loses a stamp before `keep_until`, also if it crashes, and its clock isn't ahead of a service's by
+    more than `largest_skew`. If it may have lost stamps, `remembers_from` has to be later than what the clocks of
+    services said when they were added, and the services that use it are started again.
 
     >>> import tempfile
     >>> from fevstunik.stores import File, Store
@@ -42,14 +42,16 @@ class Store(Protocol):
 
 @dataclass(frozen=True)
 class Made:
-    """When a store was made, in microseconds, and for which skew, in seconds. Who knows both knows which store it is."""
+    """When a store was made, in microseconds, and for which skew, in seconds. Who knows both knows which store it
+    is."""
 
     at: int
     largest_skew: int
 
     def for_skew(self, wanted: int | None) -> Made:
         if wanted not in (None, self.largest_skew):
-            raise UnsafeStore("largest_skew", f"the store was made with {self.largest_skew}, not {wanted}: it keeps stamps for this long. "
+            raise UnsafeStore("largest_skew", f"the store was made with {self.largest_skew}, not {wanted}: it keeps "
+                                              f"stamps for this long. "
                                               "To change it, stop all services that use it, and remove it")
         return self
 
@@ -94,8 +96,8 @@ _Connection = TypeVar("_Connection")
 class Connected(Secret, ABC, Generic[_Connection]):
     """A store that is asked over connections, one call at a time over each.
 
-    Only a connection over which the whole answer came in time is used again: so no answer can be taken for that about another stamp. A
-    process that was forked opens its own.
+    Only a connection over which the whole answer came in time is used again: so no answer can be taken for that about
+    another stamp. A process that was forked opens its own.
     """
 
     _made: Made
@@ -137,7 +139,8 @@ class Connected(Secret, ABC, Generic[_Connection]):
             self._shut(idle.pop())
 
     def _idle(self) -> list[_Connection]:
-        """The connections of this process that no call uses. Those from before a fork stay as they are: they are the parent's."""
+        """The connections of this process that no call uses. Those from before a fork stay as they are: they are the
+        parent's."""
         if self._own[0] != here():
             self._inherited.append(self._own[1])
             self._own = here(), []
@@ -188,7 +191,8 @@ class Connected(Secret, ABC, Generic[_Connection]):
 
     @abstractmethod
     def _add(self, connection: _Connection, stamp: bytes, keep_until: Moment, last: float) -> bool:
-        """Whether a stamp is new, over this connection, and if it can be said until this moment of the monotonic clock."""
+        """Whether a stamp is new, over this connection, and if it can be said until this moment of the monotonic
+        clock."""
 
     @abstractmethod
     def _shut(self, connection: _Connection) -> None:

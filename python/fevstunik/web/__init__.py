@@ -7,11 +7,12 @@
 ...     start_response("200 OK", [("Content-Type", "text/plain")])
 ...     return [f"hello {environ['REMOTE_USER']}".encode()]
 
-`wsgi` takes any application over WSGI, as those of Flask and Django, and `asgi` one over ASGI, as those of Starlette and FastAPI. Pass a
-`store` in production, or each start of a process refuses everybody for five minutes. docs/WEB.md has the rest.
+`wsgi` takes any application over WSGI, as those of Flask and Django, and `asgi` one over ASGI, as those of Starlette
+and FastAPI. Pass a `store` in production, or each start of a process refuses everybody for five minutes. docs/WEB.md
+has the rest.
 
-Logging: each decision is one record of the logger ``fevstunik.web``, with the fields `cause`, `user`, `peer`, `asked`, `etype` and `kvno`.
-LogFile writes them to a file.
+Logging: each decision is one record of the logger ``fevstunik.web``, with the fields `cause`, `user`, `peer`, `asked`,
+`etype` and `kvno`. LogFile writes them to a file.
 """
 from ._lines import LogFile
 from ._negotiate import Negotiate

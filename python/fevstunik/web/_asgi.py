@@ -95,7 +95,8 @@ def request_of(scope: dict[str, Any]) -> Request:
     return Request(
         scope.get("method") == "OPTIONS" and not _is_overridden(scope), scope["path"],
         _values(scope, b"authorization"), _values(scope, b"cookie"),
-        _values(scope, b"x-forwarded-for"), client[0] if client else "", tuple(client) if client and client[1] else None)
+        _values(scope, b"x-forwarded-for"), client[0] if client else "",
+        tuple(client) if client and client[1] else None)
 
 
 def _is_overridden(scope: dict[str, Any]) -> bool:

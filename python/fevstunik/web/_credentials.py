@@ -21,7 +21,8 @@ class TooLong(ValueError):
 def token_of(values: Sequence[bytes], limit: int) -> bytes | None:
     """Return the token of the scheme Negotiate, or None if there are no credentials, or they are of another scheme.
 
-    Several headers count as one whose values have commas between them (RFC 9110, section 5.3), so two tokens are malformed.
+    Several headers count as one whose values have commas between them (RFC 9110, section 5.3), so two tokens are
+    malformed.
 
     >>> token_of([b"Negotiate  aGVsbG8="], 100), token_of([b"Basic YTpi"], 100), token_of([], 100)
     (b'hello', None, None)

@@ -114,8 +114,8 @@ def networks_of(proxies: Iterable[str]) -> Networks:
 
 
 def peer_of(address: str, forwarded: Iterable[bytes], trusted: Networks) -> str:
-    """The client's address: the last one of X-Forwarded-For that isn't a trusted proxy's. A peer without an address, at a Unix socket, is
-    trusted if any is."""
+    """The client's address: the last one of X-Forwarded-For that isn't a trusted proxy's. A peer without an address, at
+    a Unix socket, is trusted if any is."""
     if not trusted:
         return address
     named = [it.strip() for header in forwarded for it in header.decode("latin-1").rsplit(",", _HOPS)][-_HOPS:]

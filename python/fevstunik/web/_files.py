@@ -67,14 +67,17 @@ def keytab_for(data: bytes, service: str | None) -> Keytab:
     if not any(etype in _TYPES and service in (None, name) for name, etype in held):
         if service is not None:
             check_name(service)
-        raise ValueError(f"the keytab has no key of type 19 or 20{'' if service is None else f' for {service}'}; {_has(held)}")
+        raise ValueError(f"the keytab has no key of type 19 or 20{'' if service is None else f' for {service}'}; "
+                         f"{_has(held)}")
     return keytab
 
 
 def _has(held: Iterable[tuple[str, int]]) -> str:
     """What a keytab has, for who has made it."""
     named = [f"type {etype} for {name}" for name, etype in sorted(held)]
-    return "it is empty" if not named else f"it has {', '.join(named[:_LISTED])}{', ..' if len(named) > _LISTED else ''}"
+    if not named:
+        return "it is empty"
+    return f"it has {', '.join(named[:_LISTED])}{', ..' if len(named) > _LISTED else ''}"
 
 
 def realms_of(data: bytes, service: str | None) -> list[str]:
@@ -93,8 +96,8 @@ class Certificates:
             it.changed()
 
     def hashes(self) -> list[bytes]:
-        """The hashes of the bindings, as clients send them (RFC 4121, section 4.1.1.2). A file that can't be read raises OSError or
-        ValueError, and what was read of it before is kept."""
+        """The hashes of the bindings, as clients send them (RFC 4121, section 4.1.1.2). A file that can't be read
+        raises OSError or ValueError, and what was read of it before is kept."""
         for index, file in enumerate(self._files):
             data = file.changed()
             if data is not None:

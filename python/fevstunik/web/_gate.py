@@ -85,7 +85,8 @@ class Terms:
 
 
 class Gate:
-    """Decides about requests, by a service that is made at the first of them in each process. So it may be made before a server forks."""
+    """Decides about requests, by a service that is made at the first of them in each process. So it may be made before
+    a server forks."""
 
     def __init__(self, make: Callable[[], Serving], terms: Terms, cookies: Cookies | None) -> None:
         self._make, self._terms, self._cookies = make, terms, cookies
@@ -147,21 +148,24 @@ class Gate:
         if isinstance(decision, Login):
             return self._let_in(decision)
         if isinstance(decision, GoOn):
-            return Answer(HTTPStatus.UNAUTHORIZED, "GO_ON", (_header(decision.reply),)), Event("GO_ON", "the negotiation goes on")
+            answer = Answer(HTTPStatus.UNAUTHORIZED, "GO_ON", (_header(decision.reply),))
+            return answer, Event("GO_ON", "the negotiation goes on")
         event = Event(decision.cause.name, str(decision), asked=decision.asked)
         if decision.may_pass:
             return Answer(HTTPStatus.SERVICE_UNAVAILABLE, event.cause, (self._terms.retry,)), event
         if decision.cause in _NOT_ALLOWED:
             return Answer(HTTPStatus.FORBIDDEN, event.cause), event
-        # An error goes back to a client that awaits a reply. A browser that gets one shows no page. After a repeat, a new token is all that
-        # is needed: python-requests sends its token again after a redirect, and makes a new one only if it is asked to.
+        # An error goes back to a client that awaits a reply. A browser that gets one shows no page. After a repeat, a
+        # new token is all that is needed: python-requests sends its token again after a redirect, and makes a new one
+        # only if it is asked to.
         awaits = decision.asked is not None and decision.asked.mutual and decision.cause != Code.REPEAT
         return Answer(HTTPStatus.UNAUTHORIZED, event.cause, (_header(decision.reply if awaits else b""),)), event
 
     def _let_in(self, login: Login) -> _Decided:
         reply: Headers = (_header(login.reply),) if login.reply else ()
         if not self._terms.is_bound(login):
-            return _refused(HTTPStatus.UNAUTHORIZED, "CHANNEL_BINDINGS", Code.CHANNEL_BINDINGS.text, (_CHALLENGE,), login.client)
+            return _refused(HTTPStatus.UNAUTHORIZED, "CHANNEL_BINDINGS", Code.CHANNEL_BINDINGS.text, (_CHALLENGE,),
+                            login.client)
         try:
             user = self._terms.users.user_of(login)
         except NotAllowed as error:

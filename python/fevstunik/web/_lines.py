@@ -12,12 +12,14 @@ _STANDARD_ERROR = 2
 
 
 class LogFile(logging.Handler):
-    """A handler for logging that appends a line for each record to a file: when it was, the level, the peer, and what was decided.
+    """A handler for logging that appends a line for each record to a file: when it was, the level, the peer, and what
+    was decided.
 
     path  the file, or None for standard error
 
-    The lines are those of a logging.FileHandler whose format is ``%(asctime)s %(levelname)s %(peer)s %(message)s``, which takes twice as long,
-    but that the later lines of a record are indented. Processes may share the file: each line is written at once. If it is renamed, as logrotate does it, a new one is made within a second.
+    The lines are those of a logging.FileHandler whose format is ``%(asctime)s %(levelname)s %(peer)s %(message)s``,
+    which takes twice as long, but that the later lines of a record are indented. Processes may share the file: each
+    line is written at once. If it is renamed, as logrotate does it, a new one is made within a second.
 
     >>> import logging, tempfile
     >>> from fevstunik.web import LogFile
@@ -77,7 +79,8 @@ class LogFile(logging.Handler):
         """
         now = time.time()
         try:
-            self._append(f"{self._second(int(now))},{int(now % 1 * 1000):03d} {logging.getLevelName(level)} {peer} {text}")
+            self._append(f"{self._second(int(now))},{int(now % 1 * 1000):03d} {logging.getLevelName(level)} {peer} "
+                         f"{text}")
         except OSError:
             self.handleError(logging.makeLogRecord({"levelno": level, "msg": text, "peer": peer}))
 

@@ -23,15 +23,16 @@ class Negotiate:
 
     keytab        the path of the keytab with the service's keys. It is read again when it changes
     service       the name that is served, as ``HTTP/www.example.com@EXAMPLE.COM``
-    store         what remembers requests for all processes, and over restarts: a path, or a store of fevstunik.stores. Without it each
-                  process refuses everybody for the skew, from its first request on
+    store         what remembers requests for all processes, and over restarts: a path, or a store of fevstunik.stores.
+                  Without it each process refuses everybody for the skew, from its first request on
     users         who is let in, and by which names: by default clients of the service's realm, as ``alice@EXAMPLE.COM``
     sessions      Sessions, or None: then each request needs a token of its own
     certificates  files with the TLS server's certificates in PEM. Channel bindings are checked against them
     bindings      ``"check"`` refuses a client that sends other bindings, ``"require"`` also one that sends none
-    exempt        paths of the application for which nobody has to log in: one path, or all below it if it ends with ``/``
-    proxies       addresses or networks of trusted proxies, whose X-Forwarded-For says the peer's address for the log. If there is one, a
-                  peer at a Unix socket is trusted, too
+    exempt        paths of the application for which nobody has to log in: one path, or all below it if it ends with
+                  ``/``
+    proxies       addresses or networks of trusted proxies, whose X-Forwarded-For says the peer's address for the log.
+                  If there is one, a peer at a Unix socket is trusted, too
     token_limit   the longest token, in bytes
     skew          by how many seconds clocks may differ
     first_life    True if every key of the keytab is new, as for Service
@@ -40,11 +41,12 @@ class Negotiate:
     retry_after   after how many seconds a client that is answered 503 is to try again
     any_name      True to serve each name of the keytab, as for Service. The service is None then
 
-    If the keytab has no key of type 19 or 20 for the service, it raises ValueError; invalid files raise Fault, ValueError or OSError, and a
-    store's file that isn't safe StoreFailed.
+    If the keytab has no key of type 19 or 20 for the service, it raises ValueError; invalid files raise Fault,
+    ValueError or OSError, and a store's file that isn't safe StoreFailed.
 
     >>> from fevstunik.web import Negotiate, Users
-    >>> negotiate = Negotiate(keytab="examples/service.keytab", service="host/web@EX", users=Users(realms={"EX": "{user}"}))
+    >>> users = Users(realms={"EX": "{user}"})
+    >>> negotiate = Negotiate(keytab="examples/service.keytab", service="host/web@EX", users=users)
     >>> @negotiate.wsgi
     ... def app(environ, start_response):
     ...     start_response("200 OK", [("Content-Type", "text/plain")])
@@ -55,7 +57,8 @@ class Negotiate:
     ValueError: the keytab has no key of type 19 or 20 for HTTP/web@EX; it has type 19 for host/web@EX
     """
 
-    def __init__(self, *, keytab: Path, service: str | None, store: Store | Path | None = None, users: Users | None = None,
+    def __init__(self, *, keytab: Path, service: str | None, store: Store | Path | None = None,
+                 users: Users | None = None,
                  sessions: Sessions | None = None, certificates: Iterable[Path] = (), bindings: str = "check",
                  exempt: Iterable[str] = (), proxies: Iterable[str] = (), token_limit: int = 65_536, skew: int = 300,
                  first_life: bool = False, limit: int | None = None, limit_for_client: int | None = None,
@@ -84,8 +87,8 @@ class Negotiate:
     def wsgi(self, app: _wsgi.App) -> _wsgi.App:
         """Return the application with the login before it. It may be used as a decorator.
 
-        The application finds the user's name in ``environ["REMOTE_USER"]``, the User in ``environ["fevstunik.user"]``, and the Login in
-        ``environ["fevstunik.login"]``, which is None in a session.
+        The application finds the user's name in ``environ["REMOTE_USER"]``, the User in ``environ["fevstunik.user"]``,
+        and the Login in ``environ["fevstunik.login"]``, which is None in a session.
 
         >>> from fevstunik.web import Negotiate
         >>> negotiate = Negotiate(keytab="examples/service.keytab", service="host/web@EX")

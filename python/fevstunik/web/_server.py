@@ -1,6 +1,8 @@
-"""A small server over HTTP/1.1 for an application over WSGI: for trials, and for what only a proxy on the same machine asks.
+"""A small server over HTTP/1.1 for an application over WSGI: for trials, and for what only a proxy on the same machine
+asks.
 
-It takes what RFC 9112 says without doubt, and refuses the rest: a head of more than one reading is answered 400, and ends the connection.
+It takes what RFC 9112 says without doubt, and refuses the rest: a head of more than one reading is answered 400, and
+ends the connection.
 """
 from __future__ import annotations
 
@@ -19,8 +21,8 @@ from urllib.parse import unquote_to_bytes
 
 from ._wsgi import App
 
-# The longest head and body of a request, in bytes; how many fields a head has; how many connections there are at once; and for how many
-# seconds one may be silent, and may take for a request.
+# The longest head and body of a request, in bytes; how many fields a head has; how many connections there are at once;
+# and for how many seconds one may be silent, and may take for a request.
 _HEAD, _BODY, _FIELDS, _CONNECTIONS, _PATIENCE = 262_144, 1_048_576, 200, 1000, 30.0
 _REQUEST_LINE = re.compile(rb"([!#$%&'*+.^_`|~0-9A-Za-z-]+) ([!-~]+) HTTP/1\.([01])\Z")
 _FIELD = re.compile(rb"([!#$%&'*+.^_`|~0-9A-Za-z-]+):[ \t]*([^\0\r\n]*?)[ \t]*\Z")
@@ -149,9 +151,10 @@ class _Connection:
         environ = {
             "REQUEST_METHOD": head.method, "SCRIPT_NAME": "", "PATH_INFO": unquote_to_bytes(path).decode("latin-1"),
             "QUERY_STRING": query.decode(), "SERVER_PROTOCOL": f"HTTP/1.{head.minor}", "REMOTE_ADDR": self._peer[0],
-            "REMOTE_PORT": self._peer[1], "SERVER_NAME": "localhost", "SERVER_PORT": "80", "CONTENT_LENGTH": str(len(body)),
-            "wsgi.version": (1, 0), "wsgi.url_scheme": "http", "wsgi.input": io.BytesIO(body), "wsgi.errors": sys.stderr,
-            "wsgi.multithread": True, "wsgi.multiprocess": False, "wsgi.run_once": False}
+            "REMOTE_PORT": self._peer[1], "SERVER_NAME": "localhost", "SERVER_PORT": "80",
+            "CONTENT_LENGTH": str(len(body)),
+            "wsgi.version": (1, 0), "wsgi.url_scheme": "http", "wsgi.input": io.BytesIO(body),
+            "wsgi.errors": sys.stderr, "wsgi.multithread": True, "wsgi.multiprocess": False, "wsgi.run_once": False}
         for name, value in head.fields:
             # (a name with `_` could be taken for one with `-`)
             if b"_" in name or name == b"content-length":
@@ -161,7 +164,8 @@ class _Connection:
             environ[key] = f"{environ[key]},{text}" if key in environ else text
         return environ
 
-    def _send(self, status: str, headers: list[tuple[str, str]], body: bytes, goes_on: bool, is_head: bool = False) -> None:
+    def _send(self, status: str, headers: list[tuple[str, str]], body: bytes, goes_on: bool,
+              is_head: bool = False) -> None:
         own = [("Date", formatdate(usegmt=True)), ("Connection", "keep-alive" if goes_on else "close")]
         if "content-length" not in {name.lower() for name, _ in headers}:
             own.append(("Content-Length", str(len(body))))
@@ -205,7 +209,8 @@ def _answer_of(app: App, environ: dict[str, Any]) -> tuple[str, list[tuple[str, 
 def serve(app: App, listener: socket.socket) -> None:
     """Answer the connections of a listening socket, each in a thread of its own, for ever.
 
-    The server reads a body of at most 1 MiB, and knows no TLS. Use it for trials on loopback, and for what only a proxy reaches.
+    The server reads a body of at most 1 MiB, and knows no TLS. Use it for trials on loopback, and for what only a proxy
+    reaches.
     """
     free = threading.BoundedSemaphore(_CONNECTIONS)
 

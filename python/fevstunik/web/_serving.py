@@ -43,14 +43,17 @@ class Serving:
         self._service.close()
 
     def answer(self, token: bytes, connection: Hashable) -> Login | GoOn | Refused:
-        """Decide about a token. `connection` stands for the client's connection: the second round of a negotiation comes over the same."""
+        """Decide about a token. `connection` stands for the client's connection: the second round of a negotiation
+        comes over the same."""
         if self._file.is_due():
             self._look(False)
-        # (a proxy's connection carries requests of several clients, so a token that begins a negotiation never goes on with another's)
+        # (a proxy's connection carries requests of several clients, so a token that begins a negotiation never goes on
+        # with another's)
         going_on = self._taken(connection) if token.startswith(_GOES_ON) else None
         login = going_on or self._service.login()
         decision = login.answer(token)
-        if isinstance(decision, Refused) and decision.code == Code.BAD_KEY_VERSION and self._look(True) and not going_on:
+        has_other_key = isinstance(decision, Refused) and decision.code == Code.BAD_KEY_VERSION
+        if has_other_key and self._look(True) and not going_on:
             decision = self._service.login().answer(token)
         if isinstance(decision, GoOn) and connection is not None:
             self._keep(connection, login)

@@ -29,16 +29,18 @@ _log = logging.getLogger("fevstunik.web")
 
 @dataclass(frozen=True)
 class Sessions:
-    """Sessions of users who have logged in. A cookie, sealed with type 20 under a key of the service, stands for the login until it ends.
+    """Sessions of users who have logged in. A cookie, sealed with type 20 under a key of the service, stands for the
+    login until it ends.
 
     hours   how long a session lasts at most. It also ends with the ticket
-    key     a file with 32 random bytes, which only its owner may read. It is made if it isn't there. A new file ends all sessions. All
-            processes of a service need the same one. Without it each process has a key of its own, and its end ends the sessions
+    key     a file with 32 random bytes, which only its owner may read. It is made if it isn't there. A new file ends
+            all sessions. All processes of a service need the same one. Without it each process has a key of its own,
+            and its end ends the sessions
     logout  the path at which a session ends, as ``"/logout"``, or None
     secure  whether the cookie is sent over TLS alone. Pass False only to try a service without TLS
 
-    Whoever has the cookie is taken for the user. Within the session nobody asks the KDC, so a user who is locked out there stays in
-    until the session ends.
+    Whoever has the cookie is taken for the user. Within the session nobody asks the KDC, so a user who is locked out
+    there stays in until the session ends.
 
     >>> Sessions(hours=10, key="/run/web/session.key", logout="/logout")
     Sessions(hours=10, key='/run/web/session.key', logout='/logout', secure=True)
@@ -60,7 +62,8 @@ class Cookies:
     """The cookies of sessions of a service."""
 
     def __init__(self, sessions: Sessions, service: str, users: Users) -> None:
-        self._seconds, self._service, self._users, self.logout = int(sessions.hours * 3600), service, users, sessions.logout
+        self._seconds, self._service, self._users = int(sessions.hours * 3600), service, users
+        self.logout = sessions.logout
         self.name = "__Host-fevstunik" if sessions.secure else "fevstunik"
         self._terms = "; Path=/; HttpOnly; SameSite=Lax" + ("; Secure" if sessions.secure else "")
         self._file = None if sessions.key is None else Watched(sessions.key)

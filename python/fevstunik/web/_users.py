@@ -86,15 +86,15 @@ class User:
 class Users:
     r"""Which clients are let in, and how the application names them.
 
-    realms     for each realm a text, in which ``{user}`` stands for the components of the name, joined by ``/``, and ``{realm}`` for
-               the realm
+    realms     for each realm a text, in which ``{user}`` stands for the components of the name, joined by ``/``, and
+               ``{realm}`` for the realm
     others     such a text for clients of any other realm, which must have ``{realm}``; or ``"refuse"``
     anonymous  whether anonymous clients (RFC 8062) are let in
     only       the names of those who are let in, as the application knows them, or None for all
 
-    A name is taken by its components, as Unicode. If one of them has ``/``, ``@`` or ``\``, has a character that isn't printable, begins
-    or ends with a space, or is empty, or if the realm has a character that isn't printable, the client isn't let in: it could be taken for
-    another, or end a line.
+    A name is taken by its components, as Unicode. If one of them has ``/``, ``@`` or ``\``, has a character that isn't
+    printable, begins or ends with a space, or is empty, or if the realm has a character that isn't printable, the
+    client isn't let in: it could be taken for another, or end a line.
 
     >>> users = Users(realms={"EXAMPLE.COM": "{user}", "PARTNER.ORG": "{user}@{realm}"})
     >>> users.name_of(r"j\xc3\xbcrgen@EXAMPLE.COM")
@@ -116,7 +116,8 @@ class Users:
         self._realms = {realm: _checked(text) for realm, text in realms.items()}
         self._others = None if others == _NOBODY else _checked(others)
         if self._others is not None and "realm" not in _fields(self._others):
-            raise ValueError(f"the text for other realms needs {{realm}}, or their users get the names of yours: {others!r}")
+            raise ValueError(f"the text for other realms needs {{realm}}, or their users get the names of yours: "
+                             f"{others!r}")
         self.anonymous = anonymous
         self._only = None if only is None else frozenset(only)
 

@@ -40,7 +40,8 @@ class Middleware:
 class _Answering:
     """An application's answer, which gets headers of ours whatever its status is, also if the application fails.
 
-    The server's start_response is called once, when the first bytes are there: gunicorn keeps the headers of an earlier call.
+    The server's start_response is called once, when the first bytes are there: gunicorn keeps the headers of an earlier
+    call.
     """
 
     def __init__(self, headers: Headers, environ: dict[str, Any], start_response: Callable[..., Any]) -> None:
@@ -117,11 +118,12 @@ def _page(answer: Answer, environ: dict[str, Any], start: Callable[..., Any]) ->
 
 def request_of(environ: dict[str, Any]) -> Request:
     address, port = environ.get("REMOTE_ADDR", ""), environ.get("REMOTE_PORT")
-    # (gunicorn before 22 lets the client choose SCRIPT_NAME, so the path is the one by which the application finds its page)
+    # (gunicorn before 22 lets the client choose SCRIPT_NAME, so the path is the one by which the application finds its
+    # page)
     return Request(
         environ["REQUEST_METHOD"] == "OPTIONS" and not _OVERRIDING & environ.keys(), environ.get("PATH_INFO", ""),
-        _values(environ, "HTTP_AUTHORIZATION"), _values(environ, "HTTP_COOKIE"), _values(environ, "HTTP_X_FORWARDED_FOR"),
-        address, (address, port) if port else None)
+        _values(environ, "HTTP_AUTHORIZATION"), _values(environ, "HTTP_COOKIE"),
+        _values(environ, "HTTP_X_FORWARDED_FOR"), address, (address, port) if port else None)
 
 
 def _values(environ: dict[str, Any], name: str) -> tuple[bytes, ...]:

@@ -1,11 +1,13 @@
-"""A service for a reverse proxy, which asks it about each request: auth_request of nginx, forward authentication of Caddy and Traefik.
+"""A service for a reverse proxy, which asks it about each request: auth_request of nginx, forward authentication of
+Caddy and Traefik.
 
-It answers 200 with the user in the header Remote-User, percent-encoded, or what the client has to get: 401, 403 or 503. Over gunicorn:
+It answers 200 with the user in the header Remote-User, percent-encoded, or what the client has to get: 401, 403 or 503.
+Over gunicorn:
 
     gunicorn --bind unix:/run/fevstunik-web/socket 'fevstunik.web.service:app("/etc/fevstunik/web.toml")'
 
-The file is in TOML. Its names are those of the arguments of Negotiate, with tables for `users`, `sessions` and `store`. A keytab, and the
-key of sessions, without a leading ``/`` is sought beside it.
+The file is in TOML. Its names are those of the arguments of Negotiate, with tables for `users`, `sessions` and `store`.
+A keytab, and the key of sessions, without a leading ``/`` is sought beside it.
 """
 from __future__ import annotations
 
@@ -31,13 +33,14 @@ _PROXIES = ("127.0.0.0/8", "::1/128")
 
 
 def log(level: int) -> None:
-    """Write records of this level and above to standard error, with their times and peers, unless the process logs in another way."""
+    """Write records of this level and above to standard error, with their times and peers, unless the process logs in
+    another way."""
     logging.basicConfig(handlers=[LogFile()], level=level)
 
 
 def app(config: Path) -> App:
-    """Return the service of a configuration as an application over WSGI. A name in it that isn't known raises ValueError. Decisions are
-    logged (`log`)."""
+    """Return the service of a configuration as an application over WSGI. A name in it that isn't known raises
+    ValueError. Decisions are logged (`log`)."""
     log(logging.INFO)
     with open(config, "rb") as file:
         given = tomllib.load(file)
@@ -70,7 +73,8 @@ def negotiate_of(config: dict[str, Any]) -> Negotiate:
         return Negotiate(**given)
     except (TypeError, KeyError, AttributeError) as error:
         unknown = re.search(r"unexpected keyword argument '(.*)'", str(error))
-        raise ValueError(f"the configuration is wrong: {f'there is no term `{unknown[1]}`' if unknown else error}") from None
+        trouble = f"there is no term `{unknown[1]}`" if unknown else error
+        raise ValueError(f"the configuration is wrong: {trouble}") from None
 
 
 def _answer(environ: dict[str, Any], start_response: Callable[..., Any]) -> Iterable[bytes]:
@@ -79,5 +83,6 @@ def _answer(environ: dict[str, Any], start_response: Callable[..., Any]) -> Iter
         # (OPTIONS, which no proxy asks about)
         start_response("405 Method Not Allowed", [("Allow", "GET, HEAD, POST"), ("Content-Length", "0")])
         return []
-    start_response("200 OK", [("Remote-User", quote(user, safe="/@")), ("Content-Length", "0"), ("Cache-Control", "no-store")])
+    start_response("200 OK",
+                   [("Remote-User", quote(user, safe="/@")), ("Content-Length", "0"), ("Cache-Control", "no-store")])
     return []
