@@ -8,8 +8,7 @@ import enum
 class Code(enum.IntEnum):
     """The code of an answer. A number never changes its meaning.
 
-    A number that this version doesn't know is a member too, with a name like ``CODE_299``: a later library may have new
-    codes.
+    A number that this version doesn't know is a member too, with a name like ``CODE_299``: a later library may have new codes.
 
     >>> Code(220)
     <Code.REPEAT: 220>

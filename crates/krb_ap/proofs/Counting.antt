@@ -149,14 +149,14 @@ heeds_in_all facts limits setup history calls answers old new turn = record {
   first = first_is limits setup history calls answers old new turn;
   last = last_is limits setup history calls answers old new turn;
   heeds = heeds;
-  uncounted = λ one cause holds early. not_counted facts (IsShown setup one.here) limits _ _ (greatest one.here) setup one.here one.call cause
+  uncounted = λ one cause holds early. not_counted facts (IsShown setup one.history_before) limits _ _ (greatest one.history_before) setup one.history_before one.call cause
       (IsErrOf one.answer OutOfMemory) (record { latest_is = refl; only = λ stamp shown. shown; all = λ stamp shown recent. shown }) (heeds one) holds early;
 }
   where
-    heeds : (one : OneOf setup history calls answers) → HeedsLimits (IsShown setup one.here) limits
+    heeds : (one : OneOf setup history calls answers) → HeedsLimits (IsShown setup one.history_before) limits
         (counts_at limits setup history calls answers old new turn (length one.before))
-        (counts_at limits setup history calls answers old new turn (length one.before + 1)) setup one.here one.call (IsErrOf one.answer OutOfMemory)
-    heeds one = subst (λ (place : ℕ). HeedsLimits (IsShown setup one.here) limits (counts_at limits setup history calls answers old new turn (length one.before))
-        (counts_at limits setup history calls answers old new turn place) setup one.here one.call (IsErrOf one.answer OutOfMemory)) (next_place (length one.before))
-        (heeds_at limits setup history calls answers old new turn one.before one.call one.later one.answered one.answer one.others one.here
+        (counts_at limits setup history calls answers old new turn (length one.before + 1)) setup one.history_before one.call (IsErrOf one.answer OutOfMemory)
+    heeds one = subst (λ (place : ℕ). HeedsLimits (IsShown setup one.history_before) limits (counts_at limits setup history calls answers old new turn (length one.before))
+        (counts_at limits setup history calls answers old new turn place) setup one.history_before one.call (IsErrOf one.answer OutOfMemory)) (next_place (length one.before))
+        (heeds_at limits setup history calls answers old new turn one.before one.call one.later one.answers_before one.answer one.answers_after one.history_before
         one.calls_are one.answers_are one.run)

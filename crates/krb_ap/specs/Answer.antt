@@ -61,9 +61,9 @@ Run setup history _ _ end = ⊥
 abbrev pub arrival_of : Call → Arrival
 arrival_of call = arrival call.bytes.now call.now
 
--- There is such a history afterwards, and the memory stands for it. If the memory keeps everything
--- and had exactly what was shown, it still has. If it forgets, and had exactly what was shown and
--- is recent, it still has.
+-- The calls are answered one after another, which leads to a history, and the memory stands for
+-- that. If the memory keeps everything and had exactly what was shown, it still has. If it forgets,
+-- and had exactly what was shown and is recent, it still has.
 pub record Served (keeping forgetting : Bool) (setup : Setup) (history : List Arrival) (calls : List Arrival) (answers : List (Result Accepted Refusal))
     (Old New : Stamp → Type 0) (latest : Option ℤ) : Type 0 where
   pub end : List Arrival

@@ -169,7 +169,7 @@ impl<M: ReplayMemory> Acceptor<M> {
         ensures offset { IfErr result (TellsPlaceWithin bytes.now) }
 
         // A request that the memory hasn't yet is answered with out of memory if it is past a limit. No other is counted as
-        // refused for a limit, and only the first limit that is reached counts it. So one that has a cause before it is
+        // refused for a limit, and only the first limit that is reached counts it. One that is refused for a cause that isn't
         // remembered, as a repeat, isn't counted.
         ensures limit { (history : List Arrival) → Stands M.has M.newest self.old history
             → HeedsLimits (M.has self.old.memory) (M.limits self.old.memory) (M.refusals self.old.memory) (M.refusals self.new.memory)
@@ -180,8 +180,8 @@ impl<M: ReplayMemory> Acceptor<M> {
             → M.refusals self.new.memory ≡ M.refusals self.old.memory }
         ensures limits { M.limits self.new.memory ≡ M.limits self.old.memory }
 
-        // Out of memory is answered for requests of the ordinary kind alone, and changes nothing. Nor is it answered if the name
-        // of the service is larger than each name of the keytab.
+        // Out of memory is answered for requests of the ordinary kind alone, and not if the name of the service is larger than
+        // each name of the keytab. It changes no stamp and no latest moment: only the count of a limit may go up.
         ensures memory { IsErrOf result OutOfMemory → IsOrdinary bytes.now }
         ensures size { IsErrOf result OutOfMemory → AsksWithin self.old.setup bytes.now }
         ensures unchanged { IsErrOf result OutOfMemory → SameMemory M.has M.newest self.old.memory self.new.memory }
@@ -193,7 +193,9 @@ impl<M: ReplayMemory> Acceptor<M> {
     /// Decides calls one after another, as `accept` does, and returns their outcomes in the same
     /// order.
     ///
-    /// Memory for all outcomes is allocated before the first call.
+    /// Memory for all outcomes is allocated before the first call. A call that is answered with
+    /// `OutOfMemory` changes nothing but the count of a limit, and the next call is decided all the
+    /// same.
     ///
     /// # Errors
     /// `AllocError`: there is no memory for the outcomes. No call was made.
@@ -219,13 +221,17 @@ impl<M: ReplayMemory> Acceptor<M> {
             AllZip (λ call outcome. IsErrOf outcome OutOfMemory → IsOrdinary call.bytes) (map arrival_of calls.now) outcomes.items) }
         ensures size { IfOk result (λ outcomes.
             AllZip (λ call outcome. IsErrOf outcome OutOfMemory → AsksWithin self.old.setup call.bytes) (map arrival_of calls.now) outcomes.items) }
+        ensures service { IfOk result (λ outcomes.
+            AllZip (λ call outcome. IfOk outcome (λ accepted. AsksFor call.bytes accepted.service)) (map arrival_of calls.now) outcomes.items) }
 
-        // Each request heeds the limits, as `accept` says it, and the counts go on from one call to the next. One that has a
-        // cause before it is remembered isn't counted.
+        // Each request heeds the limits, as `accept` says it, and the counts go on from one call to the next. One that is
+        // refused for a cause that isn't remembered isn't counted.
         ensures limit { (history : List Arrival) → Stands M.has M.newest self.old history
             → IfOk result (λ outcomes. HeedsLimitsInAll (M.limits self.old.memory) (M.refusals self.old.memory) (M.refusals self.new.memory)
             self.old.setup history (map arrival_of calls.now) outcomes.items) }
         ensures limits { M.limits self.new.memory ≡ M.limits self.old.memory }
+
+        // If there is no memory for the outcomes, nothing has changed.
         ensures none { OnErr result (self.new ≡ self.old) }
     {
         facts();

@@ -1,7 +1,7 @@
 use Rattle.std.proofs.Common.{◌∙◌, List, arith, map, subst}
 use Rattle.std.proofs.lemmas.List.{take_all}
-use Rattle.std.specs.Prelude.{IfErr, IsErrOf}
-use Rattle.krb_ap.specs.Opened.{AsksWithin, IsOrdinary}
+use Rattle.std.specs.Prelude.{IfErr, IfOk, IsErrOf}
+use Rattle.krb_ap.specs.Opened.{AsksFor, AsksWithin, IsOrdinary}
 use Rattle.krb_ap.specs.Setup.{Setup}
 use Rattle.krb_ap.specs.Causes.{TellsPlaceWithin}
 use Rattle.krb_ap.specs.Answer.{arrival_of}
@@ -49,6 +49,10 @@ loop-call-preserved g c = record {
       (mapped c.args.calls.now c.loop-call.call-index c.call-item.result c.loop-call-test.true c.call-item.is)
       c.push_reserved.ensures.items c.loop-call.invariant.size
       (subst (λ (s : Setup). IsErrOf c.accept-outcome.result OutOfMemory → AsksWithin s (arrival_of c.call-item.result).bytes) c.loop-call.invariant.setup c.accept-outcome.ensures.size);
+  service = each_more (λ call answer. IfOk answer (λ accepted. AsksFor call.bytes accepted.service)) _ c.loop-call.outcomes.items c.push_reserved.new.self.items _
+      (arrival_of c.call-item.result) c.accept-outcome.result
+      (mapped c.args.calls.now c.loop-call.call-index c.call-item.result c.loop-call-test.true c.call-item.is)
+      c.push_reserved.ensures.items c.loop-call.invariant.service c.accept-outcome.ensures.service;
   heeds = λ history stands.
       heeds_more g.M.ReplayMemory.KEEPS g.M.ReplayMemory.FORGETS c.args.self.now.setup c.loop-call.self.setup history _
       c.loop-call.outcomes.items c.push_reserved.new.self.items _
