@@ -10,6 +10,7 @@
 //! ```text
 //! service list|timed SKEW BYTES [TIME]  a service over this keytab, with a new memory, which was started again at that time: `service`,
 //!                                       the keytab's fault, or `none` if there is no such skew
+//! service limited SKEW BYTES LIMIT LIMIT  the same with a memory that has a limit, and one for each client
 //! accept TIME MESSAGE                   what it answers to a request: `refused CAUSE [FAULT]`, or `accepted CLIENT SERVICE KEY FLAGS
 //!                                       AUTHTIME STARTTIME|none ENDTIME ADDRESSES AUTHORIZATION CTIME CUSEC SUBKEY NUMBER CHECKSUM AUTHORIZATION
 //!                                       mutual|plain`, first of the ticket's data, then of the authenticator's
@@ -17,6 +18,7 @@
 //! keytab BYTES                          the service gets this keytab: `keytab`, or the keytab's fault, and then it keeps the one it has
 //! stamp                                 the bytes of the tuple of the request that was accepted last
 //! held                                  how many tuples its memory has, and the latest moment
+//! refusals                              how many requests a memory with limits refused for them
 //! reply BYTES KEY|none NUMBER|none      the reply to the request that was accepted last, with this confounder
 //! error CAUSE TIME NAME                 the error that reports a refusal, or why there is none
 //! cache BYTES                           a client's cache: `cache`, or its fault
@@ -113,7 +115,7 @@ impl Calls for Kept {
     fn call(&mut self, words: &mut Words, out: &mut Answer) -> Option<()> {
         let first = words.next()?;
         match first {
-            "service" | "accept" | "serve" | "keytab" | "stamp" | "held" | "reply" => {
+            "service" | "accept" | "serve" | "keytab" | "stamp" | "held" | "refusals" | "reply" => {
                 services::answer(&mut self.served, &mut self.messages, first, words, out)
             }
             "cache" | "request" | "initiate" | "finish" => {

@@ -8,15 +8,16 @@ use crate::names::{
 use krb_ap::{Accepted, Acceptor, Call, Outcome, Refusal, ReplyOptions};
 use krb_keytab::Keytab;
 use krb_msg::{Moment, Seconds};
-use krb_replay::{ListMemory, ReplayMemory, Skew, TimedMemory};
+use krb_replay::{LimitedMemory, ListMemory, ReplayMemory, Skew, TimedMemory};
 use krb_words::{Answer, Words};
 use std::alloc::{AllocError, Global};
 
-/// A service with either memory.
+/// A service with either memory, or with one that has limits.
 #[derive(Drop)]
 enum Service {
     List(Acceptor<ListMemory>),
     Timed(Acceptor<TimedMemory>),
+    Limited(Acceptor<LimitedMemory<TimedMemory>>),
 }
 
 /// A service, and what it accepted last.
@@ -50,6 +51,7 @@ pub(crate) fn answer(
         "keytab" => renew(served.service.as_mut()?, words, out),
         "stamp" => stamp(served.accepted.as_ref()?, words, out),
         "held" => held(served.service.as_ref()?, out),
+        "refusals" => refusals(served.service.as_ref()?, out),
         "reply" => reply(served.accepted.as_ref()?, messages, words, out),
         _ => None,
     }
@@ -60,16 +62,36 @@ fn start(served: &mut Served, words: &mut Words, out: &mut Answer) -> Option<()>
     let kind = words.next()?;
     let skew = Skew::new(words.uint32()?);
     let file = words.bytes()?;
-    let start = start_of(words)?;
+    let terms = terms_of(kind, words)?;
     let Some(skew) = skew else {
         return out.word("none");
     };
     match Keytab::parse(words.alloc, &file) {
         Ok(keytab) => {
-            served.service = Some(new_service(words.alloc, kind, keytab, skew, start)?);
+            served.service = Some(new_service(words.alloc, terms, keytab, skew));
             out.word("service")
         }
         Err(fault) => out.named(fault),
+    }
+}
+
+/// Which memory a service has, and when it was started again or what its limits are.
+#[derive(Drop)]
+enum Terms {
+    List(Option<Moment>),
+    Timed(Option<Moment>),
+    Limited(usize, usize),
+}
+
+fn terms_of(kind: &str, words: &mut Words) -> Option<Terms> {
+    match kind {
+        "list" => Some(Terms::List(start_of(words)?)),
+        "timed" => Some(Terms::Timed(start_of(words)?)),
+        "limited" => {
+            let limit = words.uint32()? as usize;
+            Some(Terms::Limited(limit, words.uint32()? as usize))
+        }
+        _ => None,
     }
 }
 
@@ -81,17 +103,13 @@ fn start_of(words: &mut Words) -> Option<Option<Moment>> {
     Some(Some(moment(words)?))
 }
 
-fn new_service(
-    alloc: Global,
-    kind: &str,
-    keytab: Keytab,
-    skew: Skew,
-    start: Option<Moment>,
-) -> Option<Service> {
-    match kind {
-        "list" => Some(Service::List(with_list(alloc, keytab, skew, start))),
-        "timed" => Some(Service::Timed(with_timed(alloc, keytab, skew, start))),
-        _ => None,
+fn new_service(alloc: Global, terms: Terms, keytab: Keytab, skew: Skew) -> Service {
+    match terms {
+        Terms::List(start) => Service::List(with_list(alloc, keytab, skew, start)),
+        Terms::Timed(start) => Service::Timed(with_timed(alloc, keytab, skew, start)),
+        Terms::Limited(limit, of_client) => {
+            Service::Limited(with_limits(alloc, keytab, skew, limit, of_client))
+        }
     }
 }
 
@@ -121,6 +139,17 @@ fn with_timed(
     }
 }
 
+fn with_limits(
+    alloc: Global,
+    keytab: Keytab,
+    skew: Skew,
+    limit: usize,
+    of_client: usize,
+) -> Acceptor<LimitedMemory<TimedMemory>> {
+    let memory = LimitedMemory::new(TimedMemory::new(alloc), limit, of_client);
+    Acceptor::new(keytab, skew, memory)
+}
+
 fn accept(
     served: &mut Served,
     messages: &Messages,
@@ -132,6 +161,7 @@ fn accept(
     let outcome = match served.service.as_mut()? {
         Service::List(acceptor) => acceptor.accept(words.alloc, &bytes, now),
         Service::Timed(acceptor) => acceptor.accept(words.alloc, &bytes, now),
+        Service::Limited(acceptor) => acceptor.accept(words.alloc, &bytes, now),
     };
     keep(&mut served.accepted, outcome, out)
 }
@@ -239,6 +269,7 @@ fn serve_all(
     Some(match service {
         Service::List(acceptor) => acceptor.serve(alloc, &calls),
         Service::Timed(acceptor) => acceptor.serve(alloc, &calls),
+        Service::Limited(acceptor) => acceptor.serve(alloc, &calls),
     })
 }
 
@@ -259,6 +290,7 @@ fn renew(service: &mut Service, words: &mut Words, out: &mut Answer) -> Option<(
             let _old = match service {
                 Service::List(acceptor) => acceptor.replace_keytab(keytab),
                 Service::Timed(acceptor) => acceptor.replace_keytab(keytab),
+                Service::Limited(acceptor) => acceptor.replace_keytab(keytab),
             };
             out.word("keytab")
         }
@@ -275,6 +307,14 @@ fn held(service: &Service, out: &mut Answer) -> Option<()> {
     match service {
         Service::List(acceptor) => show_memory(acceptor.memory(), out),
         Service::Timed(acceptor) => show_memory(acceptor.memory(), out),
+        Service::Limited(acceptor) => show_memory(acceptor.memory(), out),
+    }
+}
+
+fn refusals(service: &Service, out: &mut Answer) -> Option<()> {
+    match service {
+        Service::Limited(acceptor) => out.shown(acceptor.memory().refused()),
+        _ => None,
     }
 }
 
