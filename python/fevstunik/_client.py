@@ -87,8 +87,7 @@ class Pending(Secret):
         >>> service = Acceptor(Keytab.read("examples/service.keytab"), "host/web@EX", first_life=True)
         >>> reply = service.accept(request, now=1_700_000_100).reply(subkey=Key.random(20))
         >>> pending.finish(reply)
-        Agreed(client='alice@EX', session_key=Key(kind=19), service_subkey=Key(kind=20), service_seq=None,
-        client_type=1)
+        Agreed(client='alice@EX', session_key=Key(kind=19), service_subkey=Key(kind=20), ...)
         """
         reply = octets(reply)
         found, data = read(_interface.Agreement, lambda *into: self._handle.call("finish", reply, len(reply), *into))

@@ -336,8 +336,7 @@ class CredentialCache(Secret):
         >>> CredentialCache(open("examples/client.ccache", "rb").read()).fetch("host/mail@EX")
         Traceback (most recent call last):
             ...
-        fevstunik.CacheError: NO_PATH: the cache has no ticket for host/mail@EX, and was made from bytes: read it from
-        its file
+        fevstunik.CacheError: NO_PATH: the cache has no ticket for host/mail@EX, and was made from bytes: ...
         """
         if self.ticket_for(service) is not None:
             return self
