@@ -121,11 +121,13 @@ int main(int count, char **words)
     fevstunik_acceptor_options options = {.size = sizeof options,
                                           .skew = 300,
                                           .restarts = FEVSTUNIK_RESTART_FIRST_LIFE,
-                                          .limit = 10000000,
-                                          .limit_for_client = 10000000};
+                                          .limit = 2000000,
+                                          .limit_for_client = 200000};
 
     if (count != 7)
         return 2;
+    if (atol(words[3]) == 1)
+        options.limit_for_client = options.limit;
     from_file(&keytab, words[1]);
     from_file(&cache, words[2]);
     open_ticket();
