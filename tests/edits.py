@@ -27,13 +27,17 @@ An edit fails, by name, where it doesn't apply, doesn't compile or can't be read
 a proof file is refused, for a name that the edit took away. The line of each edit that was refused is written to the lock; that of one that
 wasn't goes. An edit that is refused only since a term of an answer file no longer fits says nothing of the goal: another answer
 might prove it. So it is tried once more without these answers. The checker then tries to prove the goal itself, and has to leave it open: if
-it proves it, the edit isn't refused. Those of which it names no goal even then are named. The last line is 'N passed, M failed', of the edits that were tried.
+it proves it, the edit isn't refused. Those of which it names no goal even then are named. A check that takes an hour, or 8 GB of memory, is
+ended, since the search for a proof of what is false may have no end. The last line is 'N passed, M failed', of the edits that were tried.
 """
 import argparse
+import contextlib
+import glob
 import json
 import os
 import re
 import shutil
+import signal
 import subprocess
 import sys
 import tempfile
@@ -46,8 +50,9 @@ import edits_lock
 from source_text import blanked, functions_of, names_of
 
 PARTS = ("src", "specs", "proofs")
-# A check that has gone on for so long won't end.
+# A check that has gone on for so many seconds, or holds so many bytes, won't end: it is ended, so that it isn't others that are.
 LIMIT = 3600
+MOST_MEMORY = 8_000_000_000
 # More edits in one check save little, and leave other processors with nothing to do.
 MOST = 16
 # With more edits of a crate it is proved as it is first.
@@ -354,17 +359,46 @@ def copy_of(crate, room, texts):
             it.write(text)
 
 
+def with_children(process):
+    """Returns a process and those that it has started, and that these have."""
+    found = []
+    for path in glob.glob(f"/proc/{process}/task/*/children"):
+        with contextlib.suppress(OSError), open(path, encoding="utf-8") as it:
+            found += map(int, it.read().split())
+    return [process, *(more for it in found for more in with_children(it))]
+
+
+def memory_of(process):
+    """Returns the memory that a process holds, in bytes: 0 if it has ended."""
+    try:
+        with open(f"/proc/{process}/statm", encoding="utf-8") as it:
+            return int(it.read().split()[1]) * os.sysconf("SC_PAGE_SIZE")
+    except (OSError, IndexError):
+        return 0
+
+
+def end_past_limits(process, has_ended):
+    """Waits until a process has ended. Ends it, and what it started, once it has gone on for too long or holds too much memory."""
+    began = time.monotonic()
+    while not has_ended.wait(0.5):
+        every = with_children(process)
+        if time.monotonic() - began > LIMIT or max(map(memory_of, every)) > MOST_MEMORY:
+            for it in every:
+                with contextlib.suppress(ProcessLookupError):
+                    os.kill(it, signal.SIGKILL)
+            return
+
+
 def run(words, folder):
-    """Runs a command, and returns its status, what it said, and its processor seconds and memory with those of what it started."""
+    """Runs a command, and returns its status, what it said, and its processor seconds and memory with those of what it started. The status is
+    negative if it was ended."""
     with tempfile.TemporaryFile("w+", errors="replace") as said:
         how = {"cwd": folder, "stdin": subprocess.DEVNULL, "stdout": said, "stderr": subprocess.STDOUT}
-        started = subprocess.Popen(words, **how)
-        timer = threading.Timer(LIMIT, started.kill)
-        timer.daemon = True
-        timer.start()
+        started, has_ended = subprocess.Popen(words, **how), threading.Event()
+        threading.Thread(target=end_past_limits, args=(started.pid, has_ended), daemon=True).start()
         _, status, used = os.wait4(started.pid, 0)
+        has_ended.set()
         started.returncode = os.waitstatus_to_exitcode(status)
-        timer.cancel()
         said.seek(0)
         return started.returncode, said.read(), used.ru_utime + used.ru_stime, used.ru_maxrss * 1024
 
@@ -487,7 +521,8 @@ class Runner:
             self.lanes.leave(number)
         with self.lock:
             crate.seconds, crate.checks = crate.seconds + seconds, crate.checks + 1
-            crate.memory = max(crate.memory, memory)
+            # (one that was ended says nothing of the others)
+            crate.memory = max(crate.memory, memory if status >= 0 else 0)
         if self.log:
             with open(f"{self.log}/{crate.name}-{number}.log", "w", encoding="utf-8") as it:
                 it.write("\n".join(["edits: " + " ".join(os.path.basename(e.file) for e in edits), f"seconds: {seconds:.1f}", f"memory: {memory}", text]))
@@ -504,6 +539,8 @@ class Runner:
         last = next((it for it in reversed(said.lines) if it), "")
         if said.is_proved:
             edit.end("isn't refused: the crate is still proved with it")
+        elif said.status < 0:
+            edit.end("wasn't checked to the end: that takes too long, or too much memory")
         elif said.unread and said.is_refused:
             edit.end("can't be read, so no contract was tried", said.unread[0])
         elif not said.is_refused:

@@ -6,7 +6,9 @@ import re
 import subprocess
 import sys
 import tempfile
+from unittest import mock
 
+import edits
 import edits_items
 import edits_lock
 import edits_stated
@@ -426,6 +428,21 @@ def check_turns(hold, room, plan):
     hold("a turn in each round of commits", turns == 1)
 
 
+# A program that starts another, which takes a lot of memory and then waits.
+GREEDY = """import subprocess, sys
+subprocess.run([sys.executable, "-c", "import os, time; print(os.getpid(), flush=True); x = bytearray(b'x' * 400_000_000); time.sleep(3600)"])
+"""
+
+
+def check_limits(hold):
+    with mock.patch.object(edits, "MOST_MEMORY", 200_000_000):
+        status, said, *_ = edits.run([sys.executable, "-c", GREEDY], "/")
+    hold("a check that takes too much memory is ended", status < 0)
+    hold("and so is what it started", edits.memory_of(int(said)) == 0)
+    status, said, *_ = edits.run([sys.executable, "-c", "print(1)"], "/")
+    hold("one that doesn't isn't", (status, said) == (0, "1\n"))
+
+
 def main():
     passed, failed = 0, []
 
@@ -458,6 +475,7 @@ def main():
     check_imports(hold)
     check_definitions(hold)
     check_items(hold)
+    check_limits(hold)
     if failed:
         print(said)
         print(f"edits' own test: FAILED: {', '.join(failed)}")
