@@ -27,8 +27,8 @@ An edit fails, by name, where it doesn't apply, doesn't compile or can't be read
 a proof file is refused, for a name that the edit took away. The line of each edit that was refused is written to the lock; that of one that
 wasn't goes. An edit that is refused only since a term of an answer file no longer fits says nothing of the goal: another answer
 might prove it. So it is tried once more without these answers. The checker then tries to prove the goal itself, and has to leave it open: if
-it proves it, the edit isn't refused. Those of which it names no goal even then are named. A check that takes an hour, or 8 GB of memory, is
-ended, since the search for a proof of what is false may have no end. The last line is 'N passed, M failed', of the edits that were tried.
+it proves it, the edit isn't refused. If it names no goal even then, the report names the edit. A check that takes an hour, or 8 GB of memory,
+is ended, since the search for a proof of what is false may have no end. The last line is 'N passed, M failed', of the edits that were tried.
 """
 import argparse
 import contextlib

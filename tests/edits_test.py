@@ -441,6 +441,13 @@ def check_limits(hold):
     hold("and so is what it started", edits.memory_of(int(said)) == 0)
     status, said, *_ = edits.run([sys.executable, "-c", "print(1)"], "/")
     hold("one that doesn't isn't", (status, said) == (0, "1\n"))
+    ended, runner, edit = edits.Said(None, -9, ""), edits.Runner("/", None, None), mock.Mock(by_terms=True, is_outside=False)
+    with mock.patch.object(runner, "check", return_value=ended), mock.patch.object(runner, "names", return_value={"f"}), \
+            mock.patch.object(edits, "without_misfits", return_value={}):
+        silent = runner.by_goals(None, [edit])
+        hold("an edit whose second try was ended is named", silent == [edit] and edit.by_terms and not edit.end.called)
+        runner.alone(edit)
+    hold("one whose check alone was ended fails", edit.end.call_args.args[0].startswith("wasn't checked to the end"))
 
 
 def main():
