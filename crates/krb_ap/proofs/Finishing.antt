@@ -14,8 +14,8 @@ use Rattle.krb_ap.specs.Reply.{reply_usage}
 use Rattle.krb_ap.specs.Finish.{OpensReply, IsOpenedReply, IsAgreed, Agreement, agreement_for, FinishHolds, FinishCause, finish_place, repeated_at}
 use Rattle.krb_ap.specs.Inner.Facts.{Facts}
 use Rattle.krb_ap.proofs.Begins.{begins_so}
-use Rattle.krb_ap.specs.declared.finish_fault.FinishFault.{FinishFault}
-use Rattle.krb_ap.specs.declared.finish_fault.FinishFault.TheVariants.{MessageType, Malformed, Integrity, Mismatch, OutOfMemory}
+use Rattle.krb_ap.specs.declared.finish.FinishFault.{FinishFault}
+use Rattle.krb_ap.specs.declared.finish.FinishFault.TheVariants.{MessageType, Malformed, Integrity, Mismatch, OutOfMemory}
 use Rattle.krb_der.specs.declared.fault.Fault.{Fault}
 
 none_below : (f : FinishFault) → finish_place f < 1 → ⊥

@@ -15,8 +15,8 @@ use Rattle.krb_ap.specs.Inner.Decisions.{Decisions}
 use Rattle.krb_ap.proofs.Decided.{integers, one_first}
 use Rattle.krb_ap.proofs.Answered.{begins, opens_as}
 use Rattle.krb_ap.proofs.Finishing.{other_type, malformed, reply_shut, of_another}
-use Rattle.krb_ap.specs.declared.finish_fault.FinishFault.{FinishFault}
-use Rattle.krb_ap.specs.declared.finish_fault.FinishFault.TheVariants.{MessageType, Malformed, Integrity, Mismatch}
+use Rattle.krb_ap.specs.declared.finish.FinishFault.{FinishFault}
+use Rattle.krb_ap.specs.declared.finish.FinishFault.TheVariants.{MessageType, Malformed, Integrity, Mismatch}
 
 module _ (facts : Facts) (d : Decisions) (awaited : Awaited) (bytes : List ℕ) where
   abbrev HasAnswer : Type 0

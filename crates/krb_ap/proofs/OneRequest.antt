@@ -10,9 +10,9 @@ use Rattle.krb_ccache.specs.declared.credential.Credential.{Credential}
 use Rattle.krb_ap.specs.Credentials.{IsFor, IsUsableFor, IsFit, IsUsed, HasCredential}
 use Rattle.krb_ap.specs.Request.{Awaited, IsBuilt, IsRequest, Prevents}
 use Rattle.krb_ap.specs.declared.request.RequestOptions.{RequestOptions}
-use Rattle.krb_ap.specs.declared.request_fault.RequestFault.{RequestFault}
+use Rattle.krb_ap.specs.declared.request.RequestFault.{RequestFault}
 use Rattle.krb_ap.proofs.Decided.{head_of, tail_of}
-use Rattle.krb_ap.specs.declared.request_fault.RequestFault.TheVariants.{NoCredential, NoUsableKey, Expired, BadTicket, TooLong, OutOfMemory}
+use Rattle.krb_ap.specs.declared.request.RequestFault.TheVariants.{NoCredential, NoUsableKey, Expired, BadTicket, TooLong, OutOfMemory}
 
 -- what holds of all holds of an element
 pub holds_at : {X : Type 0} (P : X → Type 0) (before : List X) (x : X) (after : List X) → All P (before ++ x ∷ after) → P x

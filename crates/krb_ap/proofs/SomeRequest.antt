@@ -14,8 +14,8 @@ use Rattle.krb_ap.specs.Inner.Facts.{Facts, WritingFacts}
 use Rattle.krb_ap.specs.Inner.Decisions.{Decisions}
 use Rattle.krb_ap.specs.Inner.Wanted.{IsFirstOf}
 use Rattle.krb_ap.specs.declared.request.RequestOptions.{RequestOptions}
-use Rattle.krb_ap.specs.declared.request_fault.RequestFault.{RequestFault}
-use Rattle.krb_ap.specs.declared.request_fault.RequestFault.TheVariants.{NoCredential, NoUsableKey, Expired, BadTicket, TooLong}
+use Rattle.krb_ap.specs.declared.request.RequestFault.{RequestFault}
+use Rattle.krb_ap.specs.declared.request.RequestFault.TheVariants.{NoCredential, NoUsableKey, Expired, BadTicket, TooLong}
 use Rattle.krb_ap.proofs.Building.{one_built}
 use Rattle.krb_ap.proofs.Decided.{Decided, both, head_of, later, none_of, same_name, texts}
 use Rattle.krb_ap.proofs.OneRequest.{one_used}

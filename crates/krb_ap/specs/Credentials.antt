@@ -9,8 +9,8 @@ use Rattle.krb_ccache.specs.Value.{Cache}
 use Rattle.krb_ccache.specs.Configuration.{IsConfiguration}
 use Rattle.krb_ccache.specs.declared.credential.Credential.{Credential}
 use Rattle.krb_ap.specs.Times.{second_at}
-use Rattle.krb_ap.specs.declared.request_fault.RequestFault.{RequestFault}
-use Rattle.krb_ap.specs.declared.request_fault.RequestFault.TheVariants.{NoCredential, NoUsableKey, Expired}
+use Rattle.krb_ap.specs.declared.request.RequestFault.{RequestFault}
+use Rattle.krb_ap.specs.declared.request.RequestFault.TheVariants.{NoCredential, NoUsableKey, Expired}
 
 -- its session key
 abbrev pub credential_key : Credential → KeyValue

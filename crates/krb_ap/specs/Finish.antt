@@ -16,8 +16,8 @@ use Rattle.krb_ap.specs.Causes.{BeginsOtherwise}
 use Rattle.krb_ap.specs.Request.{Awaited}
 use Rattle.krb_ap.specs.Reply.{reply_usage}
 use Rattle.krb_ap.specs.declared.finish.Agreed.{Agreed}
-use Rattle.krb_ap.specs.declared.finish_fault.FinishFault.{FinishFault}
-use Rattle.krb_ap.specs.declared.finish_fault.FinishFault.TheVariants.{MessageType, Malformed, Integrity, Mismatch, OutOfMemory}
+use Rattle.krb_ap.specs.declared.finish.FinishFault.{FinishFault}
+use Rattle.krb_ap.specs.declared.finish.FinishFault.TheVariants.{MessageType, Malformed, Integrity, Mismatch, OutOfMemory}
 
 -- the session key is for the type that the reply is sealed with, and opens the reply to this part
 pub record OpensReply (key : KeyValue) (reply : ValueOf ap_rep) (part : ValueOf enc_ap_rep_part) : Type 0 where

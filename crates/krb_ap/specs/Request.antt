@@ -19,8 +19,8 @@ use Rattle.krb_ap.specs.Written.{IsWritten, IsSealed, key_value}
 use Rattle.krb_ap.specs.Credentials.{credential_key, IsUsed, IsWanting}
 use Rattle.krb_ap.specs.declared.request.ContextRequest.{ContextRequest}
 use Rattle.krb_ap.specs.declared.request.RequestOptions.{RequestOptions}
-use Rattle.krb_ap.specs.declared.request_fault.RequestFault.{RequestFault}
-use Rattle.krb_ap.specs.declared.request_fault.RequestFault.TheVariants.{NoCredential, NoUsableKey, Expired, BadTicket, TooLong, OutOfMemory}
+use Rattle.krb_ap.specs.declared.request.RequestFault.{RequestFault}
+use Rattle.krb_ap.specs.declared.request.RequestFault.TheVariants.{NoCredential, NoUsableKey, Expired, BadTicket, TooLong, OutOfMemory}
 
 -- the options of the request: mutual-required alone, or none
 abbrev pub options_for : Bool → ℕ

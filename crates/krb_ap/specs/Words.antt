@@ -20,7 +20,7 @@ pub use Rattle.krb_ap.specs.Opened.{Asks, AsksFor, AsksWithin, IsOrdinary, SameC
 pub use Rattle.krb_ap.specs.Setup.{Arrival, Setup, arrival, as_decided, with_entries}
 pub use Rattle.krb_ap.specs.Taken.{Accept, IsTakenFrom, Taken, taken_stamp}
 pub use Rattle.krb_ap.specs.declared.accepted.Accepted.{Accepted}
-pub use Rattle.krb_ap.specs.declared.finish_fault.FinishFault.{FinishFault}
+pub use Rattle.krb_ap.specs.declared.finish.FinishFault.{FinishFault}
 pub use Rattle.krb_ap.specs.declared.refusal.Refusal.{Refusal}
 pub use Rattle.krb_ap.specs.declared.request.RequestOptions.{RequestOptions}
-pub use Rattle.krb_ap.specs.declared.request_fault.RequestFault.{RequestFault}
+pub use Rattle.krb_ap.specs.declared.request.RequestFault.{RequestFault}

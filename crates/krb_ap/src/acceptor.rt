@@ -4,10 +4,10 @@ ghost use Rattle.std.specs.Prelude.{◌≡◌, ◌⊎◌, List, None, Some, [], 
 ghost use Rattle.std.specs.List.{AllZip};
 ghost use Rattle.krb_ap.specs.Words.{Accept, AddsStamp, Arrival, AsksFor, AsksWithin, IsOrdinary, IsRecent, SameStamps, Stamp, Taken, arrival, later_of};
 ghost use Rattle.krb_ap.specs.History.{IsShown, IsShownLately};
-ghost use Rattle.krb_ap.specs.Service.{CountsPastLimit, HeedsLimits, IsPastLimit, SameMemory, Stands};
+ghost use Rattle.krb_ap.specs.Service.{HeedsLimits, SameMemory, Stands};
 ghost use Rattle.krb_ap.specs.Counting.{HeedsLimitsInAll};
 ghost use Rattle.krb_ap.specs.Causes.{Cause, IsRemembered, TellsPlaceWithin, place};
-ghost use Rattle.krb_ap.specs.Inner.GoingOn.{GoesOn};
+ghost use Rattle.krb_ap.specs.Inner.GoingOn.{GoesOn, HeedsLimitsFor};
 ghost use Rattle.krb_ap.specs.Answer.{Answers, Served, after, arrival_of, taken_of};
 ghost use Rattle.krb_ap.specs.Once.{TakesAmong, TakesOnce};
 ghost use Rattle.krb_ap.specs.declared.refusal.Refusal.TheVariants.{OutOfMemory};
@@ -231,7 +231,7 @@ impl<M: ReplayMemory> Acceptor<M> {
             self.old.setup history (map arrival_of calls.now) outcomes.items) }
         ensures limits { M.limits self.new.memory ≡ M.limits self.old.memory }
 
-        // If there is no memory for the outcomes, nothing has changed.
+        // If memory runs out for the outcomes, nothing has changed.
         ensures none { OnErr result (self.new ≡ self.old) }
     {
         facts();
@@ -299,13 +299,8 @@ impl<M: ReplayMemory> Acceptor<M> {
         ensures newest { M.newest self.new.memory ≡ M.newest self.old.memory }
         ensures ok { OnOk result (AddsStamp (M.has self.old.memory) (M.has self.new.memory) tuple) }
         ensures err { OnErr result (SameStamps (M.has self.old.memory) (M.has self.new.memory)) }
-        ensures full { IsPastLimit (M.has self.old.memory) (M.limits self.old.memory) self.old.setup (later_of (M.newest self.old.memory) now) tuple
-            → IsErr result × CountsPastLimit (M.has self.old.memory) (M.limits self.old.memory) (M.refusals self.old.memory)
-            (M.refusals self.new.memory) self.old.setup (later_of (M.newest self.old.memory) now) tuple }
-        ensures refused { (M.refusals self.new.memory ≡ M.refusals self.old.memory) ⊎ (IsErr result
-            × (IsPastLimit (M.has self.old.memory) (M.limits self.old.memory) self.old.setup (later_of (M.newest self.old.memory) now) tuple
-            × CountsPastLimit (M.has self.old.memory) (M.limits self.old.memory) (M.refusals self.old.memory)
-            (M.refusals self.new.memory) self.old.setup (later_of (M.newest self.old.memory) now) tuple)) }
+        ensures heeds { HeedsLimitsFor (M.has self.old.memory) (M.limits self.old.memory) (M.refusals self.old.memory) (M.refusals self.new.memory)
+            self.old.setup (later_of (M.newest self.old.memory) now) tuple (IsErr result) }
         ensures limits { M.limits self.new.memory ≡ M.limits self.old.memory }
     {
         self.memory.expect(now, self.rules.skew);

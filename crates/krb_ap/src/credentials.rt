@@ -4,7 +4,7 @@ ghost use Rattle.std.specs.Prelude.{◌↔◌, All, IsTrue, IfOk, IfErr, IfSome,
 ghost use Rattle.krb_ap.specs.Credentials.{IsFor, IsUsableFor, IsFit, IsUsed, IsWanting};
 ghost use Rattle.krb_ap.specs.Inner.Wanted.{IsWanted, IsFirstOf};
 
-use crate::request_fault::RequestFault;
+use crate::request::RequestFault;
 use krb_ccache::{CCache, Credential};
 use krb_enc::Key;
 use krb_msg::{Moment, Principal};

@@ -6,17 +6,35 @@ ghost use Rattle.krb_ap.specs.Finish.{FinishCause, IsAgreed, IsReplyOfType, Open
 ghost use Rattle.krb_ap.specs.Reply.{reply_usage};
 ghost use Rattle.krb_ap.specs.Request.{Awaited};
 ghost use Rattle.krb_ap.specs.World.{IsHeldInEachWorld};
-ghost use Rattle.krb_ap.specs.declared.finish_fault.FinishFault.TheVariants.{Integrity, OutOfMemory};
+ghost use Rattle.krb_ap.specs.declared.finish.FinishFault.TheVariants.{Integrity, OutOfMemory};
 
-use crate::finish_fault::FinishFault;
 use crate::inner_laws::facts;
 use crate::keys::{own_key, owned_key};
 use crate::laws::both_agree;
 use crate::opening::begins_otherwise;
-use crate::pending::Pending;
 use krb_enc::{Key, OpenFault};
-use krb_msg::{ApRepRef, EncApRepRef, Moment, Principal, RawKey, tag, usage};
-use std::alloc::Global;
+use krb_msg::{ApRepRef, EncApRepRef, Fault, Moment, Principal, RawKey, tag, usage};
+use std::alloc::{AllocError, Global};
+use std::marker::Model;
+use thiserror::Error;
+
+/// A request whose reply hasn't come. A contract sees the client, its key, the request's moment,
+/// and the subkey and the sequence number that the client chose. There is no `Debug`, so no log
+/// shows a key.
+#[derive(Drop)]
+pub struct Pending {
+    pub(crate) client: Principal,
+    pub(crate) key: Key,
+    pub(crate) at: Moment,
+    pub(crate) subkey: Option<Key>,
+    pub(crate) seq: Option<u32>,
+}
+
+impl Model for Pending {
+    ghost Value = { Awaited };
+
+    ghost view = { λ p. record { client = p.client; key = p.key; at = p.at; subkey = p.subkey; seq = p.seq } };
+}
 
 /// What a client and a service agree on, as the client holds it. There is no `Debug`, so no log
 /// shows a key.
@@ -34,6 +52,36 @@ pub struct Agreed {
     pub service_subkey: Option<RawKey>,
     /// The service's first sequence number.
     pub service_seq: Option<u32>,
+}
+
+/// Why a reply is refused (RFC 4120, section 3.2.5): the first that applies, in this order; or
+/// `OutOfMemory`.
+#[derive(Clone, Copy, Debug, PartialEq, Eq, Error)]
+pub enum FinishFault {
+    /// There is a first byte, and it isn't that of a reply.
+    #[error("the message isn't a reply")]
+    MessageType,
+    /// The bytes aren't a reply: what is wrong with them, and at which offset.
+    #[error("the reply is malformed: {0}")]
+    Malformed(Fault),
+    /// The session key isn't for the reply's encryption type, doesn't open it, or opens it to
+    /// something else.
+    #[error("the reply doesn't open")]
+    Integrity,
+    /// The time in the reply isn't the request's (KRB_AP_ERR_MUT_FAIL, 46).
+    #[error("the reply is for another request")]
+    Mismatch,
+    /// There is no memory.
+    #[error("out of memory")]
+    OutOfMemory,
+}
+
+impl From<AllocError> for FinishFault {
+    ghost from_gives = { λ _ fault. fault ≡ OutOfMemory };
+
+    fn from(_: AllocError) -> FinishFault {
+        FinishFault::OutOfMemory
+    }
 }
 
 impl Pending {

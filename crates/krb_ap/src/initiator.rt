@@ -3,13 +3,12 @@
 ghost use Rattle.std.specs.Prelude.{◌≡◌, ◌≢◌, IfOk, IfErr, IfSome, IsErrOf};
 ghost use Rattle.krb_ap.specs.Credentials.{credential_key};
 ghost use Rattle.krb_ap.specs.Request.{HasGoodTicket, IsRequest, Prevents};
-ghost use Rattle.krb_ap.specs.declared.request_fault.RequestFault.TheVariants.{OutOfMemory};
+ghost use Rattle.krb_ap.specs.declared.request.RequestFault.TheVariants.{OutOfMemory};
 
 use crate::credentials::used;
-use crate::pending::Pending;
+use crate::finish::Pending;
 use crate::ready_key::{ReadyCredential, ReadyKey};
-use crate::request::RequestOptions;
-use crate::request_fault::RequestFault;
+use crate::request::{RequestFault, RequestOptions};
 use krb_ccache::{CCache, Credential};
 use krb_msg::{Moment, Principal};
 use std::alloc::Global;

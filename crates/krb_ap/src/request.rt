@@ -4,14 +4,13 @@ ghost use Rattle.std.specs.Prelude.{◌≡◌, ◌≢◌, ℕ, List, IfOk, IfErr
 ghost use Rattle.krb_ap.specs.Words.{option_map, owned_typed_of};
 ghost use Rattle.krb_ap.specs.Request.{HasGoodTicket, IsAuthenticator, IsBuilt, IsPlain, IsRequest, Prevents, awaited_for, context_checksum, context_flags, options_for};
 ghost use Rattle.krb_ap.specs.Inner.Requests.{HasReadableTicket, IsUnbuilt};
-ghost use Rattle.krb_ap.specs.declared.request_fault.RequestFault.TheVariants.{TooLong, OutOfMemory};
+ghost use Rattle.krb_ap.specs.declared.request.RequestFault.TheVariants.{TooLong, OutOfMemory};
 
 use crate::credentials::used;
+use crate::finish::Pending;
 use crate::inner_laws::{facts, writing};
 use crate::keys::{encrypted, raw_key, seal};
-use crate::pending::Pending;
 use crate::ready_key::{ReadyCredential, ReadyKey};
-use crate::request_fault::RequestFault;
 use krb_ccache::CCache;
 use krb_enc::Key;
 use krb_gss::{CHECKSUM_TYPE, Checksum, ChecksumWriteFault, ContextFlags};
@@ -20,6 +19,7 @@ use krb_msg::{
     SpelledTicket, Typed,
 };
 use std::alloc::{AllocError, Global};
+use thiserror::Error;
 
 /// What a client chooses for a request. There is no `Debug`, so no log shows a key.
 #[derive(Drop)]
@@ -45,6 +45,39 @@ pub struct ContextRequest {
     pub flags: u32,
     /// The MD5 hash of the channel's bindings, or 16 zeros if there are none (section 4.1.1.2).
     pub bindings: [u8; 16],
+}
+
+/// Why no request is built: the one that applies, or `OutOfMemory`.
+#[derive(Clone, Copy, Debug, PartialEq, Eq, Error)]
+pub enum RequestFault {
+    /// The cache has no ticket of its default principal for the service. Configuration entries
+    /// aren't tickets.
+    #[error("there is no ticket for the service")]
+    NoCredential,
+    /// There are such tickets, but none has a session key of type 19 or 20 and of that type's
+    /// length.
+    #[error("there is no ticket for the service with a usable session key")]
+    NoUsableKey,
+    /// There are such tickets with usable keys, but none expires later than the moment.
+    #[error("the ticket has expired")]
+    Expired,
+    /// The bytes of the used credential's ticket aren't a ticket.
+    #[error("the ticket is malformed")]
+    BadTicket,
+    /// The request would have more than 1,048,576 bytes.
+    #[error("the request would be longer than 1048576 bytes")]
+    TooLong,
+    /// There is no memory.
+    #[error("out of memory")]
+    OutOfMemory,
+}
+
+impl From<AllocError> for RequestFault {
+    ghost from_gives = { λ _ fault. fault ≡ OutOfMemory };
+
+    fn from(_: AllocError) -> RequestFault {
+        RequestFault::OutOfMemory
+    }
 }
 
 /// Builds a request for `service` from the first credential of `cache` that fits. It fits if it has

@@ -7,8 +7,8 @@ use Rattle.krb_name.specs.declared.principal.Principal.{Principal}
 use Rattle.krb_ccache.specs.Value.{Cache}
 use Rattle.krb_ap.specs.Request.{Awaited, HasGoodTicket, IsRequest, Prevents}
 use Rattle.krb_ap.specs.declared.request.RequestOptions.{RequestOptions}
-use Rattle.krb_ap.specs.declared.request_fault.RequestFault.{RequestFault}
-use Rattle.krb_ap.specs.declared.request_fault.RequestFault.TheVariants.{OutOfMemory}
+use Rattle.krb_ap.specs.declared.request.RequestFault.{RequestFault}
+use Rattle.krb_ap.specs.declared.request.RequestFault.TheVariants.{OutOfMemory}
 use Rattle.krb_c.specs.Choice.{IsChosen, seq_of}
 use Rattle.krb_c.specs.Request.{Ask, IsAsked}
 use Rattle.krb_c.specs.Service.{IsMomentOf}

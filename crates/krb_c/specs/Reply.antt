@@ -5,8 +5,8 @@ use Rattle.krb_ap.specs.Finish.{FinishCause, IsAgreed, agreement_of, finish_offs
 use Rattle.krb_ap.specs.Request.{Awaited}
 use Rattle.krb_ap.specs.World.{IsHeldInEachWorld}
 use Rattle.krb_ap.specs.declared.finish.Agreed.{Agreed}
-use Rattle.krb_ap.specs.declared.finish_fault.FinishFault.{FinishFault}
-use Rattle.krb_ap.specs.declared.finish_fault.FinishFault.TheVariants as reply
+use Rattle.krb_ap.specs.declared.finish.FinishFault.{FinishFault}
+use Rattle.krb_ap.specs.declared.finish.FinishFault.TheVariants as reply
 use Rattle.krb_c.specs.Answer.{Tells, placed, plain}
 use Rattle.krb_c.specs.Codes.{out_of_memory, reply_integrity, reply_malformed, reply_mismatch, reply_type}
 use Rattle.krb_c.specs.Known.{is_there, key_bytes, key_type, number_or_zero, span}

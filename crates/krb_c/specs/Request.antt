@@ -13,8 +13,8 @@ use Rattle.krb_ccache.specs.declared.fault.CacheFault.TheVariants as file
 use Rattle.krb_ap.specs.Request.{Awaited, HasGoodTicket, IsRequest, Prevents}
 use Rattle.krb_ap.specs.declared.request.ContextRequest.{ContextRequest}
 use Rattle.krb_ap.specs.declared.request.RequestOptions.{RequestOptions}
-use Rattle.krb_ap.specs.declared.request_fault.RequestFault.{RequestFault}
-use Rattle.krb_ap.specs.declared.request_fault.RequestFault.TheVariants as request
+use Rattle.krb_ap.specs.declared.request.RequestFault.{RequestFault}
+use Rattle.krb_ap.specs.declared.request.RequestFault.TheVariants as request
 use Rattle.krb_c.specs.Service.{IsMomentOf}
 use Rattle.krb_c.specs.Answer.{Hands, plain, placed, sized}
 use Rattle.krb_c.specs.Choice.{IsChosen, IsConfounderFault, IsSubkeyFault, seq_of}

@@ -5,7 +5,7 @@ use Rattle.krb_ccache.specs.Value.{Cache}
 use Rattle.krb_ap.specs.Finish.{Agreement, FinishCause, IsAgreed, agreement_of}
 use Rattle.krb_ap.specs.Request.{Awaited}
 use Rattle.krb_ap.specs.declared.finish.Agreed.{Agreed}
-use Rattle.krb_ap.specs.declared.finish_fault.FinishFault.{FinishFault}
+use Rattle.krb_ap.specs.declared.finish.FinishFault.{FinishFault}
 use Rattle.krb_client_commands.specs.Finishing.{IsAgreement, IsRefusedReply, IsUnasked, IsUnfinished, no_confounder}
 use Rattle.krb_client_commands.specs.Requesting.{plain_options}
 use Rattle.krb_client_commands.specs.declared.fault.ClientFault.{ClientFault}

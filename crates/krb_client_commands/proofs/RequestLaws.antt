@@ -8,8 +8,8 @@ use Rattle.krb_name.specs.declared.principal.Principal.{Principal}
 use Rattle.krb_ccache.specs.Format.{IsCache}
 use Rattle.krb_ap.specs.Request.{Awaited, HasGoodTicket, IsRequest, Prevents}
 use Rattle.krb_ap.specs.declared.request.RequestOptions.{RequestOptions}
-use Rattle.krb_ap.specs.declared.request_fault.RequestFault.{RequestFault}
-use Rattle.krb_ap.specs.declared.request_fault.RequestFault.TheVariants.{TooLong}
+use Rattle.krb_ap.specs.declared.request.RequestFault.{RequestFault}
+use Rattle.krb_ap.specs.declared.request.RequestFault.TheVariants.{TooLong}
 use Rattle.krb_client_commands.specs.Requesting.{IsAskedFor, IsPrintedFor, IsRequested, IsTokenOf, IsTokenTooLong, IsUnprinted, IsUnrequested, chosen_options, prevented, token_too_long}
 use Rattle.krb_client_commands.specs.declared.fault.ClientFault.{ClientFault}
 use Rattle.krb_client_commands.specs.declared.fault.ClientFault.TheVariants as of

@@ -1,9 +1,9 @@
 -- What the program prints of a fault of a client's command: its name, and its offset in bytes if it has one.
 use Rattle.std.specs.Prelude.{ℕ, List, Some, None, codes}
-use Rattle.krb_ap.specs.declared.request_fault.RequestFault.{RequestFault}
-use Rattle.krb_ap.specs.declared.request_fault.RequestFault.TheVariants as request
-use Rattle.krb_ap.specs.declared.finish_fault.FinishFault.{FinishFault}
-use Rattle.krb_ap.specs.declared.finish_fault.FinishFault.TheVariants as finish
+use Rattle.krb_ap.specs.declared.request.RequestFault.{RequestFault}
+use Rattle.krb_ap.specs.declared.request.RequestFault.TheVariants as request
+use Rattle.krb_ap.specs.declared.finish.FinishFault.{FinishFault}
+use Rattle.krb_ap.specs.declared.finish.FinishFault.TheVariants as finish
 use Rattle.krb_file_commands.specs.FaultText.{FaultText, cache_text}
 use Rattle.krb_client_commands.specs.declared.fault.ClientFault.{ClientFault}
 use Rattle.krb_client_commands.specs.declared.fault.ClientFault.TheVariants.{Cache, Request, Finish, OutOfMemory}

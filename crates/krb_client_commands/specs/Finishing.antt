@@ -9,10 +9,10 @@ use Rattle.krb_msg.specs.declared.key.RawKey.{RawKey}
 use Rattle.krb_ap.specs.Request.{Awaited, HasGoodTicket, IsRequest, Prevents}
 use Rattle.krb_ap.specs.Finish.{FinishCause, IsAgreed, IsReplyOfType, agreement_of}
 use Rattle.krb_ap.specs.declared.finish.Agreed.{Agreed}
-use Rattle.krb_ap.specs.declared.finish_fault.FinishFault.{FinishFault}
-use Rattle.krb_ap.specs.declared.request_fault.RequestFault.{RequestFault}
-use Rattle.krb_ap.specs.declared.finish_fault.FinishFault.TheVariants as finish
-use Rattle.krb_ap.specs.declared.request_fault.RequestFault.TheVariants as request
+use Rattle.krb_ap.specs.declared.finish.FinishFault.{FinishFault}
+use Rattle.krb_ap.specs.declared.request.RequestFault.{RequestFault}
+use Rattle.krb_ap.specs.declared.finish.FinishFault.TheVariants as finish
+use Rattle.krb_ap.specs.declared.request.RequestFault.TheVariants as request
 use Rattle.krb_file_commands.specs.Engine.{OfFile}
 use Rattle.krb_client_commands.specs.Requesting.{plain_options}
 use Rattle.krb_client_commands.specs.declared.fault.ClientFault.{ClientFault}

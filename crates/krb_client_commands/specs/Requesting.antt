@@ -12,8 +12,8 @@ use Rattle.krb_gss.specs.declared.opening.Wrapping.TheVariants.{Bare, Negotiated
 use Rattle.krb_ap.specs.Request.{Awaited, HasGoodTicket, IsRequest, Prevents}
 use Rattle.krb_ap.specs.declared.request.ContextRequest.{ContextRequest}
 use Rattle.krb_ap.specs.declared.request.RequestOptions.{RequestOptions}
-use Rattle.krb_ap.specs.declared.request_fault.RequestFault.{RequestFault}
-use Rattle.krb_ap.specs.declared.request_fault.RequestFault.TheVariants.{OutOfMemory, TooLong}
+use Rattle.krb_ap.specs.declared.request.RequestFault.{RequestFault}
+use Rattle.krb_ap.specs.declared.request.RequestFault.TheVariants.{OutOfMemory, TooLong}
 use Rattle.krb_file_commands.specs.Engine.{OfFile}
 use Rattle.krb_client_commands.specs.declared.fault.ClientFault.{ClientFault}
 use Rattle.krb_client_commands.specs.declared.fault.ClientFault.TheVariants as of

@@ -1,9 +1,9 @@
 -- The exit status of a client's command. 1: the content is refused. 3: a file, the output or memory failed.
 use Rattle.std.specs.Prelude.{ℕ}
-use Rattle.krb_ap.specs.declared.finish_fault.FinishFault.{FinishFault}
-use Rattle.krb_ap.specs.declared.finish_fault.FinishFault.TheVariants as finish
-use Rattle.krb_ap.specs.declared.request_fault.RequestFault.{RequestFault}
-use Rattle.krb_ap.specs.declared.request_fault.RequestFault.TheVariants as request
+use Rattle.krb_ap.specs.declared.finish.FinishFault.{FinishFault}
+use Rattle.krb_ap.specs.declared.finish.FinishFault.TheVariants as finish
+use Rattle.krb_ap.specs.declared.request.RequestFault.{RequestFault}
+use Rattle.krb_ap.specs.declared.request.RequestFault.TheVariants as request
 use Rattle.krb_file_commands.specs.Status.{cache_reads, of_cache}
 use Rattle.krb_client_commands.specs.declared.fault.ClientFault.{ClientFault}
 use Rattle.krb_client_commands.specs.declared.fault.ClientFault.TheVariants.{Cache, Request, Finish, OutOfMemory}

@@ -4,8 +4,8 @@ ghost use Rattle.std.specs.Prelude.{◌%◌, length, ◌≡◌, ◌≢◌, ℕ, 
 ghost use Rattle.hex.specs.Hex.{decode_of};
 ghost use Rattle.krb_ccache.specs.Format.{IsCache};
 ghost use Rattle.krb_ap.specs.Request.{HasGoodTicket};
-ghost use Rattle.krb_ap.specs.declared.request_fault.RequestFault.TheVariants.{OutOfMemory};
-ghost use Rattle.krb_ap.specs.declared.finish_fault.FinishFault.TheVariants.{OutOfMemory as Unread};
+ghost use Rattle.krb_ap.specs.declared.request.RequestFault.TheVariants.{OutOfMemory};
+ghost use Rattle.krb_ap.specs.declared.finish.FinishFault.TheVariants.{OutOfMemory as Unread};
 ghost use Rattle.krb_file_commands.specs.Engine.{OfFile};
 ghost use Rattle.krb_client_commands.specs.Finishing.{AllowsUnfinished, IsAgreedLine, IsAgreement, IsPending, IsReadable, IsRefusedReply, IsUnasked, IsUnfinished, agreed_line, seq_text, subkey_text};
 ghost use Rattle.krb_client_commands.specs.Status.{client_reads};

@@ -6,7 +6,7 @@ ghost use Rattle.krb_der.specs.Spells.{limit};
 ghost use Rattle.krb_gss.specs.Wrapping.{request_size};
 ghost use Rattle.krb_gss.specs.declared.opening.Wrapping.{Wrapping};
 ghost use Rattle.krb_ap.specs.Request.{HasGoodTicket};
-ghost use Rattle.krb_ap.specs.declared.request_fault.RequestFault.TheVariants.{OutOfMemory};
+ghost use Rattle.krb_ap.specs.declared.request.RequestFault.TheVariants.{OutOfMemory};
 ghost use Rattle.krb_call_lines.specs.CallLine.{SpellsConfounder};
 ghost use Rattle.krb_file_commands.specs.Engine.{OfFile};
 ghost use Rattle.krb_client_commands.specs.Requesting.{AllowsUnrequested, IsAskedFor, IsRequested, IsRequestLine, IsTokenOf, IsTokenTooLong, IsTokenWord, IsUnprinted, IsUnrequested, PreventsAsked, chosen_options, plain_context, request_line};

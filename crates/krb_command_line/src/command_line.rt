@@ -39,8 +39,8 @@ pub enum Command<'a> {
     ConvertKeytab {
         /// `FILE`: The keytab.
         file: &'a str,
-        /// `OUT`: The file to write. Without --replace it is emptied before FILE is read, so it
-        /// must not be FILE; a new file has mode 0600.
+        /// `OUT`: The file to write. Without --replace it is emptied before FILE is read, and FILE
+        /// itself is refused; a new file has mode 0600.
         out: &'a str,
         /// `--replace`: Writes a new file, and renames it to OUT once it is whole: OUT may be FILE,
         /// and is never left half written.
@@ -51,8 +51,8 @@ pub enum Command<'a> {
     ConvertCcache {
         /// `FILE`: The credential cache.
         file: &'a str,
-        /// `OUT`: The file to write. Without --replace it is emptied before FILE is read, so it
-        /// must not be FILE; a new file has mode 0600.
+        /// `OUT`: The file to write. Without --replace it is emptied before FILE is read, and FILE
+        /// itself is refused; a new file has mode 0600.
         out: &'a str,
         /// `--replace`: Writes a new file, and renames it to OUT once it is whole: OUT may be FILE,
         /// and is never left half written.

@@ -49,7 +49,7 @@ const CONVERTED: Argument<'static> = Argument {
     name: "OUT",
     kind: Operand,
     greatest: None,
-    help: "The file to write. Without --replace it is emptied before FILE is read, so it must not be FILE; a new file has mode 0600",
+    help: "The file to write. Without --replace it is emptied before FILE is read, and FILE itself is refused; a new file has mode 0600",
 };
 
 const SERVICE: Argument<'static> = Argument {

@@ -24,9 +24,9 @@ pub trait EncodeParts {
     /// Writes them.
     ///
     /// # Errors
-    /// There is no memory. The writer can then have some of them.
+    /// `AllocError`: there is no memory, or an element would have more than 1,048,576 bytes. The
+    /// writer can then have some of them.
     fn write_parts(&self, out: &mut Writer) -> Result<(), AllocError>
-        requires { size self.now ≤ limit }
         ensures written { OnOk result (Appends (writes self.now) out.old out.new) }
         ensures sized { OnOk result (length out.new ≡ length out.old + size self.now) };
 }
@@ -89,12 +89,11 @@ fn size_around<P: EncodeParts>(parts: &P) -> Option<usize>
 
 /// Writes an element with this tag and these parts.
 fn write_around<P: EncodeParts>(parts: &P, tag: u8, out: &mut Writer) -> Result<(), AllocError>
-    requires { element_size (P.size parts.now) ≤ limit }
     ensures written { OnOk result (Appends (IsElement tag (P.writes parts.now)) out.old out.new) }
     ensures sized { OnOk result (length out.new ≡ length out.old + element_size (P.size parts.now)) }
 {
     let Some(size) = parts.size_within() else {
-        unreachable!();
+        return Err(AllocError);
     };
     out.head(tag, size as u32)?;
     parts.write_parts(out)

@@ -20,7 +20,7 @@ const FREED_AT_ONCE: usize = 16;
 ///
 /// Tuples may come in any order. The time for a look-up and a new tuple grows with the logarithm of
 /// how many tuples are held, also if many are of the same microsecond. Counting tuples since a moment
-/// adds up how many are in each bucket of at most 512 tuples. (This is measured, and not proved.)
+/// adds up how many are in each bucket of at most 1,024 tuples. (This is measured, and not proved.)
 ///
 /// What `advance` drops is out of the set at once, and is freed later: each call of `expect`,
 /// `remember` and `advance` frees 16 tuples, if there are as many. A tuple that is older than what was
@@ -83,8 +83,8 @@ impl TimedMemory {
     ///
     /// A tuple takes 24 bytes, its buckets have at most an eighth more room if tuples come in the
     /// order of their times, and the lists of buckets take less than 1 byte for each. Not counted
-    /// is the room of a bucket's freed tuples, until its last one is freed: at most 10,000 bytes, and
-    /// 5,000 for each client. Names as short as `host/web@EX` and `alice@EX` take 170 bytes, and each
+    /// is the room of a bucket's freed tuples, until its last one is freed: at most 19,000 bytes, and
+    /// 10,000 for each client. Names as short as `host/web@EX` and `alice@EX` take 170 bytes, and each
     /// further letter 1 more. A client's third tuple takes about 50 bytes more, for the list of its
     /// times; so does its second, if it is more than 71 minutes from the first. The heap's own headers
     /// aren't counted.

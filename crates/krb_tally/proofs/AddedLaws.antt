@@ -39,7 +39,7 @@ second_first times first second said time are is also =
     IsPermutation-sym (time ∷ said ∷ []) times (in_place times first second said time are (sym is) (sym also))
 
 -- so few
-pub two_of_few : (one other : ℤ) (times : List ℤ) → IsPermutation (one ∷ other ∷ []) times → length times < 512
+pub two_of_few : (one other : ℤ) (times : List ℤ) → IsPermutation (one ∷ other ∷ []) times → length times < 1024
 two_of_few one other times same = let long = length_permutation (one ∷ other ∷ []) times same in omega arith
 
 -- two times as others say them

@@ -149,6 +149,6 @@ module _ {X : Type 0} (cmp : X → X → Ordering) (eq : X → X → Bool) (ties
       (λ x apart at. true≢false (sym (ties x item ∙ equal_there (cmp x item) at) ∙ apart (same_time cmp total when law x item (equal_there (cmp x item) at)))) items lacks
 
 -- what a bucket is, of items that keep the order of others
-pub is_bucket : {X : Type 0} (when : X → ℤ) (cmp : X → X → Ordering) (others items : List X) → 0 < length items → length items ≤ 512 → ((by : X → ℤ) → IsRising by others → IsRising by items)
-    → IsRising when others → IsSorted cmp others → (0 < length items) × ((length items ≤ 512) × (IsRising when items × IsSorted cmp items))
+pub is_bucket : {X : Type 0} (when : X → ℤ) (cmp : X → X → Ordering) (others items : List X) → 0 < length items → length items ≤ 1024 → ((by : X → ℤ) → IsRising by others → IsRising by items)
+    → IsRising when others → IsSorted cmp others → (0 < length items) × ((length items ≤ 1024) × (IsRising when items × IsSorted cmp items))
 is_bucket when cmp others items some most keep rising sorted = (some, (most, (keep when rising, record { from = λ one. keep (place_from cmp one) (sorted.from one) })))

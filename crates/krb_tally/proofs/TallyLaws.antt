@@ -53,7 +53,7 @@ module _ {X : Type 0} where
       ap (λ (rest : List X). x ++ rest) (halved xs at lower upper here (omega arith) is both)
 
   -- and there is room in both
-  pub halves : (buckets : List (List X)) (at : ℕ) (lower upper : List X) → at < length buckets → length lower < 512 → length upper < 512
+  pub halves : (buckets : List (List X)) (at : ℕ) (lower upper : List X) → at < length buckets → length lower < 1024 → length upper < 1024
       → Halves buckets at (insert (set buckets at lower) (suc at) upper)
   halves [] at lower upper within few also = absurd (omega arith)
   halves (x ∷ xs) zero lower upper within few also = record { within = omega arith; before = refl; lower = few; upper = also; after = refl }

@@ -11,9 +11,9 @@ use std::alloc::{AllocError, Global};
 use std::marker::Model;
 
 // How many items a bucket holds at most.
-const MOST: usize = 512;
+const MOST: usize = 1_024;
 
-/// From 1 to 512 items, in order.
+/// From 1 to 1,024 items, in order.
 #[derive(Debug, Drop)]
 pub(crate) struct Bucket<T: Timed> {
     items: Vec<T>,
@@ -28,7 +28,7 @@ impl<T: Timed> Model for Bucket<T> {
     ghost view = { λ bucket. bucket.items.items };
 
     ghost invariant = { λ bucket. (0 < length bucket.items.items)
-        × ((length bucket.items.items ≤ 512)
+        × ((length bucket.items.items ≤ 1024)
         × (IsRising T.timestamp bucket.items.items × IsSorted T.cmp bucket.items.items)) };
 }
 
@@ -45,7 +45,7 @@ impl<T: Timed + Drop> Bucket<T> {
     pub(crate) fn len(&self) -> usize
         ensures len { result ≡ length self.now }
         ensures some { 0 < result }
-        ensures most { result ≤ 512 }
+        ensures most { result ≤ 1024 }
         ensures rising { IsRising T.timestamp self.now }
         ensures sorted { IsSorted T.cmp self.now }
     {
@@ -53,8 +53,8 @@ impl<T: Timed + Drop> Bucket<T> {
     }
 
     pub(crate) fn is_full(&self) -> bool
-        ensures full { IsTrue result → 512 ≤ length self.now }
-        ensures room { result ≡ false → length self.now < 512 }
+        ensures full { IsTrue result → 1024 ≤ length self.now }
+        ensures room { result ≡ false → length self.now < 1024 }
     {
         self.items.len() >= MOST
     }
@@ -82,7 +82,7 @@ impl<T: Timed + Drop> Bucket<T> {
     /// Adds an item. Makes room for an eighth more if there is none, and not for twice as many, so that
     /// little room is unused.
     pub(crate) fn add(&mut self, item: T) -> Result<(), AllocError>
-        requires { length self.old < 512 }
+        requires { length self.old < 1024 }
         ensures ok { OnOk result (AddsIn (place_from T.cmp item) self.old item self.new) }
         ensures err { OnErr result (self.new ≡ self.old) }
     {
@@ -101,7 +101,7 @@ impl<T: Timed + Drop> Bucket<T> {
     }
 
     fn insert(&mut self, item: T) -> Result<(), AllocError>
-        requires { length self.old < 512 }
+        requires { length self.old < 1024 }
         ensures ok { OnOk result (AddsIn (place_from T.cmp item) self.old item self.new) }
         ensures err { OnErr result (self.new ≡ self.old) }
     {
@@ -150,11 +150,11 @@ impl<T: Timed + Drop> Bucket<T> {
 
     /// Moves the items from the middle on into a bucket, and frees their room here.
     pub(crate) fn split(&mut self) -> Result<Bucket<T>, AllocError>
-        requires { 512 ≤ length self.old }
-        ensures lower { OnOk result (self.new ≡ take 256 self.old) }
-        ensures upper { IfOk result (λ bucket. bucket ≡ drop 256 self.old) }
-        ensures lower_room { OnOk result (length self.new < 512) }
-        ensures upper_room { IfOk result (λ bucket. length bucket < 512) }
+        requires { 1024 ≤ length self.old }
+        ensures lower { OnOk result (self.new ≡ take 512 self.old) }
+        ensures upper { IfOk result (λ bucket. bucket ≡ drop 512 self.old) }
+        ensures lower_room { OnOk result (length self.new < 1024) }
+        ensures upper_room { IfOk result (λ bucket. length bucket < 1024) }
         ensures err { OnErr result (self.new ≡ self.old) }
     {
         let upper = self.halve()?;
@@ -163,11 +163,11 @@ impl<T: Timed + Drop> Bucket<T> {
     }
 
     fn halve(&mut self) -> Result<Bucket<T>, AllocError>
-        requires { 512 ≤ length self.old }
-        ensures lower { OnOk result (self.new ≡ take 256 self.old) }
-        ensures upper { IfOk result (λ bucket. bucket ≡ drop 256 self.old) }
-        ensures lower_room { OnOk result (length self.new < 512) }
-        ensures upper_room { IfOk result (λ bucket. length bucket < 512) }
+        requires { 1024 ≤ length self.old }
+        ensures lower { OnOk result (self.new ≡ take 512 self.old) }
+        ensures upper { IfOk result (λ bucket. bucket ≡ drop 512 self.old) }
+        ensures lower_room { OnOk result (length self.new < 1024) }
+        ensures upper_room { IfOk result (λ bucket. length bucket < 1024) }
         ensures err { OnErr result (self.new ≡ self.old) }
     {
         let items = self.items.split_off(MOST / 2)?;

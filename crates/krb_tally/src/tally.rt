@@ -14,8 +14,8 @@ use std::marker::Model;
 /// Items, each as often as it was added. A contract sees them as a list, in order.
 ///
 /// The items are in buckets. A call finds its bucket by binary search, and its place in the bucket,
-/// too. `since` then adds up the lengths of the later buckets. Ten million items are in about 20,000
-/// buckets if each was later than the one before, and in at most about 60,000 otherwise, if none is
+/// too. `since` then adds up the lengths of the later buckets. Ten million items are in about 10,000
+/// buckets if each was later than the one before, and in at most about 30,000 otherwise, if none is
 /// removed from the middle.
 ///
 /// Each of many items takes its size and at most an eighth more, if none is removed. A bucket is freed
@@ -352,7 +352,7 @@ fn make_room<T: Timed + Drop>(buckets: &mut Vec<Bucket<T>>, item: &T) -> Result<
     ensures place { IfOk result (λ room. room.bucket ≤ length buckets.new.items) }
     ensures new { IfOk result (λ room. room.is_new ≡ true → Fits (place_from T.cmp item.now) buckets.new.items (pos 1) room.bucket room.bucket) }
     ensures old { IfOk result (λ room. room.is_new ≡ false → (room.bucket < length buckets.new.items) × Fits (place_from T.cmp item.now) buckets.new.items (pos 1) room.bucket (suc room.bucket)) }
-    ensures room { IfOk result (λ room. room.is_new ≡ false → length (slice_index_or buckets.new.items room.bucket []) < 512) }
+    ensures room { IfOk result (λ room. room.is_new ≡ false → length (slice_index_or buckets.new.items room.bucket []) < 1024) }
 {
     let room = room_for(buckets.as_slice(), item);
     if room.is_new || !buckets[room.bucket].is_full() {
@@ -406,7 +406,7 @@ fn add_to<T: Timed + Drop>(
     requires fits { Fits (place_from T.cmp item) buckets.old.items (pos 1) bucket (suc bucket) }
     requires rising { IsRising T.timestamp (all_of buckets.old.items) }
     requires sorted { IsSorted T.cmp (all_of buckets.old.items) }
-    requires room { length (slice_index_or buckets.old.items bucket []) < 512 }
+    requires room { length (slice_index_or buckets.old.items bucket []) < 1024 }
     ensures ok { OnOk result (IsPermutation (item ∷ all_of buckets.old.items) (all_of buckets.new.items)) }
     ensures err { OnErr result (all_of buckets.new.items ≡ all_of buckets.old.items) }
     ensures rising { IsRising T.timestamp (all_of buckets.new.items) }
@@ -450,7 +450,7 @@ fn begin<T: Timed + Drop>(buckets: &mut Vec<Bucket<T>>) -> Result<(), AllocError
 // Makes two buckets of a full one.
 fn split<T: Timed + Drop>(buckets: &mut Vec<Bucket<T>>, bucket: usize) -> Result<(), AllocError>
     requires within { bucket < length buckets.old.items }
-    requires full { 512 ≤ length (slice_index_or buckets.old.items bucket []) }
+    requires full { 1024 ≤ length (slice_index_or buckets.old.items bucket []) }
     ensures same { all_of buckets.new.items ≡ all_of buckets.old.items }
     ensures halves { OnOk result (Halves buckets.old.items bucket buckets.new.items) }
 {

@@ -6,8 +6,8 @@ use Rattle.krb_msg.specs.Module.{ticket as ticket_kind}
 use Rattle.krb_ccache.specs.declared.credential.Credential.{Credential}
 use Rattle.krb_ap.specs.Request.{IsBuilt}
 use Rattle.krb_ap.specs.declared.request.RequestOptions.{RequestOptions}
-use Rattle.krb_ap.specs.declared.request_fault.RequestFault.{RequestFault}
-use Rattle.krb_ap.specs.declared.request_fault.RequestFault.TheVariants.{BadTicket, TooLong}
+use Rattle.krb_ap.specs.declared.request.RequestFault.{RequestFault}
+use Rattle.krb_ap.specs.declared.request.RequestFault.TheVariants.{BadTicket, TooLong}
 
 -- the bytes of its ticket are a ticket
 abbrev pub HasReadableTicket : Credential → Type 0

@@ -1,4 +1,4 @@
--- Items in buckets of at most 512. A bucket's items are in order, by their times first, and the buckets follow each other.
+-- Items in buckets of at most 1,024. A bucket's items are in order, by their times first, and the buckets follow each other.
 use Rattle.std.specs.Ordering.{ordering_index}
 use Rattle.std.specs.declared.cmp.Ordering.{Ordering}
 use Rattle.std.specs.Prelude.{◌≡◌, ◌<◌, ◌≤ℤ◌, ℕ, ℤ, pos, suc, List, [], ◌∷◌, ◌++◌, All, Contains, length, take, drop, slice_index_or, ⊤}
@@ -22,8 +22,8 @@ pub record TakesOut {X : Type 0} (old : List (List X)) (bucket at : ℕ) (item :
 pub record Halves {X : Type 0} (old : List (List X)) (bucket : ℕ) (new : List (List X)) : Type 0 where
   pub within : suc bucket < length new
   pub before : take bucket new ≡ take bucket old
-  pub lower : length (slice_index_or new bucket []) < 512
-  pub upper : length (slice_index_or new (suc bucket) []) < 512
+  pub lower : length (slice_index_or new bucket []) < 1024
+  pub upper : length (slice_index_or new (suc bucket) []) < 1024
   pub after : drop (suc (suc bucket)) new ≡ drop (suc bucket) old
 
 -- where one stands in an order, seen from an item: 0 before it, 1 with it, 2 after it

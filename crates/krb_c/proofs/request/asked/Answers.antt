@@ -1,6 +1,6 @@
 use Rattle.std.proofs.Common.{inr, refl, subst, sym}
 use Rattle.krb_ap.specs.Request.{Awaited}
-use Rattle.krb_ap.specs.declared.request_fault.RequestFault.TheVariants.{OutOfMemory}
+use Rattle.krb_ap.specs.declared.request.RequestFault.TheVariants.{OutOfMemory}
 use Rattle.krb_c.specs.Request.{IsRequestFor, ask, moment_of}
 use Rattle.krb_c.proofs.Requests.{asked_with, options_of, request_at, requested_ticket}
 use Rattle.krb_c.proofs.request.asked.Goals as goal

@@ -6,7 +6,7 @@ use Rattle.krb_tally.proofs.tally.add_to.Goals as goal
 
 pub add-requires : goal.add-requires
 add-requires g c =
-    subst (λ items. length items < 512) (sym (stands c.args.buckets.now.items c.args.bucket c.index_mut.result.now c.requires.within c.index_mut.ensures.value)) c.requires.room
+    subst (λ items. length items < 1024) (sym (stands c.args.buckets.now.items c.args.bucket c.index_mut.result.now c.requires.within c.index_mut.ensures.value)) c.requires.room
 
 pub returns-clause-ok : goal.returns-clause-ok
 returns-clause-ok g c =

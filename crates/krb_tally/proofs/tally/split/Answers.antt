@@ -8,8 +8,8 @@ use Rattle.krb_tally.proofs.tally.split.Goals as goal
 pub returns-clause-same : goal.returns-clause-same
 returns-clause-same g c =
     let both : c.index_mut.result.now ≡ c.split.new.self ++ c.in_ok-upper.upper =
-    sym (take-append-drop 256 c.index_mut.result.now)
-    ∙ (ap (λ low. low ++ drop 256 c.index_mut.result.now) (sym c.in_ok-upper.ensures.lower) ∙ ap (λ up. c.split.new.self ++ up) (sym c.in_ok-upper.ensures.upper)) in
+    sym (take-append-drop 512 c.index_mut.result.now)
+    ∙ (ap (λ low. low ++ drop 512 c.index_mut.result.now) (sym c.in_ok-upper.ensures.lower) ∙ ap (λ up. c.split.new.self ++ up) (sym c.in_ok-upper.ensures.upper)) in
     ap (λ buckets. all_of buckets) c.in_ok-insert.ensures.items
     ∙ (ap (λ (n : ℕ). all_of (insert (set c.reserve.new.self.items c.args.bucket c.split.new.self) n c.in_ok-upper.upper)) (add-one c.args.bucket)
     ∙ (halved c.reserve.new.self.items c.args.bucket c.split.new.self c.in_ok-upper.upper c.index_mut.result.now

@@ -6,7 +6,7 @@ use Rattle.krb_tally.proofs.AddedLaws.{one_more_of, put_together, two_of_few}
 use Rattle.krb_tally.proofs.times.third.Goals as goal
 
 pub add-requires : goal.add-requires
-add-requires c = subst (λ (times : List ℤ). length times < 512) (sym c.deref_mut.ensures.value) (two_of_few _ _ c.in_ok-times.times.value c.in_ok-times.ensures)
+add-requires c = subst (λ (times : List ℤ). length times < 1024) (sym c.deref_mut.ensures.value) (two_of_few _ _ c.in_ok-times.times.value c.in_ok-times.ensures)
 
 pub returns : goal.returns
 returns c =

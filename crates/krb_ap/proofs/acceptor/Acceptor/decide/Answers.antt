@@ -128,11 +128,11 @@ returns-in-Ok-remember-clause-limit g c = λ history stands.
       full = λ stamp past.
           let same : stamp ≡ c.in-Ok.judged.tuple =
           one_stamp c.facts.ensures c.args.self.now.setup history c.args.bytes.now c.args.now (effective history c.args.now) c.in-Ok.judged.tuple stamp judged.shows past.0 in
-          let failed = ((rw c.judge.ensures.same at c.in-Ok-remember.ensures.full)
+          let failed = ((rw c.judge.ensures.same at c.in-Ok-remember.ensures.heeds).full
           (subst (λ (at : ℤ). IsPast at c.in-Ok.judged.tuple) (sym (counted_at _ history c.args.now c.effective-now.result c.effective-now.ensures stands.latest_is))
-          (subst (IsPast (effective history c.args.now)) same past.1))).0 in
+          (subst (IsPast (effective history c.args.now)) same past.1))) in
           absurd (cc);
-      counted = elim (rw c.judge.ensures.same at c.in-Ok-remember.ensures.refused) [
+      counted = elim (rw c.judge.ensures.same at c.in-Ok-remember.ensures.heeds).counted [
         | inl e ↦ inl (c.advance-in-Ok-remember.ensures.refusals ∙ e)
         | inr h ↦ (let failed = h.0 in absurd (cc))
       ];
@@ -150,7 +150,7 @@ returns-in-Err-remember-clause-limit g c = λ history stands.
     (g.M.ReplayMemory.refusals c.remember.new.self.memory) c.args.self.now.setup at c.in-Ok.judged.tuple in
     record {
       full = λ stamp past. refl;
-      counted = elim (rw c.judge.ensures.same at c.in-Err-remember.ensures.refused) [
+      counted = elim (rw c.judge.ensures.same at c.in-Err-remember.ensures.heeds).counted [
         | inl e ↦ inl e
         | inr h ↦ (let at : _ = counted_at _ history c.args.now c.effective-now.result c.effective-now.ensures stands.latest_is in inr (
           c.in-Ok.judged.tuple,

@@ -2,14 +2,12 @@ use Rattle.std.proofs.Common.{ap, ◌∙◌}
 use Rattle.krb_ap.proofs.Limits.{counted_of, full_of}
 use Rattle.krb_ap.proofs.acceptor.Acceptor.remember.Goals as goal
 
-pub returns-clause-full : goal.returns-clause-full
-returns-clause-full g c =
-    full_of g.M.ReplayMemory.has g.M.ReplayMemory.limits g.M.ReplayMemory.refusals g.M.ReplayMemory.newest _ c.args.self.now _ c.args.now c.args.tuple _ _
-    (ap (λ inside. record { setup = inside.rules; memory = inside.memory }) c.self-inside.view_is ∙ c.self.view_is) c.expect.ensures.set c.expect.ensures.limits c.expect.ensures.refusals
-    (c.remember.ensures.full _ c.expect.ensures.counts) (c.remember.ensures.first _ c.expect.ensures.counts)
-
-pub returns-clause-refused : goal.returns-clause-refused
-returns-clause-refused g c =
-    counted_of g.M.ReplayMemory.has g.M.ReplayMemory.limits g.M.ReplayMemory.refusals g.M.ReplayMemory.newest _ c.args.self.now _ c.args.now c.args.tuple _ _
-    (ap (λ inside. record { setup = inside.rules; memory = inside.memory }) c.self-inside.view_is ∙ c.self.view_is) c.expect.ensures.set c.expect.ensures.limits c.expect.ensures.refusals
-    (c.remember.ensures.refused _ c.expect.ensures.counts) (c.remember.ensures.first _ c.expect.ensures.counts)
+pub returns-clause-heeds : goal.returns-clause-heeds
+returns-clause-heeds g c = record {
+  full = λ past. (full_of g.M.ReplayMemory.has g.M.ReplayMemory.limits g.M.ReplayMemory.refusals g.M.ReplayMemory.newest _ c.args.self.now _ c.args.now c.args.tuple _ _
+      (ap (λ inside. record { setup = inside.rules; memory = inside.memory }) c.self-inside.view_is ∙ c.self.view_is) c.expect.ensures.set c.expect.ensures.limits c.expect.ensures.refusals
+      (c.remember.ensures.full _ c.expect.ensures.counts) (c.remember.ensures.first _ c.expect.ensures.counts) past).0;
+  counted = counted_of g.M.ReplayMemory.has g.M.ReplayMemory.limits g.M.ReplayMemory.refusals g.M.ReplayMemory.newest _ c.args.self.now _ c.args.now c.args.tuple _ _
+      (ap (λ inside. record { setup = inside.rules; memory = inside.memory }) c.self-inside.view_is ∙ c.self.view_is) c.expect.ensures.set c.expect.ensures.limits c.expect.ensures.refusals
+      (c.remember.ensures.refused _ c.expect.ensures.counts) (c.remember.ensures.first _ c.expect.ensures.counts);
+}

@@ -8,7 +8,7 @@ use Rattle.krb_msg.specs.Owned.{owned_encrypted_of}
 use Rattle.krb_ap.specs.Written.{IsWritten}
 use Rattle.krb_ap.specs.Request.{request_for}
 use Rattle.krb_ap.specs.Inner.Requests.{IsUnbuilt}
-use Rattle.krb_ap.specs.declared.request_fault.RequestFault.{RequestFault}
+use Rattle.krb_ap.specs.declared.request.RequestFault.{RequestFault}
 use Rattle.krb_ap.proofs.Building.{copied_request, told_type, too_long_to_build}
 use Rattle.krb_ap.proofs.Truth.{err_is}
 use Rattle.krb_ap.proofs.ready_key.ReadyCredential.request.Goals as goal

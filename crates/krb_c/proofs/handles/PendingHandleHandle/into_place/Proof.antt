@@ -6,7 +6,7 @@ use contract.Monad.{fact_i}
 use denote.Exit.{yes}
 use denote.Signature.{plain}
 use Rattle.core.proofs.alloc.Calls.{Goes-blank}
-use Rattle.krb_ap.specs.contracts.pending.Pending.{the_row as V}
+use Rattle.krb_ap.specs.contracts.finish.Pending.{the_row as V}
 use Rattle.krb_c.specs.contracts.place.Place as place
 use Rattle.krb_c.specs.contracts.handles.PendingHandle as handle
 use Rattle.krb_c.specs.contracts.handles.PendingHandleHandle.into_place.{clauses}

@@ -1,7 +1,7 @@
 use Rattle.std.proofs.Common.{ap, refl, rules, Err}
 use Rattle.krb_ccache.specs.Format.{IsAnswerOf, IsCache}
 use Rattle.krb_ccache.specs.declared.fault.CacheFault.TheVariants.{OutOfMemory, Read}
-use Rattle.krb_ap.specs.declared.finish_fault.FinishFault.{FinishFault}
+use Rattle.krb_ap.specs.declared.finish.FinishFault.{FinishFault}
 use Rattle.krb_client_commands.specs.Status.{of_finish, of_request}
 use Rattle.krb_client_commands.specs.declared.fault.ClientFault.TheVariants as of
 use Rattle.krb_file_commands.proofs.FaultLaws.{err_is, if_some_map}

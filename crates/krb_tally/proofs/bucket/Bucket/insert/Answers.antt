@@ -19,7 +19,7 @@ invariant_of-self-2 g c =
     c.as_slice.ensures.value c.number_below-at.ensures.before c.number_below-at.ensures.from c.in_ok-insert.ensures.items in (
       added_length (place_from g.T.Ord.cmp c.args.item) c.self.inside.items.items c.insert.new.self.items c.args.item here,
       (
-        added_most (place_from g.T.Ord.cmp c.args.item) 512 c.self.inside.items.items c.insert.new.self.items c.args.item here
+        added_most (place_from g.T.Ord.cmp c.args.item) 1024 c.self.inside.items.items c.insert.new.self.items c.args.item here
             (let len = ap (λ items. length items) c.self.view_is in let few = c.requires in omega arith),
         (
           added_rising g.T.Timed.timestamp c.self.inside.items.items c.insert.new.self.items c.args.item c.self.invariant.1.1.0

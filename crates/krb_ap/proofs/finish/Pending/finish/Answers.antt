@@ -7,13 +7,13 @@ use Rattle.krb_msg.specs.Fields.{encrypted_fields, reply_enc_part}
 use Rattle.krb_msg.specs.Owned.{owned_key_of}
 use Rattle.krb_ap.specs.Request.{Awaited}
 use Rattle.krb_ap.specs.Finish.{FinishCause, IsOpenedReply, IsReplyOfType, OpensReply}
-use Rattle.krb_ap.specs.declared.finish_fault.FinishFault.{FinishFault}
-use Rattle.krb_ap.specs.declared.finish_fault.FinishFault.TheVariants.{OutOfMemory}
+use Rattle.krb_ap.specs.declared.finish.FinishFault.{FinishFault}
+use Rattle.krb_ap.specs.declared.finish.FinishFault.TheVariants.{OutOfMemory}
 use Rattle.krb_ap.proofs.Truth.{err_is, is_so, is_not}
 use Rattle.krb_ap.proofs.Finishing.{fault_of, reply_shut, of_another, opens_reply, opens_to_other, copied_agreement}
 use Rattle.krb_ap.proofs.Offsets.{finish_within, shut_within}
-use Rattle.krb_ap.proofs.pending.Pending.finish.Goals as goal
-use Rattle.krb_ap.proofs.pending.Pending.finish.Goals.{In-Ok, In_ok-plain}
+use Rattle.krb_ap.proofs.finish.Pending.finish.Goals as goal
+use Rattle.krb_ap.proofs.finish.Pending.finish.Goals.{In-Ok, In_ok-plain}
 
 of_type : (c : In_ok-plain) → IsReplyOfType c.args.self.now c.args.reply.now
 of_type c = record {
