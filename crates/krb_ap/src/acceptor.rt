@@ -198,7 +198,7 @@ impl<M: ReplayMemory> Acceptor<M> {
     /// same.
     ///
     /// # Errors
-    /// `AllocError`: there is no memory for the outcomes. No call was made.
+    /// `AllocError`: memory runs out for the outcomes. No call was made.
     pub fn serve(&mut self, alloc: Global, calls: &[Call]) -> Result<Vec<Outcome>, AllocError>
         ensures setup { self.new.setup ≡ self.old.setup }
 

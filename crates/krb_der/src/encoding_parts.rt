@@ -24,8 +24,8 @@ pub trait EncodeParts {
     /// Writes them.
     ///
     /// # Errors
-    /// `AllocError`: there is no memory, or an element would have more than 1,048,576 bytes. The
-    /// writer can then have some of them.
+    /// `AllocError`: there is no memory, or an element's content would have more than 1,048,576
+    /// bytes. The writer can then have some of them.
     fn write_parts(&self, out: &mut Writer) -> Result<(), AllocError>
         ensures written { OnOk result (Appends (writes self.now) out.old out.new) }
         ensures sized { OnOk result (length out.new ≡ length out.old + size self.now) };

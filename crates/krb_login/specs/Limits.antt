@@ -20,8 +20,8 @@ pub data HoldsNone (call : Call) : Type 0 where
 
 -- Which stamps the memory has before, its limits, its counts of what was refused for each of them
 -- before and after, and whether the service says that memory ran out. Nothing is counted for bytes that
--- hold no request. A request that is past a limit is refused so, and counted, and no other is counted.
--- One that has a cause before it is remembered isn't counted either.
+-- hold no request. A request that is past a limit is refused so. No other is counted, and only the first
+-- limit that it reaches counts it. One that has a cause before it is remembered isn't counted either.
 pub data HeedsLimits (Has : Stamp → Type 0) (limits : List Limits) (old new : List ℕ) (call : Call) (IsLacking : Type 0) : Type 0 where
   of_none : HoldsNone call → new ≡ old → HeedsLimits Has limits old new call IsLacking
   of_request : (carrier : Carrier) (request : List ℕ) → HoldsRequest call carrier request

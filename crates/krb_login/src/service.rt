@@ -98,7 +98,7 @@ impl<M: ReplayMemory> Service<M> {
             → GoesOn (λ after. after ≡ history → SameMemory M.has M.newest self.old.acceptor.memory self.new.acceptor.memory)
             (call_of self.old.terms self.old.acceptor.setup history negotiation.old given.entry) result }
 
-        // A request past a limit of the memory is answered with out of memory, and counted. No other is counted.
+        // A request past a limit of the memory is answered with out of memory. No other is counted as refused for a limit.
         ensures limit { (history : List Arrival)
             → Stands M.has M.newest self.old.acceptor history
             → HeedsLimits (M.has self.old.acceptor.memory) (M.limits self.old.acceptor.memory) (M.refusals self.old.acceptor.memory) (M.refusals self.new.acceptor.memory)

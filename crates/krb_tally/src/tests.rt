@@ -6,19 +6,19 @@ use std::test::Fail;
 // Times out of order, which split buckets. A tally that fails past its first bucket would pass each
 // clause.
 #[test]
-fn counts_two_thousand_times_out_of_order(rt: HostRuntime) -> Result<(), Fail> {
+fn counts_four_thousand_times_out_of_order(rt: HostRuntime) -> Result<(), Fail> {
     let mut tally: Tally<i64> = Tally::new(rt.alloc());
-    for n in 0..2000u32 {
-        tally.add(i64::from(n * 7 % 2000))?;
+    for n in 0..4000u32 {
+        tally.add(i64::from(n * 7 % 4000))?;
     }
-    assert_eq!(rt; tally.len(), 2000);
+    assert_eq!(rt; tally.len(), 4000);
     assert_eq!(rt; tally.first().copied(), Some(0));
-    assert_eq!(rt; tally.last().copied(), Some(1999));
-    for n in 0..2000u32 {
-        assert_eq!(rt; tally.since(i64::from(n)), 2000 - n as usize);
+    assert_eq!(rt; tally.last().copied(), Some(3999));
+    for n in 0..4000u32 {
+        assert_eq!(rt; tally.since(i64::from(n)), 4000 - n as usize);
         assert!(rt; tally.has(&i64::from(n)));
     }
-    assert!(rt; !tally.has(&2000));
+    assert!(rt; !tally.has(&4000));
     Ok(())
 }
 
@@ -26,12 +26,12 @@ fn counts_two_thousand_times_out_of_order(rt: HostRuntime) -> Result<(), Fail> {
 #[test]
 fn counts_falling_times(rt: HostRuntime) -> Result<(), Fail> {
     let mut tally: Tally<i64> = Tally::new(rt.alloc());
-    for n in (0..2000u32).rev() {
+    for n in (0..4000u32).rev() {
         tally.add(i64::from(n))?;
     }
-    assert_eq!(rt; tally.len(), 2000);
-    assert_eq!(rt; tally.since(1999), 1);
-    assert_eq!(rt; tally.since(600), 1400);
+    assert_eq!(rt; tally.len(), 4000);
+    assert_eq!(rt; tally.since(3999), 1);
+    assert_eq!(rt; tally.since(600), 3400);
     Ok(())
 }
 
@@ -39,20 +39,20 @@ fn counts_falling_times(rt: HostRuntime) -> Result<(), Fail> {
 #[test]
 fn removes_what_was_added(rt: HostRuntime) -> Result<(), Fail> {
     let mut tally: Tally<i64> = Tally::new(rt.alloc());
-    for n in 0..1500u32 {
+    for n in 0..3000u32 {
         tally.add(i64::from(n))?;
         tally.add(i64::from(n))?;
     }
-    for n in 0..1000u32 {
+    for n in 0..2000u32 {
         let _ = tally.remove(i64::from(n));
         let _ = tally.remove(i64::from(n));
         let _ = tally.remove(i64::from(n));
     }
     assert!(rt; tally.remove(-1).is_none());
-    assert_eq!(rt; tally.remove(1499), Some(1499));
-    assert_eq!(rt; tally.len(), 999);
-    assert_eq!(rt; tally.since(i64::MIN), 999);
-    assert_eq!(rt; tally.since(1499), 1);
+    assert_eq!(rt; tally.remove(2999), Some(2999));
+    assert_eq!(rt; tally.len(), 1999);
+    assert_eq!(rt; tally.since(i64::MIN), 1999);
+    assert_eq!(rt; tally.since(2999), 1);
     assert_eq!(rt; tally.since(i64::MAX), 0);
     Ok(())
 }
@@ -62,12 +62,12 @@ fn removes_what_was_added(rt: HostRuntime) -> Result<(), Fail> {
 fn counts_one_time_often(rt: HostRuntime) -> Result<(), Fail> {
     let mut tally: Tally<i64> = Tally::new(rt.alloc());
     assert!(rt; tally.first().is_none());
-    for _ in 0..1200u32 {
+    for _ in 0..2400u32 {
         tally.add(7)?;
     }
-    assert_eq!(rt; tally.since(7), 1200);
+    assert_eq!(rt; tally.since(7), 2400);
     assert_eq!(rt; tally.since(8), 0);
-    for _ in 0..1200u32 {
+    for _ in 0..2400u32 {
         assert!(rt; tally.has(&7));
         assert_eq!(rt; tally.remove(7), Some(7));
     }
@@ -80,10 +80,10 @@ fn counts_one_time_often(rt: HostRuntime) -> Result<(), Fail> {
 #[test]
 fn takes_the_first(rt: HostRuntime) -> Result<(), Fail> {
     let mut tally: Tally<i64> = Tally::new(rt.alloc());
-    for n in 0..1300u32 {
-        tally.add(i64::from(n * 3 % 1300))?;
+    for n in 0..2600u32 {
+        tally.add(i64::from(n * 3 % 2600))?;
     }
-    for n in 0..1300u32 {
+    for n in 0..2600u32 {
         assert_eq!(rt; tally.pop_first(), Some(i64::from(n)));
     }
     assert!(rt; tally.pop_first().is_none());
@@ -98,15 +98,15 @@ fn counts_the_times_of_one_owner(rt: HostRuntime) -> Result<(), Fail> {
     assert_eq!(rt; times.len(), 1);
     assert_eq!(rt; times.since(0), 1);
     assert_eq!(rt; times.since(1), 0);
-    for n in 1..1500u32 {
-        times.add(rt.alloc(), i64::from(n * 7 % 1500))?;
+    for n in 1..3000u32 {
+        times.add(rt.alloc(), i64::from(n * 7 % 3000))?;
         assert_eq!(rt; times.len(), n as usize + 1);
         assert_eq!(rt; times.since(0), n as usize + 1);
     }
-    for n in 0..1500u32 {
-        assert_eq!(rt; times.since(i64::from(n)), 1500 - n as usize);
+    for n in 0..3000u32 {
+        assert_eq!(rt; times.since(i64::from(n)), 3000 - n as usize);
     }
-    for n in 1..1500u32 {
+    for n in 1..3000u32 {
         assert!(rt; times.remove(i64::from(n)));
         assert!(rt; !times.remove(i64::from(n)));
     }

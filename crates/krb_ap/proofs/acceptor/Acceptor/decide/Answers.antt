@@ -130,7 +130,7 @@ returns-in-Ok-remember-clause-limit g c = λ history stands.
           one_stamp c.facts.ensures c.args.self.now.setup history c.args.bytes.now c.args.now (effective history c.args.now) c.in-Ok.judged.tuple stamp judged.shows past.0 in
           let failed = ((rw c.judge.ensures.same at c.in-Ok-remember.ensures.heeds).full
           (subst (λ (at : ℤ). IsPast at c.in-Ok.judged.tuple) (sym (counted_at _ history c.args.now c.effective-now.result c.effective-now.ensures stands.latest_is))
-          (subst (IsPast (effective history c.args.now)) same past.1))) in
+          (subst (IsPast (effective history c.args.now)) same past.1))).0 in
           absurd (cc);
       counted = elim (rw c.judge.ensures.same at c.in-Ok-remember.ensures.heeds).counted [
         | inl e ↦ inl (c.advance-in-Ok-remember.ensures.refusals ∙ e)
