@@ -39,25 +39,26 @@ def is_left_by_ci(folder, name):
     return (left / f"{name}.rlib").exists() and not (left / "stamp").exists()
 
 
-def build_over_ci(folder, name):
+def build_over_ci(folder, name, cpu):
     crate, kit = edits.crates_of(str(folder))[name], Path(edits.KIT)
     out = folder / "crates" / name / "out"
     out.mkdir()
     words = crate.words("out/incremental")
     words[words.index("check")] = "build"
     words[words.index("--jobs") + 1] = str(os.cpu_count())
-    more = ["--toolchain", str(kit / "toolchain"), "--backend", "llvm", "-o", str(out / f"{name}.o")]
+    more = ["--toolchain", str(kit / "toolchain"), "--backend", "llvm", f"--cpu={cpu}", "-o",
+            str(out / f"{name}.o")]
     said(*words, *more, cwd=crate.folder)
     said("cc", out / f"{name}.o", kit / "c/libos_c.a", kit / "c/liblibc_c.a", "-o", out / name)
 
 
-def build(folder, name):
+def build(folder, name, cpu):
     crate = folder / "crates" / name
     if all(is_left_by_ci(folder, it) for it in edits.crates_of(str(folder))[name].below):
-        build_over_ci(folder, name)
+        build_over_ci(folder, name, cpu)
         return crate / "out" / name
     # without words it ends with 2
-    built = subprocess.run(["rt", "run"], cwd=crate, capture_output=True, text=True)
+    built = subprocess.run(["rt", "run", "--cpu", cpu], cwd=crate, capture_output=True, text=True)
     if not (crate / "out" / name).exists():
         sys.exit(f"{name} wasn't built: {(built.stdout + built.stderr)[-2000:]}")
     return crate / "out" / name
@@ -69,7 +70,7 @@ def crates_below(names):
     return {below for name in names if name in known for below in (*known[name].below, name)}
 
 
-def built(folder):
+def built(folder, cpu):
     """The paths of our programs, which are built in a repository of its own with copies of the crates below them, and
     of those in C."""
     (folder / "crates").mkdir()
@@ -86,7 +87,7 @@ def built(folder):
     said("cc", "-O2", "-o", folder / "mit_messages", HERE / "mit_messages.c", *flags)
     said("cc", "-O2", "-o", folder / "aes_blocks", HERE / "aes_blocks.c", "-lcrypto")
     in_c = {name: folder / name for name in ("mit_messages", "aes_blocks")}
-    return {**{name: build(folder, name) for name in PROGRAMS}, **in_c}
+    return {**{name: build(folder, name, cpu) for name in PROGRAMS}, **in_c}
 
 
 def cipher() -> Iterator[Row]:
@@ -190,7 +191,7 @@ def greatest(folder, program):
 
 def found(folder, bench, groups, has_times):
     """The numbers of the rows of these groups."""
-    bench.programs.update(built(folder))
+    bench.programs.update(built(folder, bench.cpu))
     if "greatest" in groups:
         greatest(folder, bench.programs["krb_bench"])
     rows = [row for of in (cipher, sealing, of_messages, requests) for row in of()] if "rattle" in groups else []

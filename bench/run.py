@@ -49,7 +49,7 @@ class Bench:
     """The programs over one build of the library, and what runs them."""
 
     def __init__(self, folder, cpu, top=TOP, made=None):
-        self.folder, self.made = Path(folder), made or builds.made_folder()
+        self.folder, self.cpu, self.made = Path(folder), cpu, made or builds.made_folder()
         archive = self.made / cpu / "libfevstunik.a"
         if not archive.exists():
             sys.exit(f"{archive} isn't there: run make")

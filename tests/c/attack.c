@@ -17,7 +17,7 @@ static void make(size_t limit, size_t limit_for_client)
     is("service", fevstunik_acceptor_new(&service, keytab.at, keytab.size, WEB, &options).code, FEVSTUNIK_OK);
 }
 
-/* At most 40 bytes for a request of known names, and 224 for the first of a client among few. (clients.c has many clients.) */
+/* At most 30 bytes for a request of known names, and 224 for the first of a client among few. (clients.c has many clients.) */
 static void sizes(long requests)
 {
     size_t before;
@@ -38,12 +38,28 @@ static void sizes(long requests)
         if (sent(&clients[0], &service, START + at / 1000 % 300, (uint32_t)(2 + at % 1000 + at / 300000 * 1000), START) != FEVSTUNIK_OK)
             is("a request", at, -1);
     is("remembered", (long long)fevstunik_acceptor_count(&service), requests + 3);
-    is("bytes for each", held - before <= 40 * (size_t)requests, 1);
+    is("bytes for each", held - before <= 30 * (size_t)requests, 1);
     is("all expire", sent(&clients[1], &service, START + 1000, 0, START + 1000), FEVSTUNIK_OK);
     is("one is left", (long long)fevstunik_acceptor_count(&service), 1);
     for (at = 0; at < requests / 10; at++)
         (void)sent(&clients[1], &service, START + 1000, (uint32_t)at + 1, START + 1000);
     is("what expired is freed", held - before <= 40 * (size_t)requests / 5, 1);
+}
+
+/* A few hundred requests of one client have room for an eighth more, and not for twice as many. */
+static void room(void)
+{
+    const long requests = 600;
+    size_t before;
+    long at;
+
+    make(0, 0);
+    is("the first", sent(&clients[0], &service, START, 0, START), FEVSTUNIK_OK);
+    before = held;
+    for (at = 1; at <= requests; at++)
+        if (sent(&clients[0], &service, START, (uint32_t)at, START) != FEVSTUNIK_OK)
+            is("a request of few", at, -1);
+    is("bytes for each of few", held - before <= 28 * (size_t)requests, 1);
 }
 
 /* How much the process held at most, in KiB, or 0. (What getrusage says includes the process that this one was forked from.) */
@@ -92,6 +108,7 @@ int main(int count, char **words)
     ready(&clients[1], words[3]);
     attack(atol(words[4]));
     sizes(atol(words[5]));
+    room();
     fevstunik_acceptor_free(&service);
     done_with(&clients[0]);
     done_with(&clients[1]);
