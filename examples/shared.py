@@ -4,7 +4,7 @@ let in is refused by the others. It answers lines of standard input as serve.py 
 
     examples/shared.py examples/service.keytab host/web@EX /run/web/stamps < requests
     examples/shared.py examples/service.keytab host/web@EX sqlite:/run/web/stamps < requests
-    examples/shared.py examples/service.keytab host/web@EX unix:///run/redis/redis.sock < requests
+    examples/shared.py examples/service.keytab host/web@EX unix://web:PASSWORD@/run/redis/redis.sock < requests
     examples/shared.py examples/service.keytab host/web@EX "dbname=web user=web" < requests
 
 If the store doesn't answer in time, nobody is let in: `refused STORE_FAILED -`. examples/service is such a service in

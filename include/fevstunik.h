@@ -53,7 +53,10 @@
  * rest of the buffer unchanged. If the buffer is too short, the code is FEVSTUNIK_SHORT_BUFFER,
  * `size` is the number of bytes needed, and the buffer is unchanged: make the call again with a
  * longer one. A buffer of size 0 asks for the number alone. fevstunik_request and
- * fevstunik_context_request keep what they made in the handle `pending` even then.
+ * fevstunik_context_request keep what they made in the handle `pending` even then. Two calls have
+ * decided even then, also with a buffer of size 0: after fevstunik_service_answer and
+ * fevstunik_login_settle, call fevstunik_login_answer with a longer buffer, and never the same call
+ * again.
  */
 #ifndef FEVSTUNIK_H
 #define FEVSTUNIK_H
@@ -1278,8 +1281,8 @@ void fevstunik_acceptor_free(fevstunik_acceptor *handle);
  *  - FEVSTUNIK_ASK_STORE, if the service shares a store of stamps (FEVSTUNIK_RESTART_SHARED): the
  *    client isn't let in yet, nothing of it can be read, and there are no bytes to send.
  *    fevstunik_login_stamp returns what to ask the store, and fevstunik_login_settle decides by its
- *    answer. Such a service returns FEVSTUNIK_OK from no other call, except for the last message of
- *    a client whose stamp the store has taken, and which shows its list of mechanisms by it.
+ *    answer. With such a service, this call returns FEVSTUNIK_OK only for the last message of a
+ *    client whose stamp the store has taken, and which shows its list of mechanisms by it.
  *  - Any other code but FEVSTUNIK_SHORT_BUFFER: the client isn't let in, and nothing of it can be
  *    read. The bytes are an error (KRB-ERROR) for a client that asks for a reply, else a
  *    negotiation's reject, if it is one; a reject, if the client hasn't shown its list of
@@ -1347,9 +1350,9 @@ fevstunik_answer fevstunik_login_answer(fevstunik_login *login, uint8_t *out, si
  * returned FEVSTUNIK_ASK_STORE. Writes the stamp of the request to the buffer: the service, the
  * client and the client's time as one string of bytes. Requests have the same stamp if and only if
  * they are of the same service, client and time. `keep_until` is the client's time plus twice the
- * service's skew, the last moment at which the store must still have the stamp. It is written even
- * if the buffer is too short. If another service with a larger skew uses the store, keep the stamp
- * longer, by twice the difference.
+ * service's skew, the last moment, by the store's clock, at which the store must still have the
+ * stamp. It is written even if the buffer is too short. If another service with a larger skew uses
+ * the store, keep the stamp longer, by twice the difference.
  *
  * The store adds the stamp unless it has it, in one step, and says whether it was new. If this call
  * fails, settle with FEVSTUNIK_SAID_FAILED. The login is unchanged. Nothing of the service is used:
@@ -1477,7 +1480,8 @@ fevstunik_answer fevstunik_request(fevstunik_cache *cache, fevstunik_pending *pe
  * checksum of type 0x8003 (RFC 4121, section 4.1.1), which says what `context` says. Its flag 2
  * (mutual) is set if and only if the request asks for a reply (`choice->wants_reply`), and its flag
  * 1 (delegation) is never set, whatever `context->flags` says. Such a request also needs a sequence
- * number (`choice->has_seq`). Pass the request to fevstunik_token_request.
+ * number (`choice->has_seq`): 30 random bits, say. The call doesn't check it. Pass the request to
+ * fevstunik_token_request.
  *
  * Returns FEVSTUNIK_OK or FEVSTUNIK_SHORT_BUFFER; or writes nothing, leaves `pending` unchanged,
  * and returns the first that applies: FEVSTUNIK_EMPTY_HANDLE if `cache` is empty;
@@ -1773,13 +1777,13 @@ fevstunik_answer fevstunik_messages_after_list(fevstunik_messages *messages, con
 
 /* Begins the service's messages to a client that was let in, as fevstunik_messages_new does.
  * `choice` and `subkey` are what the reply has: those of fevstunik_accepted_reply; or, after
- * fevstunik_service_answer, a choice with the type of the service's subkeys, and the random bytes
- * after the first 16 that were passed to fevstunik_service_answer, the same for each message of the
- * login: keep them until then, also over fevstunik_login_settle. If the client's list of mechanisms
- * was checked, the messages go on after the MICs of both sides. The choice and the subkey don't
- * count if the client asked for no reply: then both sides count from the client's first number, as
- * MIT krb5 does. With `any_order` repeats are refused still. `accepted` is unchanged. Begin the
- * messages of a login once.
+ * fevstunik_service_answer, a choice with the type of the service's subkeys and no number, and the
+ * random bytes after the first 16 that were passed to fevstunik_service_answer, the same for each
+ * message of the login: keep them until this call, also over fevstunik_login_settle. If the
+ * client's list of mechanisms was checked, the messages go on after the MICs of both sides. The
+ * choice and the subkey don't count if the client asked for no reply: then both sides count from
+ * the client's first number, as MIT krb5 does. With `any_order` repeats are refused still.
+ * `accepted` is unchanged. Begin the messages of a login once.
  *
  * Returns FEVSTUNIK_OK; or leaves the handle unchanged and returns the first that applies:
  * FEVSTUNIK_EMPTY_HANDLE or FEVSTUNIK_NOTHING_THERE (of `accepted`); for the client's subkey and

@@ -4,7 +4,7 @@ fevstunik.web.
 
     examples/negotiate/serve.py www.keytab HTTP/www.example.com@EXAMPLE.COM --port 8080
 
-    curl --negotiate -u : http://www.example.com:8080/        hello alice@EXAMPLE.COM
+    curl --negotiate -u : --resolve www.example.com:8080:127.0.0.1 http://www.example.com:8080/
 
 Until its clock and the client's are both later than its start by more than the skew, the service refuses requests
 (JUST_STARTED). --first leaves out the start, and the service accepts at once: docs/OPERATING.md, "Restarts", says when
@@ -19,7 +19,7 @@ from fevstunik.web import Negotiate, serve
 
 def hello(environ, start_response):
     start_response("200 OK", [("Content-Type", "text/plain; charset=utf-8"), ("Cache-Control", "no-store")])
-    return [f"hello {environ['REMOTE_USER']}\n".encode()]
+    return [f"hello {environ.get('REMOTE_USER', 'nobody')}\n".encode()]  # (a request OPTIONS has no user)
 
 
 def main() -> None:

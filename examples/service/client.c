@@ -3,12 +3,25 @@
  *
  *     client CACHE NAME PORT TEXT [twice]      NAME as host/web@EX; with `twice` it sends the same request again
  *
- * It prints `agreed as CLIENT` for each request, or `no receipt`, or `refused` if the service answers with anything but a reply. */
+ * It prints `agreed as CLIENT` for each request, or `no receipt`; or `refused` and why: the code of the service's KRB-ERROR, or what the library
+ * says of its answer. */
 #include "text.h"
+
+static void tell(const struct bytes *reply, unsigned code)
+{
+    uint8_t buffer[4096];
+    fevstunik_krb_error error;
+
+    if (code == FEVSTUNIK_REPLY_TYPE &&
+        fevstunik_krb_error_read(reply->at, reply->size, &error, buffer, sizeof buffer).code == FEVSTUNIK_OK)
+        printf("refused %d\n", (int)error.code);
+    else
+        printf("refused %s\n", fevstunik_code_name(code));
+}
 
 int main(int count, char **words)
 {
-    static struct bytes file, request, reply;
+    static struct bytes request, reply;
     fevstunik_cache cache = FEVSTUNIK_CACHE_INIT;
     fevstunik_pending pending = FEVSTUNIK_PENDING_INIT;
     uint8_t confounder[16], subkey[SUBKEY_SIZE], bytes[4096];
@@ -16,17 +29,23 @@ int main(int count, char **words)
     fevstunik_agreement agreement;
     fevstunik_answer answer;
     fevstunik_time at;
+    uint8_t *file;
+    size_t size;
     int times, peer;
 
     if (count != 5 && count != 6) {
         fputs("usage: client CACHE NAME PORT TEXT [twice]\n", stderr);
         return 2;
     }
-    read_file(words[1], &file);
+    file = whole_file(words[1], &size);
+    if (file == NULL)
+        give_up(words[1]);
     at = clock_now();
     draw(confounder, sizeof confounder);
     draw(subkey, sizeof subkey);
-    answer = fevstunik_cache_new(&cache, file.at, file.size);
+    answer = fevstunik_cache_new(&cache, file, size);
+    explicit_bzero(file, size);
+    free(file);
     if (answer.code == FEVSTUNIK_OK)
         answer = fevstunik_request(&cache, &pending, (const uint8_t *)words[2], strlen(words[2]), &at, confounder,
                                    sizeof confounder, &choice, subkey, sizeof subkey, request.at, sizeof request.at);
@@ -39,14 +58,18 @@ int main(int count, char **words)
         peer = connect_to(atoi(words[3]));
         if (!transmit(peer, request.at, answer.size) || !receive(peer, &reply))
             return 2;
-        if (fevstunik_finish(&pending, reply.at, reply.size, &agreement, bytes, sizeof bytes).code != FEVSTUNIK_OK)
-            printf("refused: %zu bytes of type %02x\n", reply.size, (unsigned)reply.at[0]);
+        fevstunik_answer agreed = fevstunik_finish(&pending, reply.at, reply.size, &agreement, bytes, sizeof bytes);
+
+        if (agreed.code != FEVSTUNIK_OK)
+            tell(&reply, agreed.code);
         else if (say(peer, words[4], &agreement, bytes, subkey))
             printf("agreed as %.*s\n", (int)agreement.client.size, (const char *)bytes + agreement.client.at);
         else
             printf("no receipt\n");
         close(peer);
     }
+    explicit_bzero(subkey, sizeof subkey);
+    explicit_bzero(bytes, sizeof bytes);
     fevstunik_pending_free(&pending);
     return 0;
 }

@@ -3,11 +3,11 @@
  *
  *     service KEYTAB NAME COUNT [first] [STORE [SECONDS]]      NAME as host/web@EX; it ends after so many connections
  *
- * STORE is what all processes of the service share, as sqlite:/run/web/stamps or redis:/run/redis/redis.sock: store.h says more. Without one,
+ * STORE is what all processes of the service share, as sqlite:/run/web/stamps, redis:/run/redis/redis.sock or redis:USER@HOST:PORT. Without one,
  * logins are refused at first, after each start; with one, only after the store was made. It has so many seconds to answer, 2 if they are left
  * out. `first` says that every key of the keytab is new: then there is no pause. docs/OPERATING.md, "Restarts", says why there is one.
  *
- * It prints its port, and then a line for each connection: `CLIENT: TEXT`, or `refused CODE`. */
+ * It prints its port, and then a line for each connection: `CLIENT: TEXT`, `refused CODE`, or `hung up`. */
 #include "store.h"
 #include "text.h"
 #include "threads.h"
@@ -93,10 +93,22 @@ static void serve(int peer)
         answer = decide(peer, &login, &input, random, sizeof random);
     if (answer.code == FEVSTUNIK_OK)
         hear(peer, &login.accepted, random + 16);
+    else if (answer.code == FEVSTUNIK_GO_ON)
+        printf("hung up\n");
     else
         printf("refused %s\n", fevstunik_code_name(answer.code));
     explicit_bzero(random, sizeof random);
     fevstunik_login_free(&login);
+}
+
+static void open_store(const char *name, int seconds)
+{
+    if (!store_open(&store, name, seconds))
+        exit(2);
+    if (store.made.largest_skew >= SKEW)
+        return;
+    refuse(name, "it was made for a smaller skew");
+    exit(2);
 }
 
 /* Takes the options after COUNT, and returns whether they are right. The start over a store is the moment at which it was made. */
@@ -108,9 +120,9 @@ static int take_options(char **words, int count)
     options.restarts = is_first ? FEVSTUNIK_RESTART_FIRST_LIFE : FEVSTUNIK_RESTART_STARTED;
     if (at == count)
         return 1;
-    if (count > at + 2 || !store_open(&store, words[at], count > at + 1 ? atoi(words[at + 1]) : 2) ||
-        store.made.largest_skew < SKEW)
+    if (count > at + 2)
         return 0;
+    open_store(words[at], count > at + 1 ? atoi(words[at + 1]) : 2);
     options.restarts = FEVSTUNIK_RESTART_SHARED;
     options.any_start = is_first;
     options.started = (fevstunik_time){0, 0};
@@ -126,7 +138,9 @@ int main(int count, char **words)
     signal(SIGPIPE, SIG_IGN);
     given = words;
     if (count < 4 || !take_options(words + 4, count - 4)) {
-        fputs("usage: service KEYTAB NAME COUNT [first] [sqlite:FILE | redis:SOCKET [SECONDS]]\n", stderr);
+        fputs(
+            "usage: service KEYTAB NAME COUNT [first] [sqlite:FILE | redis:SOCKET | redis:USER@HOST:PORT [SECONDS]]\n",
+            stderr);
         return 2;
     }
     load();

@@ -9,16 +9,6 @@
 #include "fevstunik.h"
 #include "wire.h"
 
-static inline void read_file(const char *name, struct bytes *bytes)
-{
-    FILE *file = fopen(name, "rb");
-
-    if (file == NULL)
-        give_up(name);
-    bytes->size = fread(bytes->at, 1, MOST, file);
-    fclose(file);
-}
-
 /* The bytes of a file of any size, which the caller overwrites and frees, or NULL. There is no other copy of them. */
 static inline uint8_t *whole_file(const char *name, size_t *size)
 {

@@ -69,6 +69,11 @@ static void close_file(void *connection)
 static void *open_file(const struct store *store, int64_t last, struct made *made)
 {
     struct file *file = calloc(1, sizeof *file);
+
+    if (file == NULL) {
+        refuse(store->where, "out of memory");
+        return NULL;
+    }
     struct place *place = &file->place;
 
     if (find_place(store->where, place) &&

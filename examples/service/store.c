@@ -13,7 +13,7 @@ bool store_open(struct store *store, const char *name, int seconds)
         if (strlen(kinds[at]->name) == size && strncmp(name, kinds[at]->name, size) == 0)
             store->kind = kinds[at];
     if (store->kind == NULL) {
-        fprintf(stderr, "%s: a store is named sqlite:PATH or redis:SOCKET\n", name);
+        fprintf(stderr, "%s: a store is named sqlite:PATH, redis:SOCKET or redis:USER@HOST:PORT\n", name);
         return false;
     }
     store->where = name + size + 1;

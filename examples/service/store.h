@@ -67,7 +67,8 @@ static inline bool refuse(const char *what, const char *why)
     return false;
 }
 
-/* Opens a store that is named by its kind and its place, as sqlite:/run/web/stamps or redis:/run/redis/redis.sock.
+/* Opens a store that is named by its kind and its place, as sqlite:/run/web/stamps, redis:/run/redis/redis.sock or
+ * redis:USER@HOST:PORT.
  * Returns whether that went well. */
 bool store_open(struct store *store, const char *name, int seconds);
 

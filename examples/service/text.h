@@ -36,8 +36,10 @@ static inline void take_text(int peer, const fevstunik_known *known, const uint8
     uint8_t plain[MOST], tag[24];
     fevstunik_answer opened, answer;
 
-    if (!receive(peer, &text))
+    if (!receive(peer, &text)) {
+        printf("no text\n");
         return;
+    }
     opened = fevstunik_open(SUBKEY_TYPE, subkey, SUBKEY_SIZE, TEXT_USAGE, text.at, text.size, plain, sizeof plain);
     answer = fevstunik_checksum(type, bytes + key.at, key.size, RECEIPT_USAGE, plain, opened.size, tag, sizeof tag);
     if (opened.code == FEVSTUNIK_OK && answer.code == FEVSTUNIK_OK && transmit(peer, tag, answer.size))
@@ -45,6 +47,7 @@ static inline void take_text(int peer, const fevstunik_known *known, const uint8
                (const char *)plain);
     else
         printf("a damaged text\n");
+    explicit_bzero(plain, sizeof plain);
 }
 
 static inline void hear(int peer, fevstunik_accepted *accepted, const uint8_t *subkey)
@@ -54,6 +57,8 @@ static inline void hear(int peer, fevstunik_accepted *accepted, const uint8_t *s
 
     if (fevstunik_accepted_known(accepted, &known, bytes, sizeof bytes).code == FEVSTUNIK_OK && known.wants_reply)
         take_text(peer, &known, bytes, subkey);
+    else
+        printf("no text\n");
     explicit_bzero(bytes, sizeof bytes);
 }
 

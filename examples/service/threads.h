@@ -12,6 +12,11 @@
 #define SECONDS 10
 #endif
 
+/* How many peers are served at the same time. More wait until others have ended. */
+#ifndef PEERS
+#define PEERS 200
+#endif
+
 static pthread_mutex_t one_at_a_time = PTHREAD_MUTEX_INITIALIZER, counting = PTHREAD_MUTEX_INITIALIZER;
 static pthread_cond_t counted = PTHREAD_COND_INITIALIZER;
 static int running;
@@ -36,6 +41,15 @@ static inline void count_threads(int more)
     pthread_mutex_unlock(&counting);
 }
 
+/* Waits until fewer than so many threads serve a peer. */
+static inline void wait_for_fewer(int most)
+{
+    pthread_mutex_lock(&counting);
+    while (running >= most)
+        pthread_cond_wait(&counted, &counting);
+    pthread_mutex_unlock(&counting);
+}
+
 static inline void *serve_one(void *peer)
 {
     limit_time(SECONDS);
@@ -44,6 +58,21 @@ static inline void *serve_one(void *peer)
     close((int)(intptr_t)peer);
     count_threads(-1);
     return NULL;
+}
+
+/* Serves a peer in a thread of its own. If there can be no more threads now, the connection is closed. */
+static inline void begin(int peer)
+{
+    pthread_t serving;
+
+    count_threads(1);
+    if (pthread_create(&serving, NULL, serve_one, (void *)(intptr_t)peer) == 0) {
+        pthread_detach(serving);
+        return;
+    }
+    fputs("there are too many threads: a connection is closed\n", stderr);
+    close(peer);
+    count_threads(-1);
 }
 
 static inline void *wait_for_hangups(void *hangup)
@@ -63,8 +92,8 @@ static inline void *wait_for_hangups(void *hangup)
 static inline void serve_each(int count, void (*serve)(int), void (*hung_up)(void))
 {
     static sigset_t hangup;
-    pthread_t waiting, serving;
-    int at, peer, listener;
+    pthread_t waiting;
+    int at, listener;
 
     serve_peer = serve;
     at_hangup = hung_up;
@@ -75,15 +104,10 @@ static inline void serve_each(int count, void (*serve)(int), void (*hung_up)(voi
         give_up("threads");
     listener = listen_on_any();
     for (at = 0; at < count; at++) {
-        peer = accept_from(listener);
-        count_threads(1);
-        if (pthread_create(&serving, NULL, serve_one, (void *)(intptr_t)peer) != 0 || pthread_detach(serving) != 0)
-            give_up("thread");
+        wait_for_fewer(PEERS);
+        begin(accept_from(listener));
     }
-    pthread_mutex_lock(&counting);
-    while (running > 0)
-        pthread_cond_wait(&counted, &counting);
-    pthread_mutex_unlock(&counting);
+    wait_for_fewer(1);
     pthread_cancel(waiting);
     pthread_join(waiting, NULL);
 }

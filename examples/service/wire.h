@@ -5,6 +5,7 @@
 #define WIRE_H
 
 #include <arpa/inet.h>
+#include <errno.h>
 #include <netinet/in.h>
 #include <poll.h>
 #include <stdint.h>
@@ -67,12 +68,16 @@ static inline int listen_on_any(void)
     return listener;
 }
 
+/* Takes the next connection. If there can be none now, as when too many files are open, it tries again a moment later. */
 static inline int accept_from(int listener)
 {
-    int peer = accept(listener, NULL, NULL);
+    int peer;
 
-    if (peer < 0)
-        give_up("accept");
+    while ((peer = accept(listener, NULL, NULL)) < 0) {
+        if (errno == EBADF || errno == EINVAL || errno == ENOTSOCK)
+            give_up("accept");
+        poll(NULL, 0, 100);
+    }
     return peer;
 }
 

@@ -215,13 +215,19 @@ static void log_in(struct end *end, fevstunik_cache *cache, const char *name)
 static int ask(char **words)
 {
     static struct end end;
-    static struct bytes file, token;
+    static struct bytes token;
     static char line[4096];
     fevstunik_cache cache = FEVSTUNIK_CACHE_INIT;
     fevstunik_span text;
 
-    read_file(words[2], &file);
-    needs("cache", fevstunik_cache_new(&cache, file.at, file.size));
+    size_t size;
+    uint8_t *file = whole_file(words[2], &size);
+
+    if (file == NULL)
+        give_up(words[2]);
+    needs("cache", fevstunik_cache_new(&cache, file, size));
+    explicit_bzero(file, size);
+    free(file);
     end.peer = connect_to(atoi(words[4]));
     log_in(&end, &cache, words[3]);
     fevstunik_cache_free(&cache);

@@ -44,6 +44,8 @@ def serve(keytab, name, first=None):
     login = service.answer(token)
     if not isinstance(login, Login):
         raise SystemExit(f"sign.py: {login}")
+    if login.service_subkey is None and login.subkey is None:
+        raise SystemExit("sign.py: there is no subkey, so recorded messages would be taken again")
     send(connection, login.reply)
     session, messages = token + login.reply, login.messages()
     messages.verify_mic(session, receive(connection))

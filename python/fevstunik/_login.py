@@ -414,7 +414,7 @@ class Service(Serving):
                  bindings_required: bool = False, anonymous: bool = False, realms: Iterable[str] | None = None,
                  subkey: int | None = None, store: Store | str | os.PathLike[str] | None = None,
                  any_name: bool = False) -> None:
-        asked = None if store is None else _store_of(store, fitting(skew, 32))
+        asked = None if store is None else store_of(store, fitting(skew, 32))
         if asked is not None and not first_life:
             started = _start_over(asked, skew, started)
         options = options_of(any_name, skew, started, first_life, (limit, limit_for_client), asked is not None)
@@ -537,7 +537,7 @@ class Service(Serving):
         return tuple(kvnos[1].get((asked.name, asked.etype), ()))
 
 
-def _store_of(store: Store | str | os.PathLike[str], skew: int) -> Store:
+def store_of(store: Store | str | os.PathLike[str], skew: int) -> Store:
     """The store that a service of this skew asks: a path stands for a file."""
     if isinstance(store, (str, os.PathLike)):
         from .stores import File

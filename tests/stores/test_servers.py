@@ -1,5 +1,6 @@
 """Stores in servers, Redis and PostgreSQL: what they keep, what is refused by name, and answers that come too late."""
 import contextlib
+import subprocess
 import time
 import uuid
 from concurrent.futures import ThreadPoolExecutor
@@ -13,6 +14,7 @@ from fevstunik.stores import PostgreSQL, Redis, Store, StoreFailed, UnsafeStore,
 
 from support import store_servers
 from support.forked import in_processes
+from support.kdc import free_port
 from support.patience import PATIENT, least_seconds
 from support.store_servers import Proxy
 
@@ -199,6 +201,23 @@ def test_no_server(server, tmp_path):
     with pytest.raises(StoreFailed):
         opened(server, where=server.where.replace(str(server.folder), str(tmp_path)))
     assert Path(server.folder).is_dir()
+
+
+def test_redis_over_tls(tmp_path):
+    """A certificate for another host is refused, and one of an authority that isn't trusted."""
+    server, port, cert, key = store_servers.Redis(), free_port(), tmp_path / "cert", tmp_path / "key"
+    subprocess.run(["openssl", "req", "-x509", "-newkey", "rsa:2048", "-nodes", "-subj", "/CN=localhost", "-addext",
+                    "subjectAltName=DNS:localhost", "-keyout", key, "-out", cert], check=True, capture_output=True)
+    files = f"tls-cert-file {cert}\ntls-key-file {key}\ntls-ca-cert-file {cert}\n"
+    try:
+        server.start(f"tls-port {port}\n{files}tls-auth-clients no\n")
+        store, stamp = Redis(f"rediss://localhost:{port}/0?ssl_ca_certs={cert}"), named()
+        assert store.add(stamp, LATER) and not store.add(stamp, LATER)
+        for wrong in f"127.0.0.1:{port}/0?ssl_ca_certs={cert}", f"localhost:{port}/0":
+            with pytest.raises(StoreFailed, match="(?i)certificate"):
+                Redis(f"rediss://{wrong}")
+    finally:
+        server.close()
 
 
 def test_the_user_of_redis():

@@ -5,7 +5,6 @@ A KDC of MIT krb5 issues the tickets, with session keys of type 19 and 20. In ea
 client's name, and a text and its receipt go under the subkeys of both; then the same request is sent again, and is
 refused. A service whose keytab has other keys refuses the first.
 """
-import re
 import subprocess
 
 from support import TOP, kdc, reference, tickets
@@ -78,11 +77,6 @@ def conversation(folder, realm, etype, client, service, keytab, more):
                 [[folder / programs[client][0], realm.folder / "alice.ccache", name, "a text", "twice"]], env)
 
 
-def refused(who, code):
-    """What a client says that is refused. Ours doesn't read the error."""
-    return r"refused: \d+ bytes of type 7e" if who == "our" else f"refused {code}"
-
-
 # A client and a service, and the type of the session key.
 PAIRS = [(client, service, etype) for client, service in (("MIT's", "our"), ("our", "MIT's")) for etype in SERVICES]
 
@@ -93,10 +87,10 @@ def check(folder, realm, client, service, etype, **more):
     lines, told = conversation(folder, realm, etype, client, service, "good", more)
     assert lines == [f"alice@{realm.name}: a text", f"refused {REPEAT[service]}"]
     agreed, last = told
-    assert agreed == f"agreed as alice@{realm.name}" and re.fullmatch(refused(client, 34), last), told
+    assert (agreed, last) == (f"agreed as alice@{realm.name}", "refused 34"), told
     lines, told = conversation(folder, realm, etype, client, service, "bent", more)
     assert lines == [f"refused {BENT_KEY[service]}"] * 2
-    assert len(told) == 2 and all(re.fullmatch(refused(client, 31), it) for it in told), told
+    assert told == ["refused 31"] * 2
 
 
 def session_types(realm):

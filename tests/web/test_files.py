@@ -6,7 +6,7 @@ from types import SimpleNamespace
 import pytest
 
 from fevstunik import Fault
-from fevstunik.stores import StoreFailed
+from fevstunik.stores import File, StoreFailed
 from fevstunik.web import Users, _files
 from support import fixture, web
 from support.forked import in_processes
@@ -147,6 +147,11 @@ def test_a_text_is_no_list(made, terms):
 def test_wrong_terms(made, terms):
     with pytest.raises((ValueError, TypeError, Fault)):
         made(**terms)
+
+
+def test_a_skew_above_the_stores(made, tmp_path):
+    with pytest.raises(ValueError, match="up to 300 seconds"):
+        made(store=File(tmp_path / "stamps"), skew=600)
 
 
 # ---------------------------------------------------------------- logs

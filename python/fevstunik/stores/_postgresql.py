@@ -39,7 +39,7 @@ INSERT INTO fevstunik_stamps VALUES (sha256(%s), %s) ON CONFLICT DO NOTHING
 
 
 class PostgreSQL(Connected[Any]):
-    """A store in a database of PostgreSQL. It needs the Python package psycopg2: ``fevstunik[postgresql]``.
+    """A store in a database of PostgreSQL. It needs the Python package psycopg2 (Debian's python3-psycopg2).
 
     where         the database, as libpq takes it: ``"dbname=web"``, ``"host=/run/postgresql dbname=web user=web"`` or
                   ``"postgresql://.."``

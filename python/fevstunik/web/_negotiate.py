@@ -5,7 +5,9 @@ import os
 from collections.abc import Iterable
 from typing import Any
 
-from ..stores import File, Store
+from .._library import fitting
+from .._login import store_of
+from ..stores import Store
 from . import _asgi, _wsgi
 from ._events import networks_of
 from ._files import Certificates, Path, content, keytab_for, realms_of
@@ -13,9 +15,6 @@ from ._gate import Gate, Terms
 from ._serving import Serving
 from ._sessions import Cookies, Sessions
 from ._users import Users
-
-# The skew for which the file of a store is made, unless the service has a larger one.
-_SKEW = 300
 
 
 class Negotiate:
@@ -77,7 +76,9 @@ class Negotiate:
                       networks_of(_listed("proxies", proxies)), token_limit, ("Retry-After", str(retry_after)))
         given: dict[str, Any] = {
             "skew": skew, "first_life": first_life, "limit": limit, "limit_for_client": limit_for_client,
-            "anonymous": users.anonymous, "realms": users.realms, "store": _opened(store, skew), "any_name": any_name}
+            "anonymous": users.anonymous, "realms": users.realms, "any_name": any_name,
+            # (a file is made here, and not at the first request: nobody is let in for a while after that)
+            "store": None if store is None else store_of(store, fitting(skew, 32))}
         # (wrong terms are found here, and not at the first request)
         Serving(path, data, service, {**given, "store": None}).close()
         cookies = None if sessions is None else Cookies(sessions, service or "", users)
@@ -121,13 +122,6 @@ class Negotiate:
         {}
         """
         return self._gate.events.so_far()
-
-
-def _opened(store: Store | Path | None, skew: int) -> Store | None:
-    """The store. A file is made here, and not at the first request: nobody is let in for a while after that."""
-    if isinstance(store, (str, os.PathLike)):
-        return File(store, skew if skew > _SKEW else None)
-    return store
 
 
 def _needs_bindings(bindings: str, certificates: Certificates) -> bool:
