@@ -348,7 +348,7 @@ def test_a_store_that_is_down(made, over, monkeypatch):
     assert ask(headers=authorized(negotiate(token()))).status == 200
 
 
-def test_the_loop_goes_on_while_a_store_is_asked(made, monkeypatch):
+def test_the_loop_goes_on_while_a_store_is_asked(made, monkeypatch, tmp_path):
     """Two requests that wait for each other are both answered."""
     both = threading.Barrier(2, timeout=300)
     monkeypatch.setattr(_gate.Gate, "decide", lambda self, request: (both.wait(), _gate.Passed(None))[1])
@@ -356,7 +356,7 @@ def test_the_loop_goes_on_while_a_store_is_asked(made, monkeypatch):
 
     async def app(scope, receive, send):
         seen.append(scope["path"])
-    inner = made(store=object()).asgi(app)
+    inner = made(store=tmp_path / "stamps").asgi(app)
 
     async def run():
         scopes = ({"type": "http", "method": "GET", "path": path, "headers": []} for path in "ab")
