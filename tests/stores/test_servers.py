@@ -1,5 +1,6 @@
 """Stores in servers, Redis and PostgreSQL: what they keep, what is refused by name, and answers that come too late."""
 import contextlib
+import os
 import subprocess
 import time
 import uuid
@@ -203,11 +204,21 @@ def test_no_server(server, tmp_path):
     assert Path(server.folder).is_dir()
 
 
-def test_redis_over_tls(tmp_path):
-    """A certificate for another host is refused, and one of an authority that isn't trusted."""
-    server, port, cert, key = store_servers.Redis(), free_port(), tmp_path / "cert", tmp_path / "key"
+def certificate(folder):
+    """The paths of a certificate for localhost, and of its key, which belongs to the folder's owner."""
+    cert, key, owner = folder / "cert", folder / "key", folder.stat()
     subprocess.run(["openssl", "req", "-x509", "-newkey", "rsa:2048", "-nodes", "-subj", "/CN=localhost", "-addext",
                     "subjectAltName=DNS:localhost", "-keyout", key, "-out", cert], check=True, capture_output=True)
+    os.chown(key, owner.st_uid, owner.st_gid)
+    return cert, key
+
+
+# A certificate for another host is refused, and one of an authority that isn't trusted.
+
+
+def test_redis_over_tls():
+    server, port = store_servers.Redis(), free_port()
+    cert, key = certificate(server.folder)
     files = f"tls-cert-file {cert}\ntls-key-file {key}\ntls-ca-cert-file {cert}\n"
     try:
         server.start(f"tls-port {port}\n{files}tls-auth-clients no\n")
@@ -216,6 +227,23 @@ def test_redis_over_tls(tmp_path):
         for wrong in f"127.0.0.1:{port}/0?ssl_ca_certs={cert}", f"localhost:{port}/0":
             with pytest.raises(StoreFailed, match="(?i)certificate"):
                 Redis(f"rediss://{wrong}")
+    finally:
+        server.close()
+
+
+def test_postgresql_over_tls():
+    server, port = store_servers.Postgres(), free_port()
+    try:
+        server.start()
+        server.kill()
+        cert, key = certificate(server.folder)
+        server.start(port, ssl="on", ssl_cert_file=cert, ssl_key_file=key, listen_addresses="127.0.0.1")
+        where = f"host=%s port={port} dbname=web user=web sslmode=verify-full sslrootcert=%s"
+        store, stamp = PostgreSQL(where % ("localhost", cert)), named()
+        assert store.add(stamp, LATER) and not store.add(stamp, LATER)
+        for wrong in ("127.0.0.1", cert), ("localhost", "/etc/ssl/certs/ca-certificates.crt"):
+            with pytest.raises(StoreFailed, match="(?i)certificate"):
+                PostgreSQL(where % wrong)
     finally:
         server.close()
 

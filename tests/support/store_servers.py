@@ -177,18 +177,18 @@ class Postgres(Server):
         if made.returncode:
             raise OSError(made.stderr)
 
-    def start(self):
+    def start(self, port=5432, **more):
         is_first = self.tools is None
         if is_first:
             self.make()
         settings = {"listen_addresses": "", "unix_socket_directories": self.folder, "shared_buffers": "16MB",
-                    "fsync": "on", "synchronous_commit": "on"}
+                    "fsync": "on", "synchronous_commit": "on", "port": port, **more}
         words = [self.tools / "postgres", "-D", self.folder / "data",
                  *(word for it in settings.items() for word in ("-c", "=".join(map(str, it))))]
         with open(self.folder / "log", "ab") as log:
             self.process = subprocess.Popen([str(it) for it in words], cwd=self.folder, stdout=log, stderr=log,
                                             **self.user)
-        wait_for(lambda: said([self.tools / "pg_isready", "-q", "-h", self.folder]).returncode == 0,
+        wait_for(lambda: said([self.tools / "pg_isready", "-q", "-h", self.folder, "-p", str(port)]).returncode == 0,
                  "postgres doesn't answer", self.process)
         if is_first:
             for it in statements():
