@@ -84,8 +84,8 @@ impl CCache {
     /// Finds a fault, and counts the credentials, before it allocates memory. Then allocates memory
     /// for their list at once, and for parts as they are read, never because of a count or a length
     /// that the bytes don't bear out. Beside each credential it keeps a hash of its server's name, of
-    /// 4 bytes. After the last credential it allocates the rest of an index by server, of 16 bytes
-    /// for each credential and 8 more, for `find_server`.
+    /// 4 bytes. After the last credential it allocates the rest of an index by server, of 8 bytes for
+    /// each credential and 4 more, for `find_server`.
     ///
     /// # Errors
     /// `OutOfMemory` if the bytes are a cache and there is no memory for it; else the first

@@ -16,10 +16,13 @@ use std::marker::Model;
 pub struct HashIndex {
     hashes: Vec<u32>,
     // The first place of each bucket. It is past the last place if there is none.
-    firsts: Vec<usize>,
+    firsts: Vec<u32>,
     // After each place, the next of its bucket. It is past the last place if there is none.
-    nexts: Vec<usize>,
+    nexts: Vec<u32>,
 }
+
+// The most hashes that an index has.
+const MOST: usize = 4_294_967_295;
 
 impl Model for HashIndex {
     ghost use Rattle.std.specs.Prelude.{ℕ, List};
@@ -35,13 +38,16 @@ impl Model for HashIndex {
 impl HashIndex {
     /// Makes the index of `hashes`.
     ///
-    /// Allocates 16 bytes for each hash, and 8 more.
+    /// Allocates 8 bytes for each hash, and 4 more.
     ///
     /// # Errors
-    /// There is no memory. The hashes are freed.
+    /// There is no memory, or there are more than 4,294,967,295 hashes. The hashes are freed.
     pub fn new(alloc: Global, hashes: Vec<u32>) -> Result<HashIndex, AllocError>
         ensures { IfOk result (λ index. index ≡ hashes.items) }
     {
+        if hashes.len() > MOST {
+            return Err(AllocError);
+        }
         let mut firsts = vec![in alloc; 0; hashes.len() + 1]?;
         let mut nexts = vec![in alloc; 0; hashes.len()]?;
         link(&hashes, firsts.as_mut_slice(), nexts.as_mut_slice());
@@ -67,7 +73,7 @@ impl HashIndex {
             if from <= at && self.hashes[at] == hash {
                 return Some(at);
             }
-            at = self.nexts[at];
+            at = self.nexts[at] as usize;
         }
         None
     }
@@ -90,7 +96,7 @@ impl HashIndex {
 
 // Returns a place of the bucket of `hash`, or one past the last. From the place `from` on, the
 // bucket has none before it.
-fn start(hashes: &[u32], firsts: &[usize], nexts: &[usize], hash: u32, from: usize) -> usize
+fn start(hashes: &[u32], firsts: &[u32], nexts: &[u32], hash: u32, from: usize) -> usize
     requires { IsIndex hashes.now firsts.now nexts.now }
     ensures skips { (k : ℕ) → from ≤ k → k < result → k < length hashes.now
         → bucket_at (length firsts.now) hashes.now k ≢ hash % length firsts.now }
@@ -101,23 +107,24 @@ fn start(hashes: &[u32], firsts: &[usize], nexts: &[usize], hash: u32, from: usi
 {
     let bucket = bucket_of(hash, firsts.len());
     if 0 < from && from <= hashes.len() && bucket_of(hashes[from - 1], firsts.len()) == bucket {
-        nexts[from - 1]
+        nexts[from - 1] as usize
     } else {
-        firsts[bucket]
+        firsts[bucket] as usize
     }
 }
 
 // Links the places of each bucket.
-fn link(hashes: &[u32], firsts: &mut [usize], nexts: &mut [usize])
+fn link(hashes: &[u32], firsts: &mut [u32], nexts: &mut [u32])
     requires some { 0 < length firsts.old }
+    requires most { length hashes.now < 2 ^ 32 }
     requires nexts { length nexts.old ≡ length hashes.now }
     ensures { IsLinkedFrom (length firsts.old) hashes.now 0 firsts.new nexts.new }
 {
-    firsts.fill(hashes.len());
+    firsts.fill(hashes.len() as u32);
     for at in (0..hashes.len()).rev() {
         let bucket = bucket_of(hashes[at], firsts.len());
         nexts[at] = firsts[bucket];
-        firsts[bucket] = at;
+        firsts[bucket] = at as u32;
     }
 }
 

@@ -38,10 +38,10 @@ impl<'a> Model for KeyIndex<'a> {
 impl<'a> KeyIndex<'a> {
     /// Makes the index of `entries`.
     ///
-    /// Allocates 20 bytes for each entry, and 8 more.
+    /// Allocates 12 bytes for each entry, and 4 more.
     ///
     /// # Errors
-    /// There is no memory.
+    /// There is no memory, or there are more than 4,294,967,295 entries.
     pub fn new(alloc: Global, entries: &'a [Entry]) -> Result<KeyIndex<'a>, AllocError>
         ensures { IfOk result (λ index. index ≡ entries.now) }
     {

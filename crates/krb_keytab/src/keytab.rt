@@ -52,7 +52,7 @@ impl Keytab {
     ///
     /// Allocates memory as entries are read, and never because of a count or a length that the
     /// bytes don't bear out. Beside each entry it keeps a hash of its name, of 4 bytes. After the last
-    /// entry it allocates the rest of an index by name, of 16 bytes for each entry and 8 more. A keytab
+    /// entry it allocates the rest of an index by name, of 8 bytes for each entry and 4 more. A keytab
     /// of at most 8 entries has no index.
     ///
     /// # Errors

@@ -30,9 +30,10 @@ pub trait Named {
 /// index.
 #[derive(Drop)]
 pub struct NamedList<T: Named + Drop> {
-    items: Vec<T>,
-    // Of the hashes of the names, in the same order. None if the list was made without.
+    // Of the hashes of the names, in the same order. None if the list was made without. It is freed
+    // first: memory that is freed may be overwritten, also what the items' room has left over.
     index: Option<HashIndex>,
+    items: Vec<T>,
 }
 
 impl<T: Named + Drop> Model for NamedList<T> {
@@ -53,7 +54,7 @@ impl<T: Named + Drop> NamedList<T> {
         ensures { result ≡ items.items }
     {
         let index = None;
-        NamedList { items, index }
+        NamedList { index, items }
     }
 
     /// Returns the items.
@@ -186,17 +187,17 @@ impl<T: Named + Drop> NamedListBuilder<T> {
         self.items.len()
     }
 
-    /// Makes the list of the items, with an index. The index takes 20 bytes for each item and 8 more,
+    /// Makes the list of the items, with an index. The index takes 12 bytes for each item and 4 more,
     /// and keeps the room of the hashes that isn't used.
     ///
     /// # Errors
-    /// There is no memory. The items are freed.
+    /// There is no memory, or there are more than 4,294,967,295 items. The items are freed.
     pub fn finish(self, alloc: Global) -> Result<NamedList<T>, AllocError>
         ensures { IfOk result (λ list. list ≡ self) }
     {
         let NamedListBuilder { items, hashes } = self;
         let index = Some(HashIndex::new(alloc, hashes)?);
-        Ok(NamedList { items, index })
+        Ok(NamedList { index, items })
     }
 
     /// Makes the list of the items, without an index. This is for few items. Allocates no memory.

@@ -1,5 +1,5 @@
 -- An index of hashes: each falls into a bucket, and the places of a bucket are linked, from first to last.
-use Rattle.std.specs.Prelude.{◌≡◌, ◌≢◌, ℕ, ◌+◌, ◌%◌, ◌<◌, ◌≤◌, List, length, slice_index}
+use Rattle.std.specs.Prelude.{◌≡◌, ◌≢◌, ℕ, ◌+◌, ◌%◌, ◌^◌, ◌<◌, ◌≤◌, List, length, slice_index}
 
 -- the bucket of the hash at a place, among so many
 abbrev pub bucket_at : ℕ → List ℕ → ℕ → ℕ
@@ -19,7 +19,8 @@ pub record IsLinkedFrom (count : ℕ) (hashes : List ℕ) (from : ℕ) (firsts n
   pub first : (bucket : ℕ) → bucket < count → LeadsTo count hashes bucket from (slice_index firsts bucket)
   pub next : (k : ℕ) → from ≤ k → k < length hashes → LeadsTo count hashes (bucket_at count hashes k) (k + 1) (slice_index nexts k)
 
--- the index leads to all hashes
+-- the index leads to all hashes, whose places have 32 bits
 pub record IsIndex (hashes firsts nexts : List ℕ) : Type 0 where
   pub some : 0 < length firsts
+  pub most : length hashes < 2 ^ 32
   pub linked : IsLinkedFrom (length firsts) hashes 0 firsts nexts
