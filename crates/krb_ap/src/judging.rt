@@ -13,11 +13,11 @@ use crate::inner_laws::facts;
 use crate::keys::is_usable;
 use crate::opened::{Opened, sent_at};
 use crate::opening::{
-    client, is_larger, is_of_type, is_same_client, read_authenticator, read_request, read_ticket,
+    client, is_larger, is_of_type, read_authenticator, read_request, read_ticket,
     require, service,
 };
 use crate::refusal::Refusal;
-use crate::times::{is_near, is_past, refusal_of_times};
+use crate::times::{is_near, is_past, is_same_client, refusal_of_times};
 use krb_keytab::{Entry, Keytab, Picked};
 use krb_msg::{ApReqRef, EncTicketRef, EncryptedRef, Moment, Principal, TicketRef};
 use krb_replay::{ReplayMemory, Skew, Tuple};

@@ -12,7 +12,7 @@
 //! used: the ticket's times, the quiet start of a service that was started again, and what was seen
 //! before. `specs/Taken` says what is accepted and what is then known. `specs/Causes` is the table of
 //! refusals, with the codes of `specs/ErrorCodes`. `specs/Answer` puts these together, for one call
-//! and for a list of calls. `specs/Service` says what the memory stands for and what its limits do,
+//! and for a list of calls. [`times`] has single conditions. `specs/Service` says what the memory stands for and what its limits do,
 //! and `specs/Counting` what they do in a list of calls.
 //!
 //! `specs/Once` says that no request is accepted twice. `specs/Undecided` is about calls that are
@@ -69,7 +69,7 @@ mod reply;
 mod request;
 mod session_keys;
 mod ticket_keys;
-mod times;
+pub mod times;
 
 pub use accepted::Accepted;
 pub use acceptor::Acceptor;

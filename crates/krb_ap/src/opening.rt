@@ -1,17 +1,17 @@
 //! The steps of opening a request, which `judging` puts in order.
 
 ghost use Rattle.std.specs.Prelude.{◌≡◌, ◌≢◌, ◌<◌, ◌↔◌, false, IfOk, IfErr, IsTrue, OnOk};
-ghost use Rattle.krb_ap.specs.Words.{Asks, IsKnown, IsMessage, Opens, SameClient, ap_req_of, authenticator, authenticator_of, enc_ticket_part, enc_ticket_part_of, name_size, part_client, profile_of, ticket_of, ticket_service};
+ghost use Rattle.krb_ap.specs.Words.{Asks, IsMessage, Opens, ap_req_of, authenticator, authenticator_of, enc_ticket_part, enc_ticket_part_of, name_size, part_client, profile_of, ticket_of, ticket_service};
 ghost use Rattle.krb_ap.specs.Causes.{BeginsOtherwise, place};
 ghost use Rattle.krb_ap.specs.Inner.Stages.{IsCauseOfBytes, IsNone, IsShut};
 ghost use Rattle.krb_ap.specs.declared.refusal.Refusal.TheVariants.{AuthenticatorIntegrity, OutOfMemory, Skew, TicketIntegrity};
 
 use crate::inner_laws::facts;
 use crate::refusal::Refusal;
-use krb_enc::etype::{AES128_CTS_HMAC_SHA256_128, AES256_CTS_HMAC_SHA384_192};
+use krb_enc::etype::is_known;
 use krb_enc::{OpenFault, UsageKey};
 use krb_msg::{
-    ApReqRef, AuthenticatorRef, EncTicketRef, EncryptedRef, KeyRef, NameRef, Principal, TicketRef,
+    ApReqRef, AuthenticatorRef, EncTicketRef, EncryptedRef, KeyRef, Principal, TicketRef,
     USE_SESSION_KEY, tag,
 };
 use std::alloc::{AllocError, Global};
@@ -43,7 +43,7 @@ pub(crate) fn read_request<'a>(bytes: &'a [u8]) -> Result<ApReqRef<'a>, Refusal>
     if request.options.has(USE_SESSION_KEY) {
         return Err(Refusal::UserToUser);
     }
-    if !is_known(&request.ticket.enc_part) {
+    if !is_known(request.ticket.enc_part.etype) {
         return Err(Refusal::TicketEtype);
     }
     Ok(request)
@@ -54,12 +54,6 @@ pub(crate) fn begins_otherwise(bytes: &[u8], tag: u8) -> bool
     ensures { IsTrue result ↔ BeginsOtherwise tag bytes.now }
 {
     bytes.first().is_some_and(|first| *first != tag)
-}
-
-fn is_known(sealed: &EncryptedRef) -> bool
-    ensures { IsTrue result ↔ IsKnown sealed.now.etype }
-{
-    sealed.etype == AES128_CTS_HMAC_SHA256_128 || sealed.etype == AES256_CTS_HMAC_SHA384_192
 }
 
 /// Whether the name of the service that a ticket is for is larger than `most`. It reads no more of
@@ -137,24 +131,4 @@ pub(crate) fn open_under(
         Err(OpenFault::Short) => Err(shut),
         Err(OpenFault::Integrity) => Err(shut),
     }
-}
-
-/// Whether a ticket and an authenticator name one client.
-pub(crate) fn is_same_client(part: &EncTicketRef, auth: &AuthenticatorRef) -> bool
-    ensures { IsTrue result ↔ SameClient (enc_ticket_part_of part.now) (authenticator_of auth.now) }
-{
-    part.crealm == auth.crealm && has_same_components(&part.cname, &auth.cname)
-}
-
-fn has_same_components(one: &NameRef, other: &NameRef) -> bool
-    ensures { IsTrue result ↔ (one.now.components ≡ other.now.components) }
-{
-    let mut others = other.components.iter();
-    for component in one.components.iter() {
-        match others.next() {
-            Some(text) if text == component => {}
-            _ => return false,
-        }
-    }
-    others.next().is_none()
 }

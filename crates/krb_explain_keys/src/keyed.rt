@@ -6,11 +6,10 @@ ghost use Rattle.krb_explain_keys.specs.Keyed.{AreJudgedLines, AreRequestLines, 
 
 use crate::causes::verdict_lines;
 use crate::sight::{Clock, seen_of};
-use crate::standing::start_of;
 use crate::verdict::verdict;
 use krb_explain::{date_line, explain_lines, page};
 use krb_keytab::Keytab;
-use krb_msg::Seconds;
+use krb_msg::{Moment, Seconds};
 use krb_readable::Text;
 use krb_replay::Skew;
 use std::alloc::{AllocError, Global};
@@ -69,7 +68,7 @@ fn request_lines(
 ) -> Result<Vec<Text>, AllocError>
     ensures { IfOk result (λ lines. AreRequestLines (new_service keytab skew) second request.now lines.items) }
 {
-    let now = start_of(second);
+    let now = Moment::start_of(second);
     let clock = Clock { now, skew };
     let seen = seen_of(alloc, request, &keytab, clock);
     let first = verdict(alloc, request, keytab, clock);

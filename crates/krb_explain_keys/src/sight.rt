@@ -18,10 +18,11 @@ use crate::choice::{choice_lines, pick_for};
 use crate::facts::facts;
 use crate::opening::{authenticator_text, has_usable_key, ticket_text};
 use crate::standing::{
-    AuthenticatorStanding, RequestStanding, TicketStanding, is_known, standing_of_authenticator,
+    AuthenticatorStanding, RequestStanding, TicketStanding, standing_of_authenticator,
     standing_of_request, standing_of_shut, standing_of_ticket,
 };
 use crate::ticket::ticket_lines;
+use krb_enc::etype::is_known;
 use krb_explain::{listed, type_text};
 use krb_keytab::{Entry, Keytab, Picked};
 use krb_msg::{ApReqRef, AuthenticatorRef, EncTicketRef, Moment, Principal, TicketRef};

@@ -20,7 +20,8 @@ use Rattle.krb_ccache.specs.Value.{Cache}
 use Rattle.krb_ccache.specs.declared.credential.Credential.{Credential}
 use Rattle.krb_ccache.specs.declared.fault.CacheFault.{CacheFault}
 use Rattle.krb_file_commands.specs.Engine.{OfFile}
-use Rattle.krb_file_commands.specs.Lines.{keytab_line, keytab_lines, credential_line, head_lines, cache_lines}
+use Rattle.krb_file_commands.specs.Lines.{keytab_line, keytab_lines, credential_line, cache_lines}
+use Rattle.krb_readable.specs.Readable.{head_lines}
 use Rattle.krb_file_commands.specs.Inner.Walk.{EntriesGiven, EntriesCounted, EntriesListed, CredentialsGiven, CredentialsCounted, CredentialsListed}
 use Rattle.krb_file.proofs.FileLaws.{gives_then, takes_file}
 

@@ -1,18 +1,16 @@
 -- The lines that the commands print. Each ends in the byte 10, and its words have the byte 32 between them.
-use Rattle.std.specs.Prelude.{List, [], ◌∷◌, ◌++◌, ℕ, ℤ, Bool, false, ◌&&◌, Option, Some, None, codes, if◌then◌else◌}
+use Rattle.std.specs.Prelude.{List, [], ◌∷◌, ◌++◌, ℕ, Bool, codes, if◌then◌else◌}
 use Rattle.std.specs.Int.{w32}
 use Rattle.std.specs.List.{flat_map}
-use Rattle.std.specs.Str.{bytes_eq}
 use Rattle.std.specs.Fmt.{decimal, signed_decimal}
 use Rattle.hex.specs.Hex.{encode_lower}
 use Rattle.krb_file.specs.Cursor.{number_bytes}
 use Rattle.krb_name.specs.Text.{text_of}
-use Rattle.krb_name.specs.declared.principal.Principal.{Principal}
 use Rattle.krb_keytab.specs.Entry.{KeytabEntry}
 use Rattle.krb_ccache.specs.Offset.{clock_offset}
 use Rattle.krb_ccache.specs.Value.{Cache}
 use Rattle.krb_ccache.specs.declared.credential.Credential.{Credential}
-use Rattle.krb_readable.specs.Readable.{cache_table, keytab_table}
+use Rattle.krb_readable.specs.Readable.{cache_table, head_lines, is_config, keytab_table}
 use Rattle.krb_file_commands.specs.declared.listing.CacheListing.{CacheListing}
 use Rattle.krb_file_commands.specs.declared.listing.CacheListing.TheVariants.{Lines, Table}
 
@@ -35,14 +33,6 @@ ok_line count = codes "ok " ++ (decimal count ++ 10 ∷ [])
 
 -- ---- list-ccache
 
-abbrev pub is_first : List ℕ → List (List ℕ) → Bool
-is_first text [] = false
-is_first text (first ∷ others) = bytes_eq first text
-
--- whether the credential is a configuration entry, by its server's realm and first component
-abbrev pub is_config : Credential → Bool
-is_config c = bytes_eq c.server.realm (codes "X-CACHECONF:") && is_first (codes "krb5_ccache_conf_data") c.server.components
-
 abbrev pub config_line : Credential → List ℕ
 config_line c = codes "config " ++ (text_of c.server ++ 10 ∷ [])
 
@@ -63,13 +53,8 @@ ticket_line c =
 abbrev pub credential_line : Credential → List ℕ
 credential_line c = if is_config c then config_line c else ticket_line c
 
--- the default principal, and the offset if there is one
-abbrev pub head_lines : Principal → Option (ℤ × ℤ) → List ℕ
-head_lines name None = codes "default " ++ (text_of name ++ 10 ∷ [])
-head_lines name (Some offset) =
-    codes "default " ++ (text_of name ++ (codes "\noffset " ++ (signed_decimal offset.0 ++ (32 ∷ (signed_decimal offset.1 ++ 10 ∷ [])))))
-
--- what list-ccache prints: these, with the KDC's clock offset that the header holds, and a line for each credential, in their order
+-- what list-ccache prints: the default principal, the KDC's clock offset if the header has one, and a line for each credential, in
+-- their order
 abbrev pub cache_lines : Cache → List ℕ
 cache_lines cache = head_lines cache.default_principal (clock_offset cache.header) ++ flat_map credential_line cache.credentials
 

@@ -1,9 +1,9 @@
 -- What words of the command line ask for.
-use Rattle.std.specs.Prelude.{◌≡◌, ◌<◌, ◌^◌, IfSome, ⊤, ℕ, ℤ, pos, List, [], ◌∷◌, Option, Some, None, codes, if◌then◌else◌}
+use Rattle.std.specs.Prelude.{◌≡◌, ◌<◌, ◌^◌, IfSome, ⊤, ℕ, ℤ, pos, List, [], ◌∷◌, Option, Some, None, codes}
 use Rattle.std.specs.Borrow.{Bor}
-use Rattle.std.specs.Str.{str_eq_ignore_ascii_case}
 use Rattle.std.specs.Str.Parse.{IsNumeral, digits_value, signed_digits_value, without_leading_plus, without_leading_sign}
-use Rattle.krb_readable.specs.Enctype.{registered}
+use Rattle.krb_readable.specs.Enctype.{enctype_called}
+use Rattle.krb_readable.specs.Named.{number_called}
 use Rattle.krb_command_line.specs.declared.command_line.CacheForm.{CacheForm}
 use Rattle.krb_command_line.specs.declared.command_line.CacheForm.TheVariants as asked
 use Rattle.krb_file_commands.specs.declared.listing.CacheListing.{CacheListing}
@@ -35,16 +35,8 @@ other_names =
     ∷ (pos 26, codes "camellia256-cts")
     ∷ []
 
--- the number that the first row with this name has; the case of letters is ignored
-abbrev pub number_called : List (ℤ × List ℕ) → List ℕ → Option ℤ
-number_called [] name = None
-number_called (row ∷ others) name = if str_eq_ignore_ascii_case row.1 name then Some row.0 else number_called others name
-
 unfoldable pub other_number : List ℕ → Option ℤ
 other_number name = number_called other_names name
-
-unfoldable pub registered_number : List ℕ → Option ℤ
-registered_number name = number_called registered name
 
 abbrev pub first_of : Option ℤ → Option ℤ → Option ℤ
 first_of (Some number) other = Some number
@@ -52,7 +44,7 @@ first_of None other = other
 
 -- the encryption type that has this name, in MIT krb5 or else in the registry
 abbrev pub etype_named : List ℕ → Option ℤ
-etype_named text = first_of (other_number text) (registered_number text)
+etype_named text = first_of (other_number text) (enctype_called text)
 
 -- the text writes the number in decimal, with or without a sign
 abbrev pub WritesInteger : List ℕ → ℤ → Type 0

@@ -1,13 +1,13 @@
 //! The lines of a keytab and of a cache, for programs.
 
-ghost use Rattle.std.specs.Prelude.{◌≡◌, ◌++◌, ◌∷◌, [], IfOk, OnOk, string_bytes};
-ghost use Rattle.krb_file_commands.specs.Lines.{keytab_line, keytab_lines, head_lines, cache_lines, credential_line, config_line, ticket_line, times_of, names_of};
+ghost use Rattle.std.specs.Prelude.{◌≡◌, ◌++◌, ◌∷◌, [], OnOk, string_bytes};
+ghost use Rattle.krb_file_commands.specs.Lines.{keytab_line, keytab_lines, cache_lines, credential_line, config_line, ticket_line, times_of, names_of};
 
 use crate::walk::{FromCredentials, FromEntries};
 use krb_ccache::{CCache, CacheFault, Credential, CredentialReader};
 use krb_file::Source;
 use krb_keytab::{Entry, EntryReader, KeytabFault};
-use krb_name::Principal;
+use krb_readable::head_lines;
 use std::alloc::{AllocError, Global};
 use std::fmt::Write;
 
@@ -57,22 +57,6 @@ impl FromCredentials for Lines {
             write_credential(alloc, &credential, &mut lines)?;
         }
         Ok(lines.into_bytes())
-    }
-}
-
-fn head_lines(
-    alloc: Global,
-    name: &Principal,
-    offset: Option<(i32, i32)>,
-) -> Result<String, AllocError>
-    ensures { IfOk result (λ lines. string_bytes lines ≡ head_lines name.now offset) }
-{
-    let name = name.to_text(alloc)?;
-    match offset {
-        Some((seconds, micros)) => {
-            format!(in alloc; "default {name}\noffset {seconds} {micros}\n")
-        }
-        None => format!(in alloc; "default {name}\n"),
     }
 }
 

@@ -1,6 +1,6 @@
 //! A name without its realm.
 
-ghost use Rattle.std.specs.Prelude.{refl, ◌≡◌, IfOk, map};
+ghost use Rattle.std.specs.Prelude.{refl, ◌≡◌, ◌↔◌, IfOk, IsTrue, map};
 ghost use Rattle.std.specs.Option.{option_map};
 ghost use Rattle.krb_der.specs.Writing.{EncodesValue};
 ghost use Rattle.krb_msg.specs.Borrowed.{name_of};
@@ -45,6 +45,20 @@ impl<'a> Element<'a> for NameRef<'a> {
 }
 
 impl<'a> NameRef<'a> {
+    /// Returns whether the names have the same components, byte for byte. Name types aren't compared (RFC 4120, section 6.2).
+    pub fn has_same_components(&self, other: &NameRef) -> bool
+        ensures { IsTrue result ↔ (self.now.components ≡ other.now.components) }
+    {
+        let mut others = other.components.iter();
+        for component in self.components.iter() {
+            match others.next() {
+                Some(text) if text == component => {}
+                _ => return false,
+            }
+        }
+        others.next().is_none()
+    }
+
     /// Copies the name.
     ///
     /// # Errors

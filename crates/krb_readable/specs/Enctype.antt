@@ -2,7 +2,7 @@
 -- sections 8 and 11).
 use Rattle.std.specs.Prelude.{ℕ, ℤ, pos, List, [], ◌∷◌, Option, Some, None, codes}
 use Rattle.std.specs.Fmt.{signed_decimal}
-use Rattle.krb_readable.specs.Named.{name_in, number_in}
+use Rattle.krb_readable.specs.Named.{name_in, number_called, number_in}
 
 -- the numbers that have a name
 abbrev pub registered : List (ℤ × List ℕ)
@@ -38,6 +38,10 @@ enctype_name etype = name_in registered etype
 -- the encryption type that has the name, if there is one
 unfoldable pub enctype_number : List ℕ → Option ℤ
 enctype_number name = number_in registered name
+
+-- the same; the case of letters is ignored
+unfoldable pub enctype_called : List ℕ → Option ℤ
+enctype_called name = number_called registered name
 
 abbrev pub name_or_number : ℤ → Option (List ℕ) → List ℕ
 name_or_number etype None = signed_decimal etype

@@ -45,7 +45,12 @@ pub fn readable_ccache(
     Ok(text)
 }
 
-fn head_lines(
+/// Returns the lines that come before the credentials of a cache: `default NAME`, and `offset SECONDS MICROSECONDS` if there is an
+/// offset of the KDC's clock.
+///
+/// # Errors
+/// `AllocError` if there is no memory for them.
+pub fn head_lines(
     alloc: Global,
     name: &Principal,
     offset: Option<(i32, i32)>,

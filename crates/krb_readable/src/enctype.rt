@@ -2,9 +2,9 @@
 
 ghost use Rattle.std.specs.Prelude.{◌≡◌, IfOk, string_bytes};
 ghost use Rattle.std.specs.Option.{option_map};
-ghost use Rattle.krb_readable.specs.Enctype.{enctype_name, enctype_number, enctype_text};
+ghost use Rattle.krb_readable.specs.Enctype.{enctype_called, enctype_name, enctype_number, enctype_text};
 
-use crate::named::{Named, name_in, number_in};
+use crate::named::{Named, name_in, number_called, number_in};
 use std::alloc::{AllocError, Global};
 
 // IANA's registry "Kerberos Encryption Type Numbers".
@@ -47,6 +47,14 @@ pub fn enctype_number(name: &str) -> Option<i32>
     ensures { result ≡ enctype_number name.now }
 {
     number_in(&REGISTERED, name)
+}
+
+/// Returns the encryption type that has this name in that registry if the case of letters is ignored, if there is one.
+#[tactic(auto, unfolding(crate::specs::Enctype::enctype_called))]
+pub fn enctype_called(name: &str) -> Option<i32>
+    ensures { result ≡ enctype_called name.now }
+{
+    number_called(&REGISTERED, name)
 }
 
 /// Returns the name of an encryption type, or its number in decimal if it has none.

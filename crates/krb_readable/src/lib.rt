@@ -8,8 +8,9 @@
 //! column, up to 256, and two spaces follow. The width of a cell is its number of Unicode scalar
 //! values. Each row ends in a line feed.
 //!
-//! [`enctype_name`] and [`enctype_number`] are the registry of encryption types, [`Named`] is a row of such a
-//! registry, and [`Text`] a text of a page: other crates that print for people use them too.
+//! [`enctype_name`], [`enctype_number`] and [`enctype_called`] are the registry of encryption types, [`Named`] is a
+//! row of such a registry, [`head_lines`] the first lines of a cache, and [`Text`] a text of a page: other crates that
+//! print for people use them too.
 //!
 //! ```rust
 //! let keytab = Keytab::read(alloc, &mut ReadSource::new(file))?;
@@ -33,8 +34,8 @@ mod table;
 mod text;
 mod time;
 
-pub use cache::readable_ccache;
-pub use enctype::{enctype_name, enctype_number};
+pub use cache::{head_lines, readable_ccache};
+pub use enctype::{enctype_called, enctype_name, enctype_number};
 pub use keytab::readable_keytab;
-pub use named::{Named, name_in, number_in};
+pub use named::{Named, name_in, number_called, number_in};
 pub use text::Text;

@@ -2,7 +2,7 @@
 
 ghost use Rattle.std.specs.Prelude.{◌≡◌, map};
 ghost use Rattle.std.specs.Option.{option_map};
-ghost use Rattle.krb_readable.specs.Named.{name_in, number_in, row_of};
+ghost use Rattle.krb_readable.specs.Named.{name_in, number_called, number_in, row_of};
 
 /// A row of a registry: a number, and its name.
 #[derive(Clone, Copy)]
@@ -26,6 +26,18 @@ pub fn number_in(registry: &[Named], name: &str) -> Option<i32>
 {
     for row in registry {
         if row.1 == name {
+            return Some(row.0);
+        }
+    }
+    None
+}
+
+/// Returns the number of the first row that has this name if the case of letters is ignored. `None` if there is no such row.
+pub fn number_called(registry: &[Named], name: &str) -> Option<i32>
+    ensures { result ≡ number_called (map row_of registry.now) name.now }
+{
+    for row in registry {
+        if row.1.eq_ignore_ascii_case(name) {
             return Some(row.0);
         }
     }

@@ -51,6 +51,15 @@ impl Moment {
         }
     }
 
+    /// Returns the first microsecond of a second.
+    pub fn start_of(second: Seconds) -> Moment
+        ensures { result ≡ micros_of second 0 }
+    {
+        Moment {
+            micros: 1_000_000 * second.get(),
+        }
+    }
+
     /// Returns the microseconds since 1970-01-01T00:00:00Z, which are negative before that.
     pub fn micros(self) -> i64
         ensures { result ≡ self }

@@ -1,7 +1,0 @@
-use Rattle.std.proofs.Common.{◌≡◌}
-use Rattle.std.specs.Prelude.{◌↔◌}
-use Rattle.krb_explain_keys.proofs.standing.has_same_components.Given as goal
-
--- what is left of both is the same exactly where the whole is
-abbrev pub invariant-loop-component : goal.invariant-loop-component
-invariant-loop-component l = (l.component-iterator ≡ l.others) ↔ (l.one.components ≡ l.other.components)
