@@ -124,8 +124,8 @@ def place_of(name: str, folder: str) -> str:
 
 
 def session_key(path: str) -> Key:
-    """The key in a file, which is made if it isn't there and systemd hands over none. A file that others may read
-    raises ValueError."""
+    """The key in a file, which is made if it isn't there, but not among what systemd hands over. A file that others may
+    read raises ValueError."""
     is_handed_over = os.path.dirname(os.path.abspath(path)) == os.environ.get(_HANDED_OVER)
     if not is_handed_over and not os.path.lexists(path):
         _make_key(path)
