@@ -7,7 +7,8 @@
  * logins are refused at first, after each start; with one, only after the store was made. It has so many seconds to answer, 2 if they are left
  * out. `first` says that every key of the keytab is new: then there is no pause. docs/OPERATING.md, "Restarts", says why there is one.
  *
- * It prints its port, and then a line for each connection: `CLIENT: TEXT`, `refused CODE`, or `hung up`. */
+ * It prints its port, and then a line for each connection: `CLIENT: TEXT`, `refused CODE, ticket for NAME`, `refused CODE` if the client sent
+ * no request, or `hung up`. */
 #include "store.h"
 #include "text.h"
 #include "threads.h"
@@ -80,6 +81,20 @@ static fevstunik_answer decide(int peer, fevstunik_login *login, const struct by
     return answer;
 }
 
+/* Prints why a client isn't let in, and which service its ticket is for. Nobody has sealed that name: it proves nothing. */
+static void print_refusal(fevstunik_login *login, uint32_t code)
+{
+    uint8_t bytes[1024];
+    fevstunik_asked asked;
+
+    /* (a name that is longer isn't printed) */
+    if (fevstunik_login_asked(login, &asked, bytes, sizeof bytes).code == FEVSTUNIK_OK)
+        printf("refused %s, ticket for %.*s\n", fevstunik_code_name(code), (int)asked.service.size,
+               (const char *)bytes + asked.service.at);
+    else
+        printf("refused %s\n", fevstunik_code_name(code));
+}
+
 static void serve(int peer)
 {
     struct bytes input;
@@ -96,7 +111,7 @@ static void serve(int peer)
     else if (answer.code == FEVSTUNIK_GO_ON)
         printf("hung up\n");
     else
-        printf("refused %s\n", fevstunik_code_name(answer.code));
+        print_refusal(&login, answer.code);
     explicit_bzero(random, sizeof random);
     fevstunik_login_free(&login);
 }

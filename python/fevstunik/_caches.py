@@ -67,9 +67,11 @@ class CacheError(Exception):
     def __init__(self, trouble: CacheTrouble, text: str) -> None:
         super().__init__(trouble, text)
         self.trouble = trouble
+        # what ends the text, if more is known where it is raised
+        self.hint = ""
 
     def __str__(self) -> str:
-        return f"{self.trouble.name}: {self.args[1]}"
+        return f"{self.trouble.name}: {self.args[1]}{self.hint}"
 
 
 def default_path() -> str:

@@ -133,7 +133,8 @@ def make_request(cache: CredentialCache, service: str, *, now: When | None = Non
     bindings     the bindings of such a client's channel, as ``b"tls-server-end-point:" + hash``, or None
 
     Raises Fault if no request can be built: NO_CREDENTIAL, NO_USABLE_KEY or CREDENTIAL_EXPIRED (no ticket fits),
-    BAD_TICKET or TOO_LONG.
+    BAD_TICKET or TOO_LONG. The text of NO_CREDENTIAL names the other realms in which the cache has a ticket for the
+    service.
 
     >>> from fevstunik import CredentialCache, make_request
     >>> with CredentialCache.read("examples/client.ccache") as cache:
@@ -154,6 +155,8 @@ def make_request(cache: CredentialCache, service: str, *, now: When | None = Non
             call, pending.pointer, name, len(name), byref(at), confounder, CONFOUNDER, *choice, *more, *into))
     except Fault as fault:
         fault.hint = _HINTS.get(fault.code, "").format(fit_for_a_line(service))
+        if fault.code == Code.NO_CREDENTIAL:
+            fault.hint += cache._in_other_realms(service, now)
         raise
     return request, Pending(pending, subkey, seq)
 

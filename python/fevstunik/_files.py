@@ -2,6 +2,8 @@
 from __future__ import annotations
 
 import os
+import re
+from collections.abc import Iterator
 from ctypes import byref
 from dataclasses import dataclass, field
 from types import TracebackType
@@ -18,6 +20,8 @@ from ._values import KEY_SIZES, Key, Moment, TicketFlags, When, check_name
 
 # How long a file may be. One byte more is read, so that the library sees that a longer file is too long.
 LIMIT = 16_777_216
+# A name and its realm (docs/FORMATS.md, "A principal as text").
+_WITH_REALM = re.compile(r"((?:[^@\\]|\\.)*)@(.*)")
 Item = TypeVar("Item")
 
 
@@ -317,21 +321,40 @@ class CredentialCache(Secret):
         >>> cache.ticket_for("host/web") is None
         True
         """
-        at = (Moment.now() if now is None else Moment.of(now)).seconds
         prefix = service if _has_realm(service) else f"{service}@"
-        found = [it for it in self.credentials if it.client == self.owner.name and not it.is_skey and it.endtime > at
-                 and (it.server == service
-                      or prefix != service and it.server.startswith(prefix) and it.server != prefix)]
+        found = [it for it in self._valid(now)
+                 if it.server == service or prefix != service and it.server.startswith(prefix) and it.server != prefix]
         return max(found, key=lambda it: it.endtime) if found else None
+
+    def _valid(self, now: When | None) -> Iterator[Credential]:
+        """The owner's tickets that haven't ended."""
+        at = (Moment.now() if now is None else Moment.of(now)).seconds
+        return (it for it in self.credentials if it.client == self.owner.name and not it.is_skey and it.endtime > at)
+
+    def _in_other_realms(self, service: str, now: When | None = None) -> str:
+        """What ends a text about a ticket that isn't there: the other realms in which the cache has one for the
+        service."""
+        parts = _WITH_REALM.fullmatch(service)
+        if parts is None:
+            return ""
+        name, realm = parts.groups()
+        found = {it.server.removeprefix(f"{name}@") for it in self._valid(now) if it.server.startswith(f"{name}@")}
+        others = ", ".join(sorted(found - {realm, ""}))
+        if not others:
+            return ""
+        return (f"; the realm {fit_for_a_line(realm)} was looked for, and the cache has a ticket for this service in "
+                f"{fit_for_a_line(others)}")
 
     def fetch(self, service: str, *, seconds: float = 30.0) -> CredentialCache:
         """Return a cache that has a ticket for a service: this one, or what its file holds after ``kvno`` or
         ``kgetcred`` got one.
 
-        service  the service's name, as ``HTTP/www.example.com``; the program finds the realm, if the name has none
+        service  the service's name, as ``HTTP/www.example.com``: if it has no realm, a ticket of any realm will do, and
+                 the program finds the realm
         seconds  how long the program may take. It is found by PATH, and run without a shell
 
-        Raises CacheError, and its `trouble` says why there is no ticket.
+        Raises CacheError, and its `trouble` says why there is no ticket. If the cache has one for the service in
+        another realm than that of the name, the text names both.
 
         >>> CredentialCache(open("examples/client.ccache", "rb").read()).fetch("host/mail@EX")
         Traceback (most recent call last):
@@ -340,17 +363,20 @@ class CredentialCache(Secret):
         """
         if self.ticket_for(service) is not None:
             return self
-        shown = fit_for_a_line(service)
-        if self._path is None:
-            raise CacheError(CacheTrouble.NO_PATH, f"the cache has no ticket for {shown}, and was made from bytes: "
-                                                   f"read it from its file")
-        get_ticket(self._path, service, seconds)
-        again = CredentialCache.read(self._path)
-        if again.ticket_for(service) is None:
-            raise CacheError(CacheTrouble.NO_TICKET, f"the cache at {fit_for_a_line(self._path)} has no ticket for "
-                                                     f"{shown} that is still "
-                             "valid, though one was got")
-        return again
+        shown, cache = fit_for_a_line(service), self
+        try:
+            if self._path is None:
+                raise CacheError(CacheTrouble.NO_PATH, f"the cache has no ticket for {shown}, and was made from bytes: "
+                                                       f"read it from its file")
+            get_ticket(self._path, service, seconds)
+            cache = CredentialCache.read(self._path)
+            if cache.ticket_for(service) is None:
+                raise CacheError(CacheTrouble.NO_TICKET, f"the cache at {fit_for_a_line(self._path)} has no ticket for "
+                                                         f"{shown} that is still valid, though one was got")
+        except CacheError as error:
+            error.hint = cache._in_other_realms(service)
+            raise
+        return cache
 
     @property
     def owner(self) -> Owner:

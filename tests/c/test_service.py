@@ -31,9 +31,9 @@ def room(archive, tmp_path_factory):
 
 
 @contextlib.contextmanager
-def serving(room, *words, program="service"):
+def serving(room, *words, program="service", name=SERVICE):
     pipe = subprocess.PIPE
-    service = subprocess.Popen([room / program, KEYTAB, SERVICE, *words], stdout=pipe, stderr=pipe, text=True)
+    service = subprocess.Popen([room / program, KEYTAB, name, *words], stdout=pipe, stderr=pipe, text=True)
     try:
         yield service, service.stdout.readline().strip()
     finally:
@@ -45,7 +45,8 @@ def test_started_again(room):
     """A service that may have run before is quiet at first."""
     with serving(room, "1") as (service, port):
         run(room / "client", room / "cache", SERVICE, port, "hello", timeout=SECONDS)
-        assert service.communicate(timeout=SECONDS)[0].splitlines() == ["refused FEVSTUNIK_JUST_STARTED"]
+        lines = service.communicate(timeout=SECONDS)[0].splitlines()
+        assert lines == ["refused FEVSTUNIK_JUST_STARTED, ticket for host/web@EX"]
 
 
 def test_exchange(room):
@@ -56,8 +57,21 @@ def test_exchange(room):
         again = run(room / "client", room / "cache", SERVICE, port, "hello again", timeout=SECONDS)
         assert set(again.stdout.splitlines()) == {"agreed as alice@EX"}
         lines = service.communicate(timeout=SECONDS)[0].splitlines()
-        assert lines == ["alice@EX: hello", "refused FEVSTUNIK_REPEAT", "alice@EX: hello again"]
+        assert lines == ["alice@EX: hello", "refused FEVSTUNIK_REPEAT, ticket for host/web@EX",
+                         "alice@EX: hello again"]
         assert service.returncode == 0
+
+
+def test_refusals_are_named(room):
+    """A line has the service that the ticket is for, also if it is another than the one that is served; and no name if
+    the client sent something else than a request."""
+    with serving(room, "2", "first", name="host/mail@EX") as (service, port):
+        ran = run(room / "client", room / "cache", SERVICE, port, "hello", timeout=SECONDS)
+        assert ran.stdout == "refused 35\n"
+        assert service.stdout.readline() == "refused FEVSTUNIK_NOT_US, ticket for host/web@EX\n"
+        with socket.create_connection(("127.0.0.1", int(port))) as peer:
+            peer.sendall(b"\0\0\0\5hello")
+            assert service.stdout.readline() == "refused FEVSTUNIK_NOT_A_TOKEN\n"
 
 
 def test_several_clients(room):

@@ -52,19 +52,35 @@ def test_the_configuration_names_what_systemd_hands_over():
     assert f'\nstore = "/run/{value("RuntimeDirectory")}/' in CONFIG.read_text()
 
 
-def test_the_command_serves(unpacked, tmp_path):
+def test_the_key_of_sessions_can_be_handed_over():
+    """The unit has the line, and web.toml and docs/WEB.md have the same name."""
+    (named,) = re.findall(r"^#(LoadCredential=([^:]+):.*)$", UNIT.read_text(), re.M)
+    assert re.search(r'^# key = .* "(.*)", if the unit hands it over$', CONFIG.read_text(), re.M)[1] == named[1]
+    text = " ".join((ROOT / "docs/WEB.md").read_text().split())
+    assert f"`{named[0]}`" in text and f'`key = "{named[1]}"`' in text and f"$CREDENTIALS_DIRECTORY/{named[1]}" in text
+    assert f"/dev/urandom > {named[0].partition(':')[2]})" in text
+
+
+@pytest.mark.parametrize("has_key", [False, True], ids=["plain", "with a key of sessions"])
+def test_the_command_serves(unpacked, tmp_path, has_key):
     """With the keytab where systemd puts it, on the socket that systemd passes, and in memory that is never both written and run."""
     config = CONFIG.read_text().replace("HTTP/www.example.com@EXAMPLE.COM", "host/web@EX")
     (tmp_path / "store").mkdir(mode=0o700)
-    (tmp_path / CONFIG.name).write_text(config.replace(f"/run/{value('RuntimeDirectory')}", str(tmp_path / "store")))
+    (tmp_path / CONFIG.name).write_text(config.replace(f"/run/{value('RuntimeDirectory')}", str(tmp_path / "store"))
+                                        + ('[sessions]\nkey = "session.key"\n' if has_key else ""))
     (tmp_path / "www.keytab").write_bytes(KEYTAB.read_bytes())
+    if has_key:
+        (tmp_path / "session.key").write_bytes(bytes(range(32)))
+        # (as of a file of root's that has a list of access)
+        (tmp_path / "session.key").chmod(0o440)
     words = shlex.split(value("ExecStart").replace("${CREDENTIALS_DIRECTORY}", str(tmp_path)))
     command = shlex.join(["/usr/bin/python3", "-c", DENY_WRITE_EXECUTE, *words])
     with socket.socket(socket.AF_UNIX) as listener:
         listener.bind(str(tmp_path / "socket"))
         listener.listen()
         script = f"exec 3<&{listener.fileno()}; LISTEN_FDS=1 LISTEN_PID=$$ exec {command}"
-        server = subprocess.Popen(["bash", "-c", script], env=unpacked.environment(), pass_fds=[listener.fileno()], stderr=subprocess.PIPE)
+        environment = {**unpacked.environment(), "CREDENTIALS_DIRECTORY": str(tmp_path)}
+        server = subprocess.Popen(["bash", "-c", script], env=environment, pass_fds=[listener.fileno()], stderr=subprocess.PIPE)
     try:
         with socket.socket(socket.AF_UNIX) as stream:
             stream.settimeout(300)

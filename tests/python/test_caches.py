@@ -5,7 +5,7 @@ import sys
 
 import pytest
 
-from fevstunik import CacheError, CacheTrouble, CredentialCache
+from fevstunik import CacheError, CacheTrouble, CredentialCache, Fault, make_request
 
 from support import fixture, http_service
 
@@ -105,6 +105,58 @@ def test_tickets():
             cache.ticket_for(name)
 
 
+# ---------------------------------------------------------------- realms
+
+# (an end that no run of the tests reaches)
+LATE = 4_000_000_000
+LOOKED_FOR = "; the realm EX was looked for, and the cache has a ticket for this service in "
+
+
+def cache_of(*realms, ends=LATE):
+    """Alice's cache with tickets for host/web of these realms, of which each ends a second before the one before it."""
+    client = fixture.principal(1, b"EX", b"alice")
+    tickets = (fixture.credential(client, fixture.principal(3, realm, b"host", b"web"), 19, fixture.SESSION_KEY,
+                                  (fixture.AUTHTIME, 0, ends - at, 0), fixture.ticket())
+               for at, realm in enumerate(realms))
+    return CredentialCache(b"\x05\x04\0\0" + client + b"".join(tickets))
+
+
+def test_a_name_without_a_realm():
+    """It stands for that of any realm, and the ticket that ends last is taken."""
+    assert cache_of(b"EY", b"EX").ticket_for("host/web").server == "host/web@EY"
+    assert cache_of(b"EX", b"EY").ticket_for("host/web").server == "host/web@EX"
+    cache = cache_of(b"EY")
+    assert cache.fetch("host/web") is cache
+
+
+@pytest.mark.parametrize("realms, named", [
+    ([b"EY"], "EY"), ([b"EZ", b"EY", b"EZ"], "EY, EZ"), ([b"E@Y"], "E\\@Y"), ([], ""), ([b""], "")], ids=str)
+def test_tickets_of_other_realms(realms, named):
+    """They are named if there is none of the realm that is looked for."""
+    cache, more = cache_of(*realms), f"{LOOKED_FOR}{named}" if named else ""
+    with pytest.raises(CacheError) as raised:
+        cache.fetch("host/web@EX")
+    assert str(raised.value).endswith(f"read it from its file{more}")
+    with pytest.raises(Fault, match="NO_CREDENTIAL") as raised:
+        make_request(cache, "host/web@EX")
+    assert str(raised.value).endswith(f"or by the cache's `fetch`{more}")
+
+
+def test_tickets_of_other_realms_that_have_ended():
+    cache = cache_of(b"EY", ends=fixture.ENDTIME)
+    for now, named in (NOW, True), (fixture.ENDTIME, False), (None, False):
+        with pytest.raises(Fault, match="NO_CREDENTIAL") as raised:
+            make_request(cache, "host/web@EX", now=now)
+        assert (LOOKED_FOR in str(raised.value)) == named
+
+
+def test_other_services_of_other_realms():
+    for name in ("host/we@EX", "host@EX", "host/web/@EX"):
+        with pytest.raises(CacheError) as raised:
+            cache_of(b"EY").fetch(name)
+        assert "the realm" not in str(raised.value)
+
+
 # ---------------------------------------------------------------- getting a ticket
 
 # A program that puts a new cache in place of the old one, and another that says why it can't.
@@ -154,6 +206,14 @@ def test_no_ticket_is_got(home, cache, monkeypatch, name, trouble, words):
     with pytest.raises(CacheError) as raised:
         cache.fetch("HTTP/localhost", seconds=0.5 if name == "waits" else 300)
     assert raised.value.trouble == CacheTrouble[trouble] and words in str(raised.value)
+
+
+def test_a_ticket_of_another_realm_is_got(home, cache, monkeypatch):
+    tool(home, monkeypatch, "kvno", TOOLS["gets"].replace("'HTTP/localhost'", "'HTTP/localhost@EY'"))
+    with pytest.raises(CacheError) as raised:
+        cache.fetch("HTTP/localhost@EY", seconds=300)
+    assert raised.value.trouble == CacheTrouble.NO_TICKET
+    assert str(raised.value).endswith(LOOKED_FOR.replace("EX", "EY") + "EX")
 
 
 @pytest.mark.parametrize("name, trouble", [("HTTP/localhost", "NO_PATH"), ("a@b@c", "BAD_SERVICE")])

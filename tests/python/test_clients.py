@@ -277,6 +277,12 @@ def test_no_ticket(made, service):
     assert not service.tokens
 
 
+def test_a_ticket_of_another_realm(made, service):
+    with fails(LoginTrouble.NO_TICKET, CacheError) as raised:
+        made(http_service.cache(), "HTTP/localhost@EY").ask(service.url)
+    assert "the realm EY was looked for, and the cache has a ticket for this service in EX" in str(raised.error)
+
+
 def test_the_default_cache(made, service, tmp_path, monkeypatch):
     monkeypatch.setenv("KRB5CCNAME", f"FILE:{tmp_path / 'cache'}")
     client = made(None)

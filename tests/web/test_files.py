@@ -135,6 +135,13 @@ def test_a_fork(made):
         assert asked(ask) == 200
 
 
+def test_each_process_has_its_own_usage(made):
+    gate = made(limit=9)
+    assert asked(web.by_wsgi(gate)) == 200
+    assert in_processes(1, lambda _: (gate.usage.remembered, gate.usage.limit, gate.latest)) == [(0, 9, None)]
+    assert gate.usage.remembered == 1 and gate.latest is not None
+
+
 @pytest.mark.parametrize("terms", [
     {"exempt": "/health"}, {"certificates": "a.pem"}, {"proxies": "127.0.0.1"}])
 def test_a_text_is_no_list(made, terms):

@@ -1,10 +1,11 @@
 """What each request is answered, over WSGI and ASGI, in this process."""
 import base64
+import queue
 import threading
 
 import pytest
 
-from fevstunik import Client, CredentialCache
+from fevstunik import Client, CredentialCache, Moment, Usage
 from fevstunik.stores import StoreFailed
 from fevstunik.web import _gate, _negotiate
 from support import gss_rules, web
@@ -176,6 +177,38 @@ def test_a_start(made, over):
 def test_a_full_memory(made, over):
     ask = over(made(limit=2, limit_for_client=1))
     assert [ask(headers=authorized(negotiate(token()))).status for _ in range(2)] == [200, 503]
+
+
+def test_usage_and_latest(made, over):
+    """They are those of the service, and are there before its first token."""
+    gate = made(limit=2, limit_for_client=1)
+    ask, before = over(gate), Moment.now()
+    assert ask().status == 401
+    assert (gate.usage, gate.latest) == (Usage(0, 0, 0, limit=2, limit_for_client=1, full=0), None)
+    assert [ask(headers=authorized(negotiate(token()))).status for _ in range(2)] == [200, 503]
+    assert (gate.usage.remembered, gate.usage.limit, gate.usage.limit_for_client, gate.usage.full) == (1, 2, 1, 1)
+    assert before <= gate.latest <= Moment.now()
+
+
+def test_usage_while_threads_log_in(made):
+    """Also while the first token makes the service: what is remembered never gets less."""
+    gate, seen = made(), []
+    ask, tokens = web.by_wsgi(gate), [authorized(negotiate(token())) for _ in range(40)]
+    statuses = queue.SimpleQueue()
+
+    def log_in(share):
+        for headers in share:
+            statuses.put(ask(headers=headers).status)
+
+    threads = [threading.Thread(target=log_in, args=(tokens[at::4],)) for at in range(4)]
+    for it in threads:
+        it.start()
+    while any(it.is_alive() for it in threads):
+        seen.append((gate.usage.remembered, gate.latest or Moment(0)))
+    for it in threads:
+        it.join()
+    assert [statuses.get() for _ in tokens] == [200] * 40 and gate.usage.remembered == 40
+    assert seen == sorted(seen)
 
 
 def test_two_rounds(made, over):

@@ -6,9 +6,9 @@ from types import SimpleNamespace
 
 import pytest
 
-from fevstunik.web import Sessions, Users, _sessions
+from fevstunik.web import Sessions, Users, _sessions, service
 
-from support import web
+from support import fixture, web
 from support.web import negotiate, token
 
 
@@ -131,6 +131,63 @@ def test_keys_that_are_refused(made, tmp_path, mode, size):
     key.chmod(mode)
     with pytest.raises(ValueError):
         made(sessions=Sessions(key=key))
+
+
+@pytest.fixture
+def handed_over(tmp_path, monkeypatch):
+    """The folder in which systemd puts what LoadCredential names."""
+    folder = tmp_path / "credentials"
+    folder.mkdir()
+    monkeypatch.setenv("CREDENTIALS_DIRECTORY", str(folder))
+    return folder
+
+
+def written(path, mode):
+    path.write_bytes(os.urandom(32))
+    path.chmod(mode)
+    return path
+
+
+@pytest.mark.parametrize("mode", [0o400, 0o440], ids=oct)
+def test_a_key_that_systemd_hands_over(made, over, handed_over, mode):
+    """The mode is 0400 if the file belongs to the service's user, as with systemd 252; and 0440 if it is root's and has
+    a list of access."""
+    key = written(handed_over / "session.key", mode)
+    one, other = (over(made(sessions=Sessions(key=key))) for _ in range(2))
+    assert with_cookie(other, cookie_of(logged_in(one))) == "alice@EX"
+
+
+@pytest.mark.parametrize("mode", [0o444, 0o460, 0o450, 0o404])
+def test_handed_over_keys_that_are_refused(made, handed_over, mode):
+    with pytest.raises(ValueError):
+        made(sessions=Sessions(key=written(handed_over / "session.key", mode)))
+
+
+def test_a_group_reads_no_other_key(made, handed_over, tmp_path):
+    with pytest.raises(ValueError):
+        made(sessions=Sessions(key=written(tmp_path / "session.key", 0o440)))
+
+
+def test_a_key_that_systemd_does_not_hand_over(made, handed_over):
+    """None is made there: each start would make another."""
+    with pytest.raises(FileNotFoundError, match="session.key"):
+        made(sessions=Sessions(key=handed_over / "session.key"))
+    assert list(handed_over.iterdir()) == []
+
+
+def test_the_service_takes_what_systemd_hands_over(made, over, handed_over, tmp_path, monkeypatch):
+    """By names without a folder, and before what lies beside the configuration."""
+    key, keytab = written(handed_over / "session.key", 0o440), handed_over / "www.keytab"
+    keytab.write_bytes(fixture.keytab())
+    written(tmp_path / "session.key", 0o600)
+    written(tmp_path / "www.keytab", 0o600)
+    (tmp_path / "web.toml").write_text(f'keytab = "www.keytab"\nservice = "{web.NAME}"\nfirst_life = true\n'
+                                       '[sessions]\nkey = "session.key"\n')
+    monkeypatch.setattr(service, "log", lambda level: None)
+    app = service.app(tmp_path / "web.toml")
+    cookie = cookie_of(logged_in(over(made(sessions=Sessions(key=key)))))
+    answer = web.by_wsgi(SimpleNamespace(wsgi=lambda _: app))(headers=[("Cookie", cookie)])
+    assert (answer.status, answer.one("Remote-User")) == (200, "alice@EX")
 
 
 def test_a_long_name_has_no_session(made, over):

@@ -22,6 +22,8 @@ _KEY_SIZE, _KEY_TYPE = 32, 20
 _TYPES = (19, 20)
 # How many keys a text names.
 _LISTED = 8
+# Where systemd puts the files that it hands over to a service (LoadCredential).
+_HANDED_OVER = "CREDENTIALS_DIRECTORY"
 
 
 class Watched:
@@ -114,14 +116,25 @@ def hash_of(data: bytes, path: str) -> bytes:
     return bindings_of(tls_server_end_point(ssl.PEM_cert_to_DER_cert((begin + first + end).decode("ascii", "replace"))))
 
 
+def place_of(name: str, folder: str) -> str:
+    """The path of a file that a configuration in a folder names: one that systemd hands over, or else in that
+    folder."""
+    path = os.path.join(os.environ.get(_HANDED_OVER, folder), name)
+    return path if os.path.exists(path) else os.path.join(folder, name)
+
+
 def session_key(path: str) -> Key:
-    """The key in a file, which is made if it isn't there. A file that others may read raises ValueError."""
-    if not os.path.lexists(path):
+    """The key in a file, which is made if it isn't there, but not among what systemd hands over. A file that others may
+    read raises ValueError."""
+    is_handed_over = os.path.dirname(os.path.abspath(path)) == os.environ.get(_HANDED_OVER)
+    if not is_handed_over and not os.path.lexists(path):
         _make_key(path)
     with open(path, "rb") as file:
         found = os.fstat(file.fileno())
         data = file.read(_KEY_SIZE + 1)
-    if not stat.S_ISREG(found.st_mode) or found.st_mode & 0o077 or found.st_uid not in (0, os.geteuid()):
+    # (systemd lets the service's user read by a list of access, which the mode shows as a right of the group)
+    others = 0o037 if is_handed_over else 0o077
+    if not stat.S_ISREG(found.st_mode) or found.st_mode & others or found.st_uid not in (0, os.geteuid()):
         raise ValueError(f"{path} has to be a file that only its owner may read: chmod 600 {path}")
     if len(data) != _KEY_SIZE:
         raise ValueError(f"{path} has to have {_KEY_SIZE} random bytes")

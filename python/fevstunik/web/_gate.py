@@ -102,6 +102,11 @@ class Gate:
         if self._cookies is not None:
             self._cookies.begin()
 
+    @property
+    def serving(self) -> Serving | None:
+        """The service of this process, or None before its first token."""
+        return self._serving
+
     def decide(self, request: Request) -> Passed | Answer:
         """Decide about a request. The decision is logged and counted."""
         found, event = self._decide(request)

@@ -7,6 +7,8 @@ from typing import Any
 
 from .._library import fitting
 from .._login import store_of
+from .._service import Usage
+from .._values import Moment
 from ..stores import Store
 from . import _asgi, _wsgi
 from ._events import networks_of
@@ -80,7 +82,9 @@ class Negotiate:
             # (a file is made here, and not at the first request: nobody is let in for a while after that)
             "store": None if store is None else store_of(store, fitting(skew, 32))}
         # (wrong terms are found here, and not at the first request)
-        Serving(path, data, service, {**given, "store": None}).close()
+        unused = Serving(path, data, service, {**given, "store": None})
+        self._unused = unused.usage
+        unused.close()
         cookies = None if sessions is None else Cookies(sessions, service or "", users)
         self._gate = Gate(lambda: Serving(path, data, service, given), terms, cookies)
         self._waits = store is not None
@@ -122,6 +126,29 @@ class Negotiate:
         {}
         """
         return self._gate.events.so_far()
+
+    @property
+    def usage(self) -> Usage:
+        """How much this process remembers, and the limits, as of a Service. Processes that share a store have a memory
+        each, too.
+
+        >>> from fevstunik.web import Negotiate
+        >>> Negotiate(keytab="examples/service.keytab", service="host/web@EX", limit=5000).usage
+        Usage(remembered=0, held=0, bytes=0, limit=5000, limit_for_client=500, full=0)
+        """
+        serving = self._gate.serving
+        return self._unused if serving is None else serving.usage
+
+    @property
+    def latest(self) -> Moment | None:
+        """The latest moment at which this process decided about a login, or None before the first one.
+
+        >>> from fevstunik.web import Negotiate
+        >>> print(Negotiate(keytab="examples/service.keytab", service="host/web@EX").latest)
+        None
+        """
+        serving = self._gate.serving
+        return None if serving is None else serving.latest
 
 
 def _needs_bindings(bindings: str, certificates: Certificates) -> bool:

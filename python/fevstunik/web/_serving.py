@@ -11,8 +11,9 @@ from typing import Any
 from .._codes import Code
 from .._errors import Fault
 from .._login import Connection, Login, Service
-from .._service import Refused
+from .._service import Refused, Usage
 from .._tokens import GoOn
+from .._values import Moment
 from ._files import Watched, keytab_for
 
 # How many clients may be between two rounds of a negotiation, and for how many seconds.
@@ -41,6 +42,14 @@ class Serving:
 
     def close(self) -> None:
         self._service.close()
+
+    @property
+    def usage(self) -> Usage:
+        return self._service.usage
+
+    @property
+    def latest(self) -> Moment | None:
+        return self._service.latest
 
     def answer(self, token: bytes, connection: Hashable) -> Login | GoOn | Refused:
         """Decide about a token. `connection` stands for the client's connection: the second round of a negotiation

@@ -7,7 +7,8 @@ Over gunicorn:
     gunicorn --bind unix:/run/fevstunik-web/socket 'fevstunik.web.service:app("/etc/fevstunik/web.toml")'
 
 The file is in TOML. Its names are those of the arguments of Negotiate, with tables for `users`, `sessions` and `store`.
-A keytab, and the key of sessions, without a leading ``/`` is sought beside it.
+A keytab, and the key of sessions, without a leading ``/`` is sought among the files that systemd hands over
+(LoadCredential), and else beside it.
 """
 from __future__ import annotations
 
@@ -20,7 +21,7 @@ from typing import Any
 from urllib.parse import quote
 
 from ..stores import PostgreSQL, Redis, SQLite, Store
-from ._files import Path
+from ._files import Path, place_of
 from ._lines import LogFile
 from ._negotiate import Negotiate
 from ._sessions import Sessions
@@ -46,7 +47,7 @@ def app(config: Path) -> App:
         given = tomllib.load(file)
     for table, name in ((given, "keytab"), (given.get("sessions"), "key")):
         if isinstance(table, dict) and isinstance(table.get(name), str):
-            table[name] = os.path.join(os.path.dirname(os.path.abspath(config)), table[name])
+            table[name] = place_of(table[name], os.path.dirname(os.path.abspath(config)))
     return negotiate_of(given).wsgi(_answer)
 
 
