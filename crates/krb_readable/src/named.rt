@@ -36,9 +36,9 @@ pub fn number_in(registry: &[Named], name: &str) -> Option<i32>
 pub fn number_called(registry: &[Named], name: &str) -> Option<i32>
     ensures { result ≡ number_called (map row_of registry.now) name.now }
 {
-    for row in registry {
-        if row.1.eq_ignore_ascii_case(name) {
-            return Some(row.0);
+    for known in registry {
+        if known.1.eq_ignore_ascii_case(name) {
+            return Some(known.0);
         }
     }
     None
