@@ -13,8 +13,7 @@ use crate::inner_laws::facts;
 use crate::keys::is_usable;
 use crate::opened::{Opened, sent_at};
 use crate::opening::{
-    client, is_larger, is_of_type, read_authenticator, read_request, read_ticket,
-    require, service,
+    client, is_larger, is_of_type, read_authenticator, read_request, read_ticket, require, service,
 };
 use crate::refusal::Refusal;
 use crate::times::{is_near, is_past, is_same_client, refusal_of_times};

@@ -1,15 +1,14 @@
 //! The steps of opening a request, which `judging` puts in order.
 
 ghost use Rattle.std.specs.Prelude.{◌≡◌, ◌≢◌, ◌<◌, ◌↔◌, false, IfOk, IfErr, IsTrue, OnOk};
-ghost use Rattle.krb_ap.specs.Words.{Asks, IsMessage, Opens, ap_req_of, authenticator, authenticator_of, enc_ticket_part, enc_ticket_part_of, name_size, part_client, profile_of, ticket_of, ticket_service};
+ghost use Rattle.krb_ap.specs.Words.{Asks, IsKnown, IsMessage, Opens, ap_req_of, authenticator, authenticator_of, enc_ticket_part, enc_ticket_part_of, name_size, part_client, profile_of, ticket_of, ticket_service};
 ghost use Rattle.krb_ap.specs.Causes.{BeginsOtherwise, place};
 ghost use Rattle.krb_ap.specs.Inner.Stages.{IsCauseOfBytes, IsNone, IsShut};
 ghost use Rattle.krb_ap.specs.declared.refusal.Refusal.TheVariants.{AuthenticatorIntegrity, OutOfMemory, Skew, TicketIntegrity};
 
 use crate::inner_laws::facts;
 use crate::refusal::Refusal;
-use krb_enc::etype::is_known;
-use krb_enc::{OpenFault, UsageKey};
+use krb_enc::{OpenFault, UsageKey, etype};
 use krb_msg::{
     ApReqRef, AuthenticatorRef, EncTicketRef, EncryptedRef, KeyRef, Principal, TicketRef,
     USE_SESSION_KEY, tag,
@@ -43,7 +42,7 @@ pub(crate) fn read_request<'a>(bytes: &'a [u8]) -> Result<ApReqRef<'a>, Refusal>
     if request.options.has(USE_SESSION_KEY) {
         return Err(Refusal::UserToUser);
     }
-    if !is_known(request.ticket.enc_part.etype) {
+    if !is_known(&request.ticket.enc_part) {
         return Err(Refusal::TicketEtype);
     }
     Ok(request)
@@ -54,6 +53,12 @@ pub(crate) fn begins_otherwise(bytes: &[u8], tag: u8) -> bool
     ensures { IsTrue result ↔ BeginsOtherwise tag bytes.now }
 {
     bytes.first().is_some_and(|first| *first != tag)
+}
+
+fn is_known(sealed: &EncryptedRef) -> bool
+    ensures { IsTrue result ↔ IsKnown sealed.now.etype }
+{
+    etype::is_known(sealed.etype)
 }
 
 /// Whether the name of the service that a ticket is for is larger than `most`. It reads no more of

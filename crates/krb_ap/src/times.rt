@@ -11,7 +11,8 @@ ghost use Rattle.krb_ap.specs.Inner.Stages.{IsOfTimes, TimesRefuse};
 use crate::opened::Opened;
 use crate::refusal::Refusal;
 use krb_msg::{
-    ApReqRef, AuthenticatorRef, EncTicketRef, INVALID, Moment, TRANSITED_POLICY_CHECKED, TypedListRef,
+    ApReqRef, AuthenticatorRef, EncTicketRef, INVALID, Moment, TRANSITED_POLICY_CHECKED,
+    TypedListRef,
 };
 use krb_replay::Skew;
 
