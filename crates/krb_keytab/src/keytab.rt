@@ -5,7 +5,7 @@ ghost use Rattle.krb_file.specs.Flow.{counted};
 ghost use Rattle.krb_keytab.specs.Entry.{KeytabEntry};
 ghost use Rattle.krb_keytab.specs.Fault.{offset_of, failed_reads};
 ghost use Rattle.krb_keytab.specs.Only.{KeepsOnly};
-ghost use Rattle.krb_keytab.specs.Pick.{IsPicked};
+ghost use Rattle.krb_keytab.specs.Pick.{IsPicked, IsPickedOfType};
 ghost use Rattle.krb_keytab.specs.Size.{HasSizesWithin, IsLargestSize};
 ghost use Rattle.krb_name.specs.Name.{SameName};
 ghost use Rattle.krb_file.specs.File.{file_limit, ReadsFile};
@@ -17,6 +17,7 @@ use crate::fault::KeytabFault;
 use crate::finding::find_entry;
 use crate::pick::{Picked, pick_entry};
 use crate::step::{VERSION, read_entries};
+use crate::usable::Counted;
 use crate::writing::put_record;
 use krb_file::{FILE_LIMIT, Feed, Slice, Source, Window};
 use krb_name::{NamedList, NamedListBuilder, Principal};
@@ -218,7 +219,17 @@ impl Keytab {
     pub fn pick(&self, name: &Principal, etype: i32, kvno: Option<u32>) -> Picked<'_>
         ensures { IsPicked self.now name.now etype kvno result }
     {
-        pick_entry(&self.entries, name, etype, kvno)
+        pick_entry(&self.entries, name, etype, kvno, Counted::Usable)
+    }
+
+    /// Picks as `pick` does, but counts entries of any encryption type, whatever the length of their
+    /// key.
+    ///
+    /// The key of such an entry need not be one that opens a ticket.
+    pub fn pick_of_type(&self, name: &Principal, etype: i32, kvno: Option<u32>) -> Picked<'_>
+        ensures { IsPickedOfType self.now name.now etype kvno result }
+    {
+        pick_entry(&self.entries, name, etype, kvno, Counted::Any)
     }
 }
 
