@@ -1,4 +1,4 @@
--- Which entry of a keytab is picked for a principal, an encryption type and a version number. `Usable` says which keys count.
+-- Which entry of a keytab is picked for a principal, an encryption type and a version number. `Usable` says which keys count as usable.
 use Rattle.std.specs.Prelude.{◌≡◌, ℕ, ◌<◌, ◌≤◌, ℤ, List, ◌∷◌, ◌++◌, Option, IfSome, All}
 use Rattle.krb_name.specs.declared.principal.Principal.{Principal}
 use Rattle.krb_name.specs.Name.{SameName}
@@ -50,14 +50,14 @@ IsChoiceBy Usable entries name etype kvno no_name = All (λ entry. ¬ SameName e
 IsChoiceBy Usable entries name etype kvno no_key = HasEntry (λ entry. SameName entry.principal name) entries × All (λ entry. ¬ IsKeyOf Usable name etype entry) entries
 IsChoiceBy Usable entries name etype kvno no_version = HasEntry (IsKeyOf Usable name etype) entries × All (λ entry. ¬ IsCandidate Usable name etype kvno entry) entries
 
--- only keys count that are ones of their encryption type
+-- what `pick` chooses: a key counts if it is one of its encryption type
 abbrev pub IsChoice : List KeytabEntry → Principal → ℤ → Option ℕ → Choice → Type 0
 IsChoice entries name etype kvno choice = IsChoiceBy IsUsable entries name etype kvno choice
 
--- any key counts, whatever its length
 abbrev pub IsAnyKey : KeytabEntry → Type 0
 IsAnyKey entry = Unit {0}
 
+-- what `pick_of_type` chooses: any key counts, whatever its length
 abbrev pub IsChoiceOfType : List KeytabEntry → Principal → ℤ → Option ℕ → Choice → Type 0
 IsChoiceOfType entries name etype kvno choice = IsChoiceBy IsAnyKey entries name etype kvno choice
 

@@ -222,10 +222,8 @@ impl Keytab {
         pick_entry(&self.entries, name, etype, kvno, Counted::Usable)
     }
 
-    /// Picks as `pick` does, but counts entries of any encryption type, whatever the length of their
-    /// key.
-    ///
-    /// The key of such an entry need not be one that opens a ticket.
+    /// Picks an entry as `pick` does, except that every key of the encryption type `etype` counts,
+    /// whatever its length. The type can be any, also one whose keys open no ticket.
     pub fn pick_of_type(&self, name: &Principal, etype: i32, kvno: Option<u32>) -> Picked<'_>
         ensures { IsPickedOfType self.now name.now etype kvno result }
     {

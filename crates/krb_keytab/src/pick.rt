@@ -18,7 +18,8 @@ pub enum Picked<'a> {
     Entry(&'a Entry),
     /// No entry has the name.
     NoName,
-    /// No entry of that name has the encryption type and a key that counts.
+    /// No entry of that name has the encryption type and, for `Keytab::pick`, a key that is usable
+    /// with it.
     NoKey,
     /// None of these entries has the requested version number.
     NoVersion,
