@@ -1,4 +1,4 @@
--- Which entry of a keytab is picked for a principal, an encryption type and a version number. `Usable` says which keys count as usable.
+-- Which entry of a keytab is picked for a principal, an encryption type and a version number.
 use Rattle.std.specs.Prelude.{◌≡◌, ℕ, ◌<◌, ◌≤◌, ℤ, List, ◌∷◌, ◌++◌, Option, IfSome, All}
 use Rattle.krb_name.specs.declared.principal.Principal.{Principal}
 use Rattle.krb_name.specs.Name.{SameName}
@@ -7,7 +7,7 @@ use Rattle.krb_keytab.specs.Usable.{IsUsable}
 use Rattle.krb_keytab.specs.declared.pick.Picked.{Picked}
 use Rattle.krb_keytab.specs.declared.pick.Picked.TheVariants.{Entry, NoName, NoKey, NoVersion}
 
--- a usable key of this name and encryption type
+-- a usable key of this name and encryption type, where `Usable` says which keys count as usable
 pub record IsKeyOf (Usable : KeytabEntry → Type 0) (name : Principal) (etype : ℤ) (entry : KeytabEntry) : Type 0 where
   pub same_name : SameName entry.principal name
   pub same_etype : entry.etype ≡ etype
