@@ -3,7 +3,6 @@ pub mod FileLaws
 pub mod ReadingLaws
 pub mod WalkLaws
 pub mod ConvertLaws
-pub mod OfTypeLaws
 pub mod PickLaws
 pub mod WholeLaws
 pub mod RemoveLaws

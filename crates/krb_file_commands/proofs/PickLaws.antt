@@ -3,14 +3,14 @@ use Rattle.std.proofs.Common.{◌≡◌, ℕ, ℤ, List, Option, Ok, Err, inl, i
 use Rattle.krb_name.specs.declared.principal.Principal.{Principal}
 use Rattle.krb_keytab.specs.Entry.{KeytabEntry}
 use Rattle.krb_keytab.specs.Format.{IsKeytab}
-use Rattle.krb_keytab.specs.Pick.{Choice, IsChoice, chosen, no_name, no_key, no_version}
+use Rattle.krb_keytab.proofs.ChoiceLaws.{one_choice}
+use Rattle.krb_keytab.specs.Pick.{Choice, IsAnyKey, IsChoice, chosen, no_name, no_key, no_version}
 use Rattle.krb_file_commands.specs.Picking.{AllowsUnpicked, IsChoiceOf, IsUnmet, IsUnpicked}
 use Rattle.krb_file_commands.specs.Status.{pick_reads}
 use Rattle.krb_file_commands.specs.declared.fault.PickFault.{PickFault}
 use Rattle.krb_file_commands.specs.declared.fault.PickFault.TheVariants.{Keytab, NoName, NoKey, NoVersion, OutOfMemory}
 use Rattle.krb_file_commands.specs.declared.pick.PickKey.{PickKey}
 use Rattle.krb_file_commands.proofs.FaultLaws.{no_ok, same_ok}
-use Rattle.krb_file_commands.proofs.OfTypeLaws.{never_none}
 use Rattle.krb_file_commands.proofs.ReadingLaws.{KeytabsHaveOne}
 
 abbrev pub ChoicesAreOne : Type 0
@@ -22,7 +22,7 @@ same_choice : ChoicesAreOne → (wanted : PickKey) (entries : List KeytabEntry) 
 same_choice law wanted entries entry choice (inl picked) (inl wants) never = never entry (law entries wanted.name wanted.etype wanted.kvno choice (chosen entry) wants.1 picked.1)
 same_choice law wanted entries entry choice (inl picked) (inr wants) never = wants.0 picked.0
 same_choice law wanted entries entry choice (inr picked) (inl wants) never = picked.0 wants.0
-same_choice law wanted entries entry choice (inr picked) (inr wants) never = never_none entries wanted.name wanted.etype wanted.kvno entry choice picked.1 wants.1 never
+same_choice law wanted entries entry choice (inr picked) (inr wants) never = never entry (one_choice IsAnyKey entries wanted.name wanted.etype wanted.kvno choice (chosen entry) wants.1 picked.1)
 
 -- if an entry is picked, this isn't the choice
 never_picked : KeytabsHaveOne → ChoicesAreOne → (wanted : PickKey) (given : List ℕ) (entries : List KeytabEntry) (entry : KeytabEntry) → IsKeytab given entries → IsChoiceOf wanted entries (chosen entry)

@@ -11,6 +11,7 @@ use Rattle.std.proofs.lemmas.List.Elements.{All-nil}
 use Rattle.krb_name.specs.declared.principal.Principal.{Principal}
 use Rattle.krb_name.specs.Name.{SameName}
 use Rattle.krb_keytab.specs.Entry.{KeytabEntry}
+use Rattle.krb_keytab.specs.Usable.{IsUsable}
 use Rattle.krb_keytab.specs.Pick.{IsKeyOf, IsCandidate, IsChoice, Choice, chosen, no_name}
 use Rattle.krb_keytab.specs.Inner.Pick.{or_no_key, or_no_version}
 use Rattle.krb_keytab.proofs.PickLaws.{other_name, name_without_key, key_without_version, chosen_more, replaced}
@@ -31,7 +32,7 @@ name_decided one other =
       | inr differ ↦ inr (λ h. differ (h.realm, h.components))
     ]
 
-key_decided : (name : Principal) (etype : ℤ) (e : KeytabEntry) → SameName e.principal name → IsKeyOf name etype e ⊎ (IsKeyOf name etype e → ⊥)
+key_decided : (name : Principal) (etype : ℤ) (e : KeytabEntry) → SameName e.principal name → IsKeyOf IsUsable name etype e ⊎ (IsKeyOf IsUsable name etype e → ⊥)
 key_decided name etype e same =
     let short = Decides-and _ _ (Decides-int_eq e.etype (pos 19)) (Decides-eqb (length e.key) 16) in
     let long = Decides-and _ _ (Decides-int_eq e.etype (pos 20)) (Decides-eqb (length e.key) 32) in
@@ -46,26 +47,26 @@ version_decided (Some number) e = cases_eq e.kvno number
 
 -- ---- a choice where one entry more is there
 
-unfoldable better : (entries : List KeytabEntry) (name : Principal) (etype : ℤ) (kvno : Option ℕ) (e : KeytabEntry) (choice : Choice) → IsCandidate name etype kvno e → IsChoice entries name etype kvno choice
+unfoldable better : (entries : List KeytabEntry) (name : Principal) (etype : ℤ) (kvno : Option ℕ) (e : KeytabEntry) (choice : Choice) → IsCandidate IsUsable name etype kvno e → IsChoice entries name etype kvno choice
     → (more : Choice) × IsChoice (entries ++ e ∷ []) name etype kvno more
 better entries name etype kvno e (chosen best) candidate h =
     elim (cases_lt best.kvno e.kvno) [
-      | inl below ↦ (chosen e, replaced entries name etype kvno e (chosen best) candidate below h)
-      | inr least ↦ (chosen best, chosen_more entries name etype kvno best e h (λ _. least))
+      | inl below ↦ (chosen e, replaced IsUsable entries name etype kvno e (chosen best) candidate below h)
+      | inr least ↦ (chosen best, chosen_more IsUsable entries name etype kvno best e h (λ _. least))
     ]
-better entries name etype kvno e choice candidate h = (chosen e, replaced entries name etype kvno e choice candidate tt h)
+better entries name etype kvno e choice candidate h = (chosen e, replaced IsUsable entries name etype kvno e choice candidate tt h)
 
 one_entry_more : (entries : List KeytabEntry) (name : Principal) (etype : ℤ) (kvno : Option ℕ) (e : KeytabEntry) (choice : Choice) → IsChoice entries name etype kvno choice
     → (more : Choice) × IsChoice (entries ++ e ∷ []) name etype kvno more
 one_entry_more entries name etype kvno e choice h =
     elim (name_decided e.principal name) [
-      | inr other ↦ (choice, other_name entries name etype kvno e choice other h)
+      | inr other ↦ (choice, other_name IsUsable entries name etype kvno e choice other h)
       | inl same ↦
           elim (key_decided name etype e same) [
-            | inr none ↦ (or_no_key choice, name_without_key entries name etype kvno e choice same none h)
+            | inr none ↦ (or_no_key choice, name_without_key IsUsable entries name etype kvno e choice same none h)
             | inl key ↦
                 elim (version_decided kvno e) [
-                  | inr none ↦ (or_no_version choice, key_without_version entries name etype kvno e choice key (λ candidate. none candidate.version) h)
+                  | inr none ↦ (or_no_version choice, key_without_version IsUsable entries name etype kvno e choice key (λ candidate. none candidate.version) h)
                   | inl version ↦ better entries name etype kvno e choice (record { key_of = key; version = version }) h
                 ]
           ]

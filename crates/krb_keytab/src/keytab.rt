@@ -5,7 +5,7 @@ ghost use Rattle.krb_file.specs.Flow.{counted};
 ghost use Rattle.krb_keytab.specs.Entry.{KeytabEntry};
 ghost use Rattle.krb_keytab.specs.Fault.{offset_of, failed_reads};
 ghost use Rattle.krb_keytab.specs.Only.{KeepsOnly};
-ghost use Rattle.krb_keytab.specs.Pick.{IsPicked};
+ghost use Rattle.krb_keytab.specs.Pick.{IsPicked, IsPickedOfType};
 ghost use Rattle.krb_keytab.specs.Size.{HasSizesWithin, IsLargestSize};
 ghost use Rattle.krb_name.specs.Name.{SameName};
 ghost use Rattle.krb_file.specs.File.{file_limit, ReadsFile};
@@ -17,6 +17,7 @@ use crate::fault::KeytabFault;
 use crate::finding::find_entry;
 use crate::pick::{Picked, pick_entry};
 use crate::step::{VERSION, read_entries};
+use crate::usable::Counted;
 use crate::writing::put_record;
 use krb_file::{FILE_LIMIT, Feed, Slice, Source, Window};
 use krb_name::{NamedList, NamedListBuilder, Principal};
@@ -218,7 +219,15 @@ impl Keytab {
     pub fn pick(&self, name: &Principal, etype: i32, kvno: Option<u32>) -> Picked<'_>
         ensures { IsPicked self.now name.now etype kvno result }
     {
-        pick_entry(&self.entries, name, etype, kvno)
+        pick_entry(&self.entries, name, etype, kvno, Counted::Usable)
+    }
+
+    /// Picks an entry as `pick` does, except that every key of the encryption type `etype` counts,
+    /// whatever its length. The type can be any, also one whose keys open no ticket.
+    pub fn pick_of_type(&self, name: &Principal, etype: i32, kvno: Option<u32>) -> Picked<'_>
+        ensures { IsPickedOfType self.now name.now etype kvno result }
+    {
+        pick_entry(&self.entries, name, etype, kvno, Counted::Any)
     }
 }
 

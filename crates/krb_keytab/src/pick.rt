@@ -4,10 +4,11 @@ ghost use Rattle.std.specs.Prelude.{◌≡◌, ◌∷◌, ◌++◌, [], List};
 ghost use Rattle.krb_name.specs.declared.principal.Principal.{Principal as PrincipalValue};
 ghost use Rattle.krb_name.specs.Name.{SameName};
 ghost use Rattle.krb_keytab.specs.Entry.{KeytabEntry};
-ghost use Rattle.krb_keytab.specs.Pick.{IsPicked};
+ghost use Rattle.krb_keytab.specs.Inner.Pick.{Counts};
+ghost use Rattle.krb_keytab.specs.Pick.{IsChoiceBy, choice_of};
 
 use crate::entry::Entry;
-use crate::usable::{has_version, is_key};
+use crate::usable::{Counted, has_version, is_key};
 use krb_name::{NamedList, Principal, SoughtName};
 
 /// What a keytab has for a principal, an encryption type and a version number.
@@ -17,23 +18,31 @@ pub enum Picked<'a> {
     Entry(&'a Entry),
     /// No entry has the name.
     NoName,
-    /// No entry of that name has the encryption type and a key that is usable with it.
+    /// No entry of that name has the encryption type and, for `Keytab::pick`, a key that is usable
+    /// with it.
     NoKey,
     /// None of these entries has the requested version number.
     NoVersion,
 }
 
 impl<'a> Picked<'a> {
-    ghost use Rattle.krb_keytab.specs.Pick.{IsPicked, choice_of};
-    ghost use Rattle.krb_keytab.specs.Inner.Pick.{or_no_key, or_no_version};
+    ghost use Rattle.krb_keytab.specs.Pick.{IsChoiceBy, choice_of};
+    ghost use Rattle.krb_keytab.specs.Inner.Pick.{Counts, or_no_key, or_no_version};
 
     // What is picked if there is one more entry of the name.
-    pub(crate) fn or_entry(self, entry: &'a Entry, etype: i32, kvno: Option<u32>) -> Picked<'a>
+    pub(crate) fn or_entry(
+        self,
+        entry: &'a Entry,
+        etype: i32,
+        kvno: Option<u32>,
+        counted: Counted,
+    ) -> Picked<'a>
         ensures { (entries : List KeytabEntry) (name : PrincipalValue)
-            → SameName entry.now.principal name → IsPicked entries name etype kvno self.entry
-            → IsPicked (entries ++ entry.now ∷ []) name etype kvno result }
+            → SameName entry.now.principal name
+            → IsChoiceBy (Counts counted) entries name etype kvno (choice_of self.entry)
+            → IsChoiceBy (Counts counted) (entries ++ entry.now ∷ []) name etype kvno (choice_of result) }
     {
-        if !is_key(entry, etype) {
+        if !is_key(entry, etype, counted) {
             return self.or_no_key();
         }
         if !has_version(entry, kvno) {
@@ -70,14 +79,15 @@ pub(crate) fn pick_entry<'a>(
     name: &Principal,
     etype: i32,
     kvno: Option<u32>,
+    counted: Counted,
 ) -> Picked<'a>
-    ensures { IsPicked entries.now name.now etype kvno result }
+    ensures { IsChoiceBy (Counts counted) entries.now name.now etype kvno (choice_of result) }
 {
     let sought = SoughtName::new(name);
     let mut picked = Picked::NoName;
     let mut from = 0;
     while let Some(at) = entries.find(&sought, from) {
-        picked = picked.or_entry(&entries.as_slice()[at], etype, kvno);
+        picked = picked.or_entry(&entries.as_slice()[at], etype, kvno, counted);
         from = at + 1;
     }
     picked

@@ -1,6 +1,7 @@
 //! Which entries can be used.
 
 ghost use Rattle.std.specs.Prelude.{◌≡◌, ◌↔◌, IsTrue, IfSome};
+ghost use Rattle.krb_keytab.specs.Inner.Pick.{Counts};
 ghost use Rattle.krb_keytab.specs.Usable.{IsUsable};
 
 use crate::entry::Entry;
@@ -14,11 +15,29 @@ const AES256_SHA384: i16 = 20;
 
 const AES256_KEY_LENGTH: usize = 32;
 
-/// Returns whether the entry has this encryption type and a key that is usable with it.
-pub(crate) fn is_key(entry: &Entry, etype: i32) -> bool
-    ensures { IsTrue result ↔ ((entry.now.etype ≡ etype) × IsUsable entry.now) }
+/// Which keys count.
+#[derive(Clone, Copy)]
+pub(crate) enum Counted {
+    /// Only those that are usable with their encryption type.
+    Usable,
+    /// Any, whatever its length.
+    Any,
+}
+
+/// Returns whether the entry has this encryption type and a key that counts.
+pub(crate) fn is_key(entry: &Entry, etype: i32, counted: Counted) -> bool
+    ensures { IsTrue result ↔ ((entry.now.etype ≡ etype) × Counts counted entry.now) }
 {
-    i32::from(entry.etype()) == etype && is_usable(entry)
+    i32::from(entry.etype()) == etype && counts(entry, counted)
+}
+
+fn counts(entry: &Entry, counted: Counted) -> bool
+    ensures { IsTrue result ↔ Counts counted entry.now }
+{
+    match counted {
+        Counted::Usable => is_usable(entry),
+        Counted::Any => true,
+    }
 }
 
 fn is_usable(entry: &Entry) -> bool

@@ -1,7 +1,14 @@
--- What is chosen where an entry is there that can't be taken.
+-- Which keys count, and what is chosen where an entry is there that can't be taken.
 use Rattle.std.specs.Prelude.{◌<◌}
 use Rattle.krb_keytab.specs.Entry.{KeytabEntry}
-use Rattle.krb_keytab.specs.Pick.{Choice, chosen, no_name, no_key, no_version}
+use Rattle.krb_keytab.specs.Pick.{Choice, IsAnyKey, chosen, no_name, no_key, no_version}
+use Rattle.krb_keytab.specs.Usable.{IsUsable}
+use Rattle.krb_keytab.specs.declared.usable.Counted.{Counted}
+use Rattle.krb_keytab.specs.declared.usable.Counted.TheVariants.{Usable, Any}
+
+abbrev pub Counts : Counted → KeytabEntry → Type 0
+Counts Usable = IsUsable
+Counts Any = IsAnyKey
 
 abbrev pub or_no_key : Choice → Choice
 or_no_key no_name = no_key

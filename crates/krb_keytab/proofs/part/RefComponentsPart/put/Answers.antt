@@ -1,6 +1,5 @@
-use Rattle.std.proofs.Common.{◌++◌, ◌∷◌, [], ap, sym, subst, ◌∙◌, List, ℕ, append_assoc, append-nil, length, arith}
+use Rattle.std.proofs.Common.{◌++◌, ◌∷◌, [], ap, sym, subst, ◌∙◌, List, ℕ, append_assoc}
 use Rattle.std.specs.Int.{w16}
-use Rattle.std.specs.List.{flat_map}
 use Rattle.krb_file.specs.Cursor.{data_bytes}
 use Rattle.krb_keytab.specs.Inner.Putting.{PutsTo}
 use Rattle.krb_keytab.proofs.PutLaws.{PutsTo-then, one_further}
