@@ -35,9 +35,6 @@ pub wrap_front_of : (token after : List ℕ) (flags extra rotation number : ℕ)
     → take 16 token ≡ wrap_header flags extra rotation number
 wrap_front_of token after flags extra rotation number is = ap (take 16) is
 
-pub wrap_after_of : (token after : List ℕ) (flags extra rotation number : ℕ) → token ≡ wrap_header flags extra rotation number ++ after → drop 16 token ≡ after
-wrap_after_of token after flags extra rotation number is = ap (drop 16) is
-
 pub wrap_whole_of : (token front after header : List ℕ) → front ≡ take 16 token → after ≡ drop 16 token → front ≡ header → token ≡ header ++ after
 wrap_whole_of token front after header front_is after_is header_is =
     sym (take-append-drop 16 token) ∙ ap₂ (λ (f a : List ℕ). f ++ a) (sym front_is ∙ header_is) (sym after_is)

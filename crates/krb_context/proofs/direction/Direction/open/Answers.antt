@@ -3,28 +3,26 @@ use Rattle.std.specs.Result.{is_err}
 use Rattle.std.proofs.lemmas.List.{drop-take, length-take, length-take-le, length-drop, take-take}
 use Rattle.krb_enc.specs.Sealed.{Profile}
 use Rattle.krb_enc.specs.declared.fault.NotSealed.{NotSealed}
-use Rattle.krb_enc.specs.Key.{profile_of}
+use Rattle.krb_enc.specs.Key.{UsageKeyValue, profile_of}
 use Rattle.krb_enc.specs.Opens.{Opens, body_of}
 use Rattle.krb_enc.proofs.KeyLaws.{known_profile}
 use Rattle.krb_enc.proofs.OnePlain.{one_plain}
-use Rattle.krb_context.specs.Side.{Sender, seal_usage}
+use Rattle.krb_context.specs.Side.{seal_usage}
 use Rattle.krb_context.specs.Wrap.{wrap_header}
+use Rattle.krb_context.specs.Inner.Prepared.{seal_key}
 use Rattle.krb_context.proofs.Wraps.{some_then, plain_parts, header_at_end}
 use Rattle.krb_context.proofs.direction.Direction.open.Goals as goal
 
 true_is_no : true ≡ false → ⊥
 true_is_no is = cc
 
--- the same of the key that is held
-abbrev OpensBy : List ℕ → List ℕ → Sender → Type 0
-OpensBy body plain s = Opens (profile_of s.key) s.key.bytes (seal_usage s.side) body plain
+abbrev OpensBy : List ℕ → List ℕ → UsageKeyValue → Type 0
+OpensBy body plain u = Opens (profile_of u.key) u.key.bytes u.usage body plain
 
 pub returns-then-is_err-clause-none : goal.returns-then-is_err-clause-none
 returns-then-is_err-clause-none c _ text o =
     let plain : List ℕ = text ++ (o.filler ++ wrap_header c.args.header.flags c.args.header.extra 0 c.args.header.number) in
-    let own = c.self.inside.sealing in
-    let opens = subst (λ (u : ℕ). Opens (profile_of own.key) own.key.bytes u c.args.body.now plain) (sym c.self.invariant.sealing_is)
-    (subst (OpensBy c.args.body.now plain) (sym c.self.view_is) o.opens) in
+    let opens = subst (OpensBy c.args.body.now plain) (sym (c.self.invariant.sealing_is ∙ ap seal_key c.self.view_is)) o.opens in
     c.open_in_place.ensures.refused.0 (sym c.is_err.ensures.value ∙ c.if-is_err.true) plain opens
 
 -- what follows the confounder, before the tag
@@ -40,18 +38,17 @@ if_ok : (r : Result (Unit {0}) NotSealed) (P : Type 0) → is_err r ≡ false �
 if_ok (Ok x) P is it = it
 if_ok (Err x) P is it = absurd (true_is_no is)
 
-opened : (c : goal.After-text_before) → OpensBy c.args.body.now (plain_in c.open_in_place.new.text c.tag_len.result) c.args.self.now
+opened : (c : goal.After-text_before) → OpensBy c.args.body.now (plain_in c.open_in_place.new.text c.tag_len.result) (seal_key c.args.self.now)
 opened c =
     let own = c.self.inside.sealing in
     let body = c.args.body.now in
     let new = c.open_in_place.new.text in
+    let sealing = c.self.invariant.sealing_is ∙ ap seal_key c.self.view_is in
     let is = plain_is (profile_of own.key) new c.tag_len.result c.tag_len.ensures.value
-    (omega (arith, c.open_in_place.ensures.length, c.requires, c.tag_len.ensures.value, ap (λ (s : Sender). (profile_of s.key).tag_len) c.self.view_is)) in
+    (omega (arith, c.open_in_place.ensures.length, c.requires, c.tag_len.ensures.value, ap (λ (u : UsageKeyValue). (profile_of u.key).tag_len) sealing)) in
     let opens = if_ok c.open_in_place.result (Opens (profile_of own.key) own.key.bytes own.usage body (drop 16 (body_of (profile_of own.key) new)))
     (sym c.is_err.ensures.value ∙ c.if-is_err.false) c.open_in_place.ensures.opened in
-    subst (OpensBy body (plain_in new c.tag_len.result)) c.self.view_is
-    (subst (λ (u : ℕ). Opens (profile_of own.key) own.key.bytes u body (plain_in new c.tag_len.result)) c.self.invariant.sealing_is
-    (subst (Opens (profile_of own.key) own.key.bytes own.usage body) is opens))
+    subst (OpensBy body (plain_in new c.tag_len.result)) sealing (subst (Opens (profile_of own.key) own.key.bytes own.usage body) is opens)
 
 pub returns-clause-found : goal.returns-clause-found
 returns-clause-found c =
@@ -64,7 +61,7 @@ returns-clause-found c =
       record {
         filler = take header.extra (drop size plain);
         size = length-take-le header.extra (drop size plain) (omega (arith, it.0, length-drop size plain));
-        opens = subst (λ (t : List ℕ). OpensBy c.args.body.now t c.args.self.now)
+        opens = subst (λ (t : List ℕ). OpensBy c.args.body.now t (seal_key c.args.self.now))
             (plain_parts plain (wrap_header header.flags header.extra 0 header.number) size header.extra it.0 it.1
             ∙ ap (λ (t : List ℕ). t ++ (take header.extra (drop size plain) ++ wrap_header header.flags header.extra 0 header.number)) (sym text))
             (opened c);

@@ -17,4 +17,4 @@ returns-in_err-check_flags-clause-fault c =
     let form = wrap_form_of c.args.self.now c.args.token.now c.split_at.result.0.now c.split_at.result.1.now header.flags header.extra header.rotation header.number
     c.split_at.ensures.front c.split_at.ensures.back c.in-Some.ensures.found (omega arith) (omega arith) (omega arith) (c.has_room.ensures.0 c.if-not-has_room.false) in
     rw p.1 (wrap_flag_fault c.args.self.now c.args.token.now header.flags p.0 form
-    (subst (λ (f : MessageFault). IsFlagFault c.args.self.now header.flags f) (sym p.2) c.in_err-check_flags.ensures.fault))
+    (subst (λ (f : MessageFault). IsFlagFault c.args.self.now header.flags f) (sym p.2) (rw c.self.view_is at c.in_err-check_flags.ensures.fault)))
