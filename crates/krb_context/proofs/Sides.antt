@@ -1,5 +1,5 @@
 -- What a side of a context sends, takes and refuses.
-use Rattle.std.proofs.Common.{◌≡◌, ◌∙◌, ◌<◌, ◌≤◌, ◌+◌, ◌-◌, ◌^◌, ℕ, List, ◌++◌, Bool, true, false, length, Option, Some, None, Ok, Err, Result, sym, ap, subst, arith}
+use Rattle.std.proofs.Common.{◌≡◌, ◌∙◌, ◌<◌, ◌≤◌, ◌+◌, ◌-◌, ◌^◌, ℕ, List, ◌++◌, Bool, true, false, length, Option, Some, None, Ok, Err, Result, sym, ap, arith}
 use Rattle.std.specs.Prelude.{IfOk, IfErr, IfSome, IsNone, SomeIff, ◌↔◌}
 use Rattle.std.proofs.lemmas.List.{length-append}
 use Rattle.krb_enc.specs.Key.{profile_of}
@@ -106,38 +106,32 @@ written_or_short bytes before after (Err short) result w ok err = record {
   short = λ less. (err ∙ ap (λ (s : ShortSlice). Err (TooShort s.needed)) (cc (w.short less).0), (w.short less).1);
 }
 
-sent_by : (token_of : ℕ → List ℕ) (old new : State) (number : ℕ) (before after : List ℕ) (made : Result ℕ ShortSlice) (result : Result ℕ SendFault)
-    → old.next ≡ Some number → IsWritten ShortSlice (λ needed. record { needed = needed }) (token_of number) before after made
-    → IfOk made (λ size. (result ≡ Ok size) × (new ≡ record old { next = number_after number }))
-    → IfErr made (λ short. (result ≡ Err (TooShort short.needed)) × (new ≡ old))
-    → number < 2 ^ 64 → old.options.rotation < 2 ^ 16 → IsSent token_of old new before after result
-sent_by token_of old new number before after (Ok size) result is w ok err fits rotation_fits = record {
-  written = λ other same. let e : other ≡ number = cc in rw e (written_or_short (token_of number) before after (Ok size) result w ok.0 tt);
-  counted = λ other same _. let e : other ≡ number = cc in rw e ok.1;
-  used_up = λ none. absurd cc;
-  stays = λ failed. absurd (cc ok.0);
-  fits = λ other same. let e : other ≡ number = cc in rw e fits;
-  rotation_fits = rotation_fits;
-}
-sent_by token_of old new number before after (Err short) result is w ok err fits rotation_fits = record {
-  written = λ other same. let e : other ≡ number = cc in rw e (written_or_short (token_of number) before after (Err short) result w tt err.0);
-  counted = λ other same good. absurd (cc err.0);
-  used_up = λ none. absurd cc;
-  stays = λ _. err.1;
-  fits = λ other same. let e : other ≡ number = cc in rw e fits;
-  rotation_fits = rotation_fits;
-}
-
 -- what a side sent, by what it wrote
 pub sent : (token_of : State → ℕ → List ℕ) (inside old new : State) (number : ℕ) (before after : List ℕ) (made : Result ℕ ShortSlice) (result : Result ℕ SendFault)
     → inside ≡ old → inside.next ≡ Some number → IsWritten ShortSlice (λ needed. record { needed = needed }) (token_of inside number) before after made
     → IfOk made (λ size. (result ≡ Ok size) × (new ≡ record old { next = number_after number }))
     → IfErr made (λ short. (result ≡ Err (TooShort short.needed)) × (new ≡ old))
     → number < 2 ^ 64 → inside.options.rotation < 2 ^ 16 → IsSent (token_of old) old new before after result
-sent token_of inside old new number before after made result view_is next w ok err fits rotation_fits =
-    sent_by (token_of old) old new number before after made result (ap (λ (s : State). s.next) (sym view_is) ∙ next)
-    (subst (λ (s : State). IsWritten ShortSlice (λ needed. record { needed = needed }) (token_of s number) before after made) view_is w)
-    ok err fits (subst (λ (s : State). s.options.rotation < 2 ^ 16) view_is rotation_fits)
+sent token_of inside old new number before after (Ok size) result view_is next w ok err fits rotation_fits =
+    let is : old.next ≡ Some number = rw view_is at next in
+    record {
+      written = λ other same. let e : other ≡ number = cc is in rw e (written_or_short (token_of old number) before after (Ok size) result (rw view_is at w) ok.0 tt);
+      counted = λ other same _. let e : other ≡ number = cc is in rw e ok.1;
+      used_up = λ none. absurd (cc is);
+      stays = λ failed. absurd (cc ok.0);
+      fits = λ other same. let e : other ≡ number = cc is in rw e fits;
+      rotation_fits = rw view_is at rotation_fits;
+    }
+sent token_of inside old new number before after (Err short) result view_is next w ok err fits rotation_fits =
+    let is : old.next ≡ Some number = rw view_is at next in
+    record {
+      written = λ other same. let e : other ≡ number = cc is in rw e (written_or_short (token_of old number) before after (Err short) result (rw view_is at w) tt err.0);
+      counted = λ other same good. absurd (cc err.0);
+      used_up = λ none. absurd (cc is);
+      stays = λ _. err.1;
+      fits = λ other same. let e : other ≡ number = cc is in rw e fits;
+      rotation_fits = rw view_is at rotation_fits;
+    }
 
 pub not_next_wrap : (state : State) (is_sealed : Bool) (number : ℕ) (text token : List ℕ) → IsWrap (peer_sender state.sender) is_sealed number text token
     → (fault : ReceiveFault) → IsOutOfOrder state number fault → IsWrapRefusal state token fault
