@@ -183,13 +183,14 @@ impl Direction {
         ensures { IsWritten ShortSlice (λ needed. record { needed = needed })
             (wrap_token self.now is_sealed rotation confounder.now number text.now) token.old token.new result }
     {
-        if !is_sealed {
-            return self.wrap_in_plain_to(number, text, token);
+        if is_sealed {
+            let size = self.seal_to(number, confounder, text, token)?;
+            let header = self.wrap_header(true, 0, rotation, number);
+            rotate(&header, rotation, &mut token[..size]);
+            Ok(size)
+        } else {
+            self.wrap_in_plain_to(number, text, token)
         }
-        let size = self.seal_to(number, confounder, text, token)?;
-        let header = self.wrap_header(true, 0, rotation, number);
-        rotate(&header, rotation, &mut token[..size]);
-        Ok(size)
     }
 
     /// Opens a Wrap token of this side in place, and returns where its text is in `token`.

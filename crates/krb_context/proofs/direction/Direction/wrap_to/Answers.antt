@@ -24,14 +24,14 @@ rotate-requires c =
     let size : 16 < c.in_ok-size.size = omega (arith, it.size_is, length-append header body, some_body self confounder c.args.number c.args.text.now c.told-confounder) in
     omega (arith, length-take-le c.in_ok-size.size c.seal_to.new.token (omega (arith, it.size_is, it.fits, c.seal_to.auto.token)), size)
 
-pub returns : goal.returns
-returns c =
+pub returns-in_ok-size : goal.returns-in_ok-size
+returns-in_ok-size c =
     let self = c.args.self.now in
     let confounder = c.args.confounder.now in
     let body : List ℕ = sealed (profile_of self.key) self.key.bytes (seal_usage self.side) confounder (c.args.text.now ++ wrap_header (flags_of self true) 0 0 c.args.number) in
     let header : List ℕ = wrap_header (flags_of self true) 0 0 c.args.number in
     let it = at_start ShortSlice (λ needed. record { needed = needed }) (header ++ body) c.args.token.now c.seal_to.new.token c.seal_to.result c.in_ok-size.size c.seal_to.ensures c.in_ok-size.was in
-    rw c.if-not-is_sealed.false
+    rw c.if-is_sealed.true
     (rotated_written header (wrap_header (flags_of self true) 0 c.args.rotation c.args.number) body c.args.token.now c.seal_to.new.token _ c.args.rotation c.in_ok-size.size refl refl
     (some_body self confounder c.args.number c.args.text.now c.told-confounder) it
     (ap (λ (t : List ℕ). t ++ drop c.in_ok-size.size c.seal_to.new.token)
