@@ -1,5 +1,5 @@
 -- Wrap tokens by their parts.
-use Rattle.std.proofs.Common.{◌≡◌, ◌∙◌, ◌<◌, ◌≤◌, ◌^◌, ◌+◌, ◌-◌, ◌%◌, ℕ, List, ◌++◌, Bool, true, false, length, take, drop, Option, None, Some, IfSome, refl, sym, ap, ap₂, subst, append_assoc, inl, inr, arith, if◌then◌else◌}
+use Rattle.std.proofs.Common.{◌≡◌, ◌∙◌, ◌<◌, ◌≤◌, ◌^◌, ◌+◌, ◌-◌, ◌%◌, ℕ, List, ◌++◌, Bool, true, false, length, take, drop, refl, sym, ap, ap₂, subst, append_assoc, inl, inr, arith, if◌then◌else◌}
 use Rattle.std.proofs.lemmas.List.{take-append-drop, length-append, drop-drop}
 use Rattle.std.proofs.Math.Seq.{take-append_seam, drop-append_seam}
 use Rattle.krb_enc.specs.Key.{profile_of}
@@ -52,11 +52,6 @@ pub laid : (p : Profile) (front text header end : List ℕ) → length front ≡
 laid p front text header end size is =
     ap (λ (t : List ℕ). drop 16 (body_of p t)) (ap (λ (t : List ℕ). front ++ t) (sym (append_assoc text header end)) ∙ sym (append_assoc front (text ++ header) end))
     ∙ inside p front (text ++ header) end size is
-
--- what an option has, as something weaker
-pub some_then : (o : Option ℕ) (P Q : ℕ → Type 0) → ((n : ℕ) → P n → Q n) → IfSome o P → IfSome o Q
-some_then None P Q weaker it = tt
-some_then (Some n) P Q weaker it = weaker n it
 
 -- a plain text that ends with filler and a header
 pub plain_parts : (plain header : List ℕ) (size extra : ℕ) → size + (extra + 16) ≡ length plain → drop (size + extra) plain ≡ header

@@ -323,9 +323,7 @@ impl Direction {
             OpensTo self.now header body.old (take len (drop 16 body.new)) × (16 + len ≤ length body.new)) }
         ensures none { IsNone result → (text : List ℕ) → OpensTo self.now header body.old text → ⊥ }
     {
-        if self.sealing.open_in_place(body).is_err() {
-            return None;
-        }
+        self.sealing.open_in_place(body).ok()?;
         let end = body.len() - self.sealing.tag_len();
         text_before(header, &body[CONFOUNDER_LEN..end])
     }
