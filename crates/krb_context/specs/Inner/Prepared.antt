@@ -10,7 +10,7 @@ use Rattle.krb_context.specs.declared.role.Role.{Role}
 abbrev pub sender_of : KeyValue → Role → Bool → Sender
 sender_of key side subkey = record { key = key; side = side; acceptor_subkey = subkey }
 
--- the key of a side's Wrap tokens
+-- the key of a side's Wrap tokens, and its usage
 abbrev pub seal_key : Sender → UsageKeyValue
 seal_key sender = record { key = sender.key; usage = seal_usage sender.side }
 
