@@ -1,5 +1,5 @@
 -- MIC tokens by their parts.
-use Rattle.std.proofs.Common.{◌≡◌, ◌∙◌, ◌<◌, ◌^◌, ◌*◌, ℕ, List, ◌++◌, Bool, true, false, take, drop, refl, sym, ap, arith, if◌then◌else◌}
+use Rattle.std.proofs.Common.{◌≡◌, ◌∙◌, ◌<◌, ◌^◌, ℕ, List, ◌++◌, false, take, drop, sym, ap, arith, if◌then◌else◌}
 use Rattle.std.proofs.lemmas.List.{take-append-drop}
 use Rattle.krb_context.specs.Side.{Sender, HasFlags, sender_flag}
 use Rattle.krb_context.specs.Mic.{mic_header}
@@ -15,13 +15,6 @@ mic_flag_fault sender text token flags Direction form it = (flags, form, it)
 mic_flag_fault sender text token flags OtherKey form it = (flags, form, it.0, it.1)
 mic_flag_fault sender text token flags Integrity form it = absurd it
 
--- a header at the front of 16 bytes
-pub front_of : (token after : List ℕ) (flags number : ℕ) → token ≡ mic_header flags number ++ after → take 16 token ≡ mic_header flags number
-front_of token after flags number is = ap (take 16) is
-
-pub after_of : (token after : List ℕ) (flags number : ℕ) → token ≡ mic_header flags number ++ after → drop 16 token ≡ after
-after_of token after flags number is = ap (drop 16) is
-
 pub form_of : (token front : List ℕ) (flags number : ℕ) → front ≡ take 16 token → front ≡ mic_header flags number → number < 2 ^ 64 → sealed_bit flags ≡ 0
     → HasMicForm token flags
 form_of token front flags number front_is header_is fits plain = record {
@@ -32,11 +25,7 @@ form_of token front flags number front_is header_is fits plain = record {
   in_plain = plain;
 }
 
-four_times : (b : Bool) → (if b then 4 else 0) ≡ 4 * (if b then 1 else 0)
-four_times true = refl
-four_times false = refl
-
 -- the three bits of a sender
 pub flags_known : (sender : Sender) (flags : ℕ) → flags < 256 → sender_bit flags ≡ sender_flag sender.side → sealed_bit flags ≡ 0
     → subkey_bit flags ≡ (if sender.acceptor_subkey then 1 else 0) → HasFlags sender false flags
-flags_known sender flags byte side plain key = record { byte = byte; known = omega (arith, side, plain, key, four_times sender.acceptor_subkey) }
+flags_known sender flags byte side plain key = record { byte = byte; known = grind (arith, side, plain, key) }

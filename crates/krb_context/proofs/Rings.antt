@@ -5,13 +5,10 @@ use Rattle.std.proofs.lemmas.Bool.{cases_eq}
 use Rattle.std.proofs.lemmas.List.{get_or-set_same, get_or-set_other}
 use Rattle.krb_context.specs.Sequence.{Stands}
 use Rattle.krb_context.specs.Inner.Ring.{IsRing, StandsFor, has, kept, known_of}
-use Rattle.krb_context.proofs.Windows.{in_front, after_one, empty}
+use Rattle.krb_context.proofs.Windows.{in_front, after_one, some_is}
 
 none_is_no : (number : ℕ) → None ≡ Some number → ⊥
 none_is_no number is = cc
-
-some_is : (a b : ℕ) → Some a ≡ Some b → a ≡ b
-some_is a b is = cc
 
 -- what stands in some place is kept
 kept_at : (slots : List (Option ℕ)) (place number : ℕ) → slice_index_or slots place None ≡ Some number → Contains (kept slots) number
@@ -76,12 +73,5 @@ nothing_at (suc count) zero = refl
 nothing_at (suc count) (suc place) = nothing_at count place
 
 -- a ring in which nothing was put
-pub empty_ring : (next : ℕ) (slots : List (Option ℕ)) → next ≤ 2 ^ 64 → slots ≡ replicate 64 None → IsRing next slots
-empty_ring next slots within is = record {
-  within = within;
-  in_place = λ place number it.
-      absurd (none_is_no number (sym (nothing_at 64 place) ∙ ap (λ (s : List (Option ℕ)). slice_index_or s place None) (sym is) ∙ it));
-}
-
-pub empty_known : (first next : ℕ) (slots : List (Option ℕ)) → next ≤ 2 ^ 64 → next ≡ first → slots ≡ replicate 64 None → Stands (known_of first next slots) first []
-empty_known first next slots within next_is is = known_from first next slots first [] (empty_ring next slots within is) (empty first next slots next_is is)
+pub empty_ring : (next : ℕ) → next ≤ 2 ^ 64 → IsRing next (replicate 64 None)
+empty_ring next within = record { within = within; in_place = λ place number it. absurd (none_is_no number (sym (nothing_at 64 place) ∙ it)) }

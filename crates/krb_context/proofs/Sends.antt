@@ -1,5 +1,5 @@
 -- Tokens that were written to a slice.
-use Rattle.std.proofs.Common.{◌≡◌, ◌∙◌, ◌<◌, ◌≤◌, ℕ, List, ◌++◌, length, take, drop, Ok, Err, Result, inl, inr, sym, ap, ap₂, arith}
+use Rattle.std.proofs.Common.{◌≡◌, ◌∙◌, ◌<◌, ◌≤◌, ℕ, List, ◌++◌, length, take, drop, Ok, Result, inl, inr, sym, ap, ap₂, arith}
 use Rattle.std.proofs.lemmas.Bool.{cases_lt}
 use Rattle.std.proofs.lemmas.List.{length-append}
 use Rattle.std.proofs.Math.Seq.{take-append_seam, drop-append_seam}
@@ -15,21 +15,15 @@ pub record AtStart (bytes old new : List ℕ) (size : ℕ) : Type 0 where
   pub fits : length bytes ≤ length old
   pub new_is : new ≡ bytes ++ drop (length bytes) old
 
-ok_is : (E : Type 0) (a b : ℕ) (r : Result ℕ E) → r ≡ Ok a → r ≡ Ok b → a ≡ b
-ok_is E a b r one other = cc
-
-ok_is_no_err : (E : Type 0) (a : ℕ) (e : E) (r : Result ℕ E) → r ≡ Ok a → r ≡ Err e → ⊥
-ok_is_no_err E a e r one other = cc
-
 -- what a call wrote that reports so many bytes
 pub at_start : (E : Type 0) (short_by : ℕ → E) (bytes old new : List ℕ) (result : Result ℕ E) (size : ℕ) → IsWritten E short_by bytes old new result → result ≡ Ok size
     → AtStart bytes old new size
 at_start E short_by bytes old new result size w is =
     elim (cases_lt (length old) (length bytes)) [
-      | inl less ↦ absurd (ok_is_no_err E size (short_by (length bytes)) result is (w.short less).0)
+      | inl less ↦ absurd (cc (is, (w.short less).0))
       | inr fits ↦
           let it = w.fits (omega (arith, fits)) in
-          record { size_is = ok_is E size (length bytes) result is it.0; fits = omega (arith, fits); new_is = it.1 }
+          record { size_is = cc (is, it.0); fits = omega (arith, fits); new_is = it.1 }
     ]
 
 -- a token that got another header, and in which the rest was rotated

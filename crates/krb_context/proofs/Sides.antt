@@ -1,6 +1,6 @@
 -- What a side of a context sends, takes and refuses.
-use Rattle.std.proofs.Common.{◌≡◌, ◌∙◌, ◌<◌, ◌≤◌, ◌+◌, ◌-◌, ◌^◌, ℕ, List, ◌++◌, Bool, true, false, length, Option, Some, None, Ok, Err, Result, refl, sym, ap, subst, arith}
-use Rattle.std.specs.Prelude.{IsOk, IsErr, IfOk, IfErr, IfSome, IsNone, SomeIff, ◌↔◌}
+use Rattle.std.proofs.Common.{◌≡◌, ◌∙◌, ◌<◌, ◌≤◌, ◌+◌, ◌-◌, ◌^◌, ℕ, List, ◌++◌, Bool, true, false, length, Option, Some, None, Ok, Err, Result, sym, ap, arith}
+use Rattle.std.specs.Prelude.{IfOk, IfErr, IfSome, IsNone, SomeIff, ◌↔◌}
 use Rattle.std.proofs.lemmas.List.{length-append}
 use Rattle.krb_enc.specs.Key.{profile_of}
 use Rattle.krb_enc.specs.Sealed.{sealed}
@@ -11,7 +11,7 @@ use Rattle.krb_enc.proofs.Tags.{length-checksum_of}
 use Rattle.krb_context.specs.Side.{Sender, flags_of, seal_usage, sign_usage, peer_sender}
 use Rattle.krb_context.specs.Mic.{IsMic, mic_header}
 use Rattle.krb_context.specs.Wrap.{IsInPlain, IsSealed, IsWrap, wrap_token, wrap_overhead, wrap_header, wrap_checksum}
-use Rattle.krb_context.specs.Context.{State, IsSent, IsOutOfOrder, IsMicRefusal, IsWrapRefusal, number_after}
+use Rattle.krb_context.specs.Context.{State, IsSent, IsOutOfOrder, IsWrapRefusal, number_after}
 use Rattle.krb_context.specs.declared.fault.SendFault.{SendFault}
 use Rattle.krb_context.specs.declared.fault.SendFault.TheVariants.{ShortSlice as TooShort}
 use Rattle.krb_context.specs.declared.fault.ReceiveFault.{ReceiveFault}
@@ -75,9 +75,6 @@ length-sealed_token sender number text token it =
       length-append it.filler header,
     )
 
-some_is_none : (n : ℕ) → IsNone (Some n) → ⊥
-some_is_none n is = cc
-
 -- the length of the longest text, by what a subtraction gives
 pub limit_fits : (sender : Sender) (is_sealed : Bool) (rotation size overhead : ℕ) (limit : Option ℕ) → overhead ≡ wrap_overhead sender is_sealed
     → SomeIff limit (overhead ≤ size) (size - overhead)
@@ -93,31 +90,7 @@ pub limit_none : (sender : Sender) (is_sealed : Bool) (rotation size overhead : 
     → size < length (wrap_token sender is_sealed rotation confounder number text)
 limit_none sender is_sealed rotation size overhead None is it none confounder text number block =
     omega (arith, it, is, length-wrap_token sender is_sealed rotation confounder number text block)
-limit_none sender is_sealed rotation size overhead (Some most) is it none confounder text number block = absurd (some_is_none most none)
-
-same_some : (o : Option ℕ) (a b : ℕ) → o ≡ Some a → o ≡ Some b → a ≡ b
-same_some o a b one other = cc
-
-some_or_none : (o : Option ℕ) (a : ℕ) → o ≡ Some a → o ≡ None → ⊥
-some_or_none o a one other = cc
-
-same_ok : (r : Result ℕ ShortSlice) (a b : ℕ) → r ≡ Ok a → r ≡ Ok b → a ≡ b
-same_ok r a b one other = cc
-
-ok_or_err : (a : ℕ) (e : ShortSlice) → Ok a ≡ Err e → ⊥
-ok_or_err a e is = cc
-
-err_or_ok : (a : ℕ) (e : ShortSlice) → Err e ≡ Ok a → ⊥
-err_or_ok a e is = cc
-
-same_err : (r : Result ℕ ShortSlice) (a b : ShortSlice) → r ≡ Err a → r ≡ Err b → a ≡ b
-same_err r a b one other = cc
-
-ok_is_no_err : (size : ℕ) (result : Result ℕ SendFault) → result ≡ Ok size → IsErr result → ⊥
-ok_is_no_err size result is err = cc
-
-err_is_no_ok : (fault : SendFault) (result : Result ℕ SendFault) → result ≡ Err fault → IsOk result → ⊥
-err_is_no_ok fault result is ok = cc
+limit_none sender is_sealed rotation size overhead (Some most) is it none confounder text number block = absurd cc
 
 -- the same, with the fault of a side
 written_or_short : (bytes before after : List ℕ) (made : Result ℕ ShortSlice) (result : Result ℕ SendFault)
@@ -125,43 +98,40 @@ written_or_short : (bytes before after : List ℕ) (made : Result ℕ ShortSlice
     → IfOk made (λ size. result ≡ Ok size) → IfErr made (λ short. result ≡ Err (TooShort short.needed))
     → IsWritten SendFault TooShort bytes before after result
 written_or_short bytes before after (Ok size) result w ok err = record {
-  fits = λ fits. (ok ∙ ap Ok (same_ok (Ok size) size (length bytes) refl (w.fits fits).0), (w.fits fits).1);
-  short = λ less. absurd (ok_or_err size (record { needed = length bytes }) (w.short less).0);
+  fits = λ fits. (cc (ok, (w.fits fits).0), (w.fits fits).1);
+  short = λ less. absurd (cc (w.short less).0);
 }
 written_or_short bytes before after (Err short) result w ok err = record {
-  fits = λ fits. absurd (err_or_ok (length bytes) short (w.fits fits).0);
-  short = λ less. (err ∙ ap (λ (s : ShortSlice). Err (TooShort s.needed)) (same_err (Err short) short (record { needed = length bytes }) refl (w.short less).0), (w.short less).1);
+  fits = λ fits. absurd (cc (w.fits fits).0);
+  short = λ less. (err ∙ ap (λ (s : ShortSlice). Err (TooShort s.needed)) (cc (w.short less).0), (w.short less).1);
 }
 
 -- what a side sent, by what it wrote
-pub sent : (token_of : ℕ → List ℕ) (old new : State) (number : ℕ) (before after : List ℕ) (made : Result ℕ ShortSlice) (result : Result ℕ SendFault)
-    → old.next ≡ Some number → IsWritten ShortSlice (λ needed. record { needed = needed }) (token_of number) before after made
+pub sent : (token_of : State → ℕ → List ℕ) (inside old new : State) (number : ℕ) (before after : List ℕ) (made : Result ℕ ShortSlice) (result : Result ℕ SendFault)
+    → inside ≡ old → inside.next ≡ Some number → IsWritten ShortSlice (λ needed. record { needed = needed }) (token_of inside number) before after made
     → IfOk made (λ size. (result ≡ Ok size) × (new ≡ record old { next = number_after number }))
     → IfErr made (λ short. (result ≡ Err (TooShort short.needed)) × (new ≡ old))
-    → number < 2 ^ 64 → old.options.rotation < 2 ^ 16 → IsSent token_of old new before after result
-sent token_of old new number before after (Ok size) result is w ok err fits rotation_fits = record {
-  written = λ other same. subst (λ (n : ℕ). IsWritten SendFault TooShort (token_of n) before after result) (same_some old.next number other is same)
-      (written_or_short (token_of number) before after (Ok size) result w ok.0 tt);
-  counted = λ other same _. ok.1 ∙ ap (λ (n : ℕ). record old { next = number_after n }) (same_some old.next number other is same);
-  used_up = λ none. absurd (some_or_none old.next number is none);
-  stays = λ err. absurd (ok_is_no_err size result ok.0 err);
-  fits = λ other same. subst (λ (n : ℕ). n < 2 ^ 64) (same_some old.next number other is same) fits;
-  rotation_fits = rotation_fits;
-}
-sent token_of old new number before after (Err short) result is w ok err fits rotation_fits = record {
-  written = λ other same. subst (λ (n : ℕ). IsWritten SendFault TooShort (token_of n) before after result) (same_some old.next number other is same)
-      (written_or_short (token_of number) before after (Err short) result w tt err.0);
-  counted = λ other same ok. absurd (err_is_no_ok (TooShort short.needed) result err.0 ok);
-  used_up = λ none. absurd (some_or_none old.next number is none);
-  stays = λ _. err.1;
-  fits = λ other same. subst (λ (n : ℕ). n < 2 ^ 64) (same_some old.next number other is same) fits;
-  rotation_fits = rotation_fits;
-}
-
-pub not_next_mic : (state : State) (number : ℕ) (text token : List ℕ) → IsMic (peer_sender state.sender) number text token → (fault : ReceiveFault)
-    → IsOutOfOrder state number fault → IsMicRefusal state text token fault
-not_next_mic state number text token mic (NotAccepted fault) it = absurd it
-not_next_mic state number text token mic (OutOfOrder order) it = (number, mic, it)
+    → number < 2 ^ 64 → inside.options.rotation < 2 ^ 16 → IsSent (token_of old) old new before after result
+sent token_of inside old new number before after (Ok size) result view_is next w ok err fits rotation_fits =
+    let is : old.next ≡ Some number = rw view_is at next in
+    record {
+      written = λ other same. let e : other ≡ number = cc is in rw e (written_or_short (token_of old number) before after (Ok size) result (rw view_is at w) ok.0 tt);
+      counted = λ other same _. let e : other ≡ number = cc is in rw e ok.1;
+      used_up = λ none. absurd (cc is);
+      stays = λ failed. absurd (cc ok.0);
+      fits = λ other same. let e : other ≡ number = cc is in rw e fits;
+      rotation_fits = rw view_is at rotation_fits;
+    }
+sent token_of inside old new number before after (Err short) result view_is next w ok err fits rotation_fits =
+    let is : old.next ≡ Some number = rw view_is at next in
+    record {
+      written = λ other same. let e : other ≡ number = cc is in rw e (written_or_short (token_of old number) before after (Err short) result (rw view_is at w) tt err.0);
+      counted = λ other same good. absurd (cc err.0);
+      used_up = λ none. absurd (cc is);
+      stays = λ _. err.1;
+      fits = λ other same. let e : other ≡ number = cc is in rw e fits;
+      rotation_fits = rw view_is at rotation_fits;
+    }
 
 pub not_next_wrap : (state : State) (is_sealed : Bool) (number : ℕ) (text token : List ℕ) → IsWrap (peer_sender state.sender) is_sealed number text token
     → (fault : ReceiveFault) → IsOutOfOrder state number fault → IsWrapRefusal state token fault

@@ -1,12 +1,12 @@
 -- The next token that one side sends and the other takes.
-use Rattle.std.proofs.Common.{◌≡◌, ◌∙◌, ◌⊎◌, ◌<◌, ◌+◌, ◌^◌, ℕ, List, [], ◌∷◌, Bool, length, Some, None, inl, inr, ⊎_elim, sym, ap, subst, add-one, arith}
+use Rattle.std.proofs.Common.{◌≡◌, ◌∙◌, ◌⊎◌, ◌<◌, ◌+◌, ◌^◌, ℕ, List, [], ◌∷◌, Bool, length, Some, None, inl, inr, ⊎_elim, refl, sym, ap, subst, add-one, arith}
 use Rattle.std.specs.Prelude.{All, Contains, IsTrue, if◌then◌else◌}
 use Rattle.std.proofs.lemmas.Bool.{lt-ltb}
 use Rattle.krb_context.specs.Side.{Sender, peer_of, peer_sender}
 use Rattle.krb_context.specs.Mic.{IsMic, mic_token}
 use Rattle.krb_context.specs.Wrap.{IsWrap, wrap_token}
 use Rattle.krb_context.specs.Sequence.{IsNew, Stands, sent_numbers}
-use Rattle.krb_context.specs.Context.{State, HasOrder, HasSentFirst, IsBegun, IsNextFor, IsOutOfOrder, IsRefusedBy, Takes, first_of, number_after}
+use Rattle.krb_context.specs.Context.{State, HasOrder, HasSentFirst, IsBegun, IsNextFor, IsOutOfOrder, IsRefusedBy, Takes, first_of, number_after, sender_in}
 use Rattle.krb_context.specs.declared.agreed.Agreed.{Agreed}
 use Rattle.krb_context.specs.declared.agreed.Options.{Options}
 use Rattle.krb_context.specs.declared.role.Role.{Role}
@@ -71,39 +71,33 @@ goes_on from to after first count next takes fits =
     }
 
 -- ---- what both sides agreed on, each by its side
+peer_back : (side : Role) → peer_of (peer_of side) ≡ side
+peer_back Initiator = refl
+peer_back Acceptor = refl
+
+is_peer : (agreed : Agreed) (side : Role) (from to : Sender) → from ≡ sender_in agreed side → to ≡ sender_in agreed (peer_of side) → from ≡ peer_sender to
+is_peer agreed side from to one other = one ∙ ap (sender_in agreed) (sym (peer_back side)) ∙ sym (ap peer_sender other)
+
 pub begin_in_step : (agreed : Agreed) (side : Role) (from to : State) → IsBegun agreed side from → IsBegun agreed (peer_of side) to
     → IsNextFor from to (first_of agreed side) 0
-begin_in_step agreed Initiator from to one other = record {
-  sender_is = one.sender_is ∙ sym (ap peer_sender other.sender_is);
-  next_is = one.next_is ∙ ap (λ (n : ℕ). Some n) (sym (none_more (first_of agreed Initiator)));
-  fits = subst (λ (n : ℕ). n < 2 ^ 64) (sym (none_more (first_of agreed Initiator))) one.fits;
+begin_in_step agreed side from to one other = record {
+  sender_is = is_peer agreed side from.sender to.sender one.sender_is other.sender_is;
+  next_is = one.next_is ∙ ap (λ (n : ℕ). Some n) (sym (none_more (first_of agreed side)));
+  fits = subst (λ (n : ℕ). n < 2 ^ 64) (sym (none_more (first_of agreed side))) one.fits;
   rotation_fits = one.rotation_fits;
-  took = other.took;
-}
-begin_in_step agreed Acceptor from to one other = record {
-  sender_is = one.sender_is ∙ sym (ap peer_sender other.sender_is);
-  next_is = one.next_is ∙ ap (λ (n : ℕ). Some n) (sym (none_more (first_of agreed Acceptor)));
-  fits = subst (λ (n : ℕ). n < 2 ^ 64) (sym (none_more (first_of agreed Acceptor))) one.fits;
-  rotation_fits = one.rotation_fits;
-  took = other.took;
+  took = subst (λ (r : Role). Stands to.window (first_of agreed r) []) (peer_back side) other.took;
 }
 
 -- each has sent its first token, and taken that of the other
 pub go_on_in_step : (agreed : Agreed) (side : Role) (from to : State) → HasSentFirst agreed side from → HasSentFirst agreed (peer_of side) to
     → first_of agreed side + 1 < 2 ^ 64 → IsNextFor from to (first_of agreed side) 1
-go_on_in_step agreed Initiator from to one other fits = record {
-  sender_is = one.sender_is ∙ sym (ap peer_sender other.sender_is);
-  next_is = one.next_is ∙ one_more (first_of agreed Initiator) fits;
+go_on_in_step agreed side from to one other fits = record {
+  sender_is = is_peer agreed side from.sender to.sender one.sender_is other.sender_is;
+  next_is = one.next_is ∙ one_more (first_of agreed side) fits;
   fits = fits;
   rotation_fits = one.rotation_fits;
-  took = subst (λ (n : ℕ). Stands to.window (first_of agreed Initiator) (n ∷ [])) (sym (none_more (first_of agreed Initiator))) other.took;
-}
-go_on_in_step agreed Acceptor from to one other fits = record {
-  sender_is = one.sender_is ∙ sym (ap peer_sender other.sender_is);
-  next_is = one.next_is ∙ one_more (first_of agreed Acceptor) fits;
-  fits = fits;
-  rotation_fits = one.rotation_fits;
-  took = subst (λ (n : ℕ). Stands to.window (first_of agreed Acceptor) (n ∷ [])) (sym (none_more (first_of agreed Acceptor))) other.took;
+  took = subst (λ (n : ℕ). Stands to.window (first_of agreed side) (n ∷ [])) (sym (none_more (first_of agreed side)))
+      (subst (λ (r : Role). Stands to.window (first_of agreed r) (first_of agreed r ∷ [])) (peer_back side) other.took);
 }
 
 -- ---- a side that refuses repeats

@@ -1,29 +1,15 @@
 -- Windows over the numbers that were taken.
-use Rattle.std.proofs.Common.{◌≡◌, ◌⊎◌, inl, inr, ◌∙◌, ◌≤◌, ◌<◌, ◌+◌, ◌%◌, ℕ, zero, suc, List, [], ◌∷◌, length, replicate, Option, Some, None, refl, sym, ap, subst, arith, slice_set, slice_index_or}
+use Rattle.std.proofs.Common.{◌≡◌, ◌⊎◌, inl, inr, ◌∙◌, ◌≤◌, ◌<◌, ◌+◌, ◌%◌, ℕ, zero, suc, List, [], ◌∷◌, length, Some, None, refl, sym, ap, subst, arith, slice_set, slice_index_or}
 use Rattle.std.specs.Prelude.{Contains, max}
 use Rattle.std.proofs.lemmas.Bool.{cases_lt, cases_eq}
-use Rattle.std.proofs.lemmas.List.{get_or-replicate, get_or-set_same, get_or-set_other}
+use Rattle.std.proofs.lemmas.List.{get_or-set_same, get_or-set_other}
 use Rattle.krb_context.specs.Sequence.{IsOrder, next_of, sent_numbers}
 use Rattle.krb_context.specs.declared.order.Order.{Order}
 use Rattle.krb_context.specs.declared.order.Order.TheVariants.{Next, AfterGap, Late, Repeat, Old}
 use Rattle.krb_context.specs.Inner.Ring.{Ring, StandsFor}
 
-none_is_no : (number : ℕ) → None ≡ Some number → ⊥
-none_is_no number is = cc
-
-some_is : (a b : ℕ) → Some a ≡ Some b → a ≡ b
+pub some_is : (a b : ℕ) → Some a ≡ Some b → a ≡ b
 some_is a b is = cc
-
--- a window in whose places nothing was put
-pub empty : (first next : ℕ) (slots : List (Option ℕ)) → next ≡ first → slots ≡ replicate 64 None
-    → StandsFor (record { first = first; next = next; slots = slots }) first []
-empty first next slots next_is slots_are = record {
-  first_is = refl;
-  next_is = next_is;
-  only = λ number it. absurd (none_is_no number
-      (sym (get_or-replicate 64 (number % 64) None None (omega arith)) ∙ ap (λ (s : List (Option ℕ)). slice_index_or s (number % 64) None) (sym slots_are) ∙ it));
-  all = λ number recent it. absurd (omega (arith, it.1));
-}
 
 -- an element of a list with one more in front
 cases_of : (x : ℕ) (xs : List ℕ) (n : ℕ) → Contains (x ∷ xs) n → (x ≡ n) ⊎ Contains xs n

@@ -1,5 +1,5 @@
 -- Wrap tokens by their parts.
-use Rattle.std.proofs.Common.{◌≡◌, ◌∙◌, ◌<◌, ◌≤◌, ◌^◌, ◌+◌, ◌-◌, ◌%◌, ℕ, List, ◌++◌, Bool, true, false, length, take, drop, Option, None, Some, IfSome, refl, sym, ap, ap₂, subst, append_assoc, inl, inr, arith, if◌then◌else◌}
+use Rattle.std.proofs.Common.{◌≡◌, ◌∙◌, ◌<◌, ◌≤◌, ◌^◌, ◌+◌, ◌-◌, ◌%◌, ℕ, List, ◌++◌, Bool, true, false, length, take, drop, refl, sym, ap, ap₂, subst, append_assoc, inl, inr, arith, if◌then◌else◌}
 use Rattle.std.proofs.lemmas.List.{take-append-drop, length-append, drop-drop}
 use Rattle.std.proofs.Math.Seq.{take-append_seam, drop-append_seam}
 use Rattle.krb_enc.specs.Key.{profile_of}
@@ -31,17 +31,6 @@ inside p front plain end size is =
     ap (drop 16) (ap (λ (n : ℕ). take n ((front ++ plain) ++ end)) count ∙ take-append_seam (front ++ plain) end)
     ∙ ap (λ (n : ℕ). drop n (front ++ plain)) (sym size) ∙ drop-append_seam front plain
 
-pub wrap_front_of : (token after : List ℕ) (flags extra rotation number : ℕ) → token ≡ wrap_header flags extra rotation number ++ after
-    → take 16 token ≡ wrap_header flags extra rotation number
-wrap_front_of token after flags extra rotation number is = ap (take 16) is
-
-pub wrap_after_of : (token after : List ℕ) (flags extra rotation number : ℕ) → token ≡ wrap_header flags extra rotation number ++ after → drop 16 token ≡ after
-wrap_after_of token after flags extra rotation number is = ap (drop 16) is
-
-pub wrap_whole_of : (token front after header : List ℕ) → front ≡ take 16 token → after ≡ drop 16 token → front ≡ header → token ≡ header ++ after
-wrap_whole_of token front after header front_is after_is header_is =
-    sym (take-append-drop 16 token) ∙ ap₂ (λ (f a : List ℕ). f ++ a) (sym front_is ∙ header_is) (sym after_is)
-
 pub wrap_form_of : (sender : Sender) (token front after : List ℕ) (flags extra rotation number : ℕ) → front ≡ take 16 token → after ≡ drop 16 token
     → front ≡ wrap_header flags extra rotation number → extra < 2 ^ 16 → rotation < 2 ^ 16 → number < 2 ^ 64 → HasRoom sender flags extra (length after)
     → HasWrapForm sender token flags
@@ -53,7 +42,7 @@ wrap_form_of sender token front after flags extra rotation number front_is after
   rotation_fits = rotation_fits;
   fits = fits;
   after = after;
-  whole = wrap_whole_of token front after (wrap_header flags extra rotation number) front_is after_is header_is;
+  whole = sym (take-append-drop 16 token) ∙ ap₂ (λ (f a : List ℕ). f ++ a) (sym front_is ∙ header_is) (sym after_is);
   has_room = room;
 }
 
@@ -63,11 +52,6 @@ pub laid : (p : Profile) (front text header end : List ℕ) → length front ≡
 laid p front text header end size is =
     ap (λ (t : List ℕ). drop 16 (body_of p t)) (ap (λ (t : List ℕ). front ++ t) (sym (append_assoc text header end)) ∙ sym (append_assoc front (text ++ header) end))
     ∙ inside p front (text ++ header) end size is
-
--- what an option has, as something weaker
-pub some_then : (o : Option ℕ) (P Q : ℕ → Type 0) → ((n : ℕ) → P n → Q n) → IfSome o P → IfSome o Q
-some_then None P Q weaker it = tt
-some_then (Some n) P Q weaker it = weaker n it
 
 -- a plain text that ends with filler and a header
 pub plain_parts : (plain header : List ℕ) (size extra : ℕ) → size + (extra + 16) ≡ length plain → drop (size + extra) plain ≡ header
@@ -92,14 +76,8 @@ before_checksum body text sum size is whole =
 -- the bits of a sender's flags
 pub bits_of : (side : Role) (is_sealed subkey : Bool) (flags : ℕ) → flags % 8 ≡ sender_flag side + (if is_sealed then 2 else 0) + (if subkey then 4 else 0)
     → (sender_bit flags ≡ sender_flag side) × (sealed_bit flags ≡ (if is_sealed then 1 else 0)) × (subkey_bit flags ≡ (if subkey then 1 else 0))
-bits_of Initiator true true flags is = (omega (arith, is), omega (arith, is), omega (arith, is))
-bits_of Initiator true false flags is = (omega (arith, is), omega (arith, is), omega (arith, is))
-bits_of Initiator false true flags is = (omega (arith, is), omega (arith, is), omega (arith, is))
-bits_of Initiator false false flags is = (omega (arith, is), omega (arith, is), omega (arith, is))
-bits_of Acceptor true true flags is = (omega (arith, is), omega (arith, is), omega (arith, is))
-bits_of Acceptor true false flags is = (omega (arith, is), omega (arith, is), omega (arith, is))
-bits_of Acceptor false true flags is = (omega (arith, is), omega (arith, is), omega (arith, is))
-bits_of Acceptor false false flags is = (omega (arith, is), omega (arith, is), omega (arith, is))
+bits_of Initiator is_sealed subkey flags is = (grind (arith, is), grind (arith, is), grind (arith, is))
+bits_of Acceptor is_sealed subkey flags is = (grind (arith, is), grind (arith, is), grind (arith, is))
 
 pub bits : (sender : Sender) (is_sealed : Bool) (flags : ℕ) → HasFlags sender is_sealed flags
     → (sender_bit flags ≡ sender_flag sender.side) × (sealed_bit flags ≡ (if is_sealed then 1 else 0)) × (subkey_bit flags ≡ (if sender.acceptor_subkey then 1 else 0))

@@ -14,14 +14,8 @@ use Rattle.krb_context.specs.declared.role.Role.{Role}
 use Rattle.krb_context.specs.declared.role.Role.TheVariants.{Initiator, Acceptor}
 
 small_flags : (side : Role) (is_sealed subkey : Bool) → sender_flag side + (if is_sealed then 2 else 0) + (if subkey then 4 else 0) < 8
-small_flags Initiator true true = omega arith
-small_flags Initiator true false = omega arith
-small_flags Initiator false true = omega arith
-small_flags Initiator false false = omega arith
-small_flags Acceptor true true = omega arith
-small_flags Acceptor true false = omega arith
-small_flags Acceptor false true = omega arith
-small_flags Acceptor false false = omega arith
+small_flags Initiator is_sealed subkey = grind arith
+small_flags Acceptor is_sealed subkey = grind arith
 
 -- a sender's flags are its flags
 pub own_flags : (sender : Sender) (is_sealed : Bool) → HasFlags sender is_sealed (flags_of sender is_sealed)

@@ -1,4 +1,3 @@
-pub mod Headers
 pub mod Prepared
 pub mod Forms
 pub mod Ring

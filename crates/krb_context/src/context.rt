@@ -119,9 +119,7 @@ impl Context {
         ensures { IsSent (λ number. mic_token self.old.sender number text.now)
             self.old self.new token.old token.new result }
     {
-        let Some(number) = self.next else {
-            return Err(SendFault::NumbersUsedUp);
-        };
+        let number = self.next.ok_or(SendFault::NumbersUsedUp)?;
         let written = self.keys.mic_to(number, text, token);
         self.counted(number, written)
     }
@@ -149,9 +147,7 @@ impl Context {
         ensures { IsSent (λ number. wrap_token self.old.sender is_sealed self.old.options.rotation confounder.now number text.now)
             self.old self.new token.old token.new result }
     {
-        let Some(number) = self.next else {
-            return Err(SendFault::NumbersUsedUp);
-        };
+        let number = self.next.ok_or(SendFault::NumbersUsedUp)?;
         let written = self.keys.wrap_to(
             is_sealed,
             self.options.rotation,

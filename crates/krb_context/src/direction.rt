@@ -3,12 +3,12 @@
 ghost use Rattle.std.specs.Prelude.{◌≡◌, ◌==◌, ◌<◌, ◌+◌, ◌%◌, ◌/◌, ◌≤◌, ◌-◌, ◌++◌, ◌↔◌, ℕ, List, IfOk, IfErr, IfSome, IsNone, IsOkAnd, IsErrOf, IsOk, IsTrue, length, take, drop, replicate, Ok, if◌then◌else◌, Bool, true, false};
 ghost use Rattle.krb_enc.specs.Key.{profile_of};
 ghost use Rattle.krb_enc.specs.Written.{IsWritten};
-ghost use Rattle.krb_context.specs.Side.{Sender, flags_of, sender_flag};
+ghost use Rattle.krb_context.specs.Side.{Sender, flags_of};
 ghost use Rattle.krb_context.specs.Mic.{IsMic, mic_token};
-ghost use Rattle.krb_context.specs.Wrap.{IsWrap, plain_token, rotated, rotated_token, sealed_token, wrap_checksum, wrap_header, wrap_token};
-ghost use Rattle.krb_context.specs.Faults.{HasRoom, IsMicFault, IsWrapFault, sender_bit, subkey_bit};
-ghost use Rattle.krb_context.specs.Inner.Forms.{Holds, IsFlagFault, IsFormed, OpensTo};
-ghost use Rattle.krb_context.specs.Inner.Prepared.{IsPrepared, sender_of};
+ghost use Rattle.krb_context.specs.Wrap.{IsWrap, plain_token, rotated, sealed_token, wrap_checksum, wrap_header, wrap_token};
+ghost use Rattle.krb_context.specs.Faults.{HasRoom, IsMicFault, IsWrapFault};
+ghost use Rattle.krb_context.specs.Inner.Forms.{Holds, IsFormed, OpensTo};
+ghost use Rattle.krb_context.specs.Inner.Prepared.{IsPrepared};
 
 use crate::fault::MessageFault;
 use crate::header::{HEADER_LEN, WrapHeader};
@@ -25,8 +25,6 @@ pub(crate) const CONFOUNDER_LEN: usize = 16;
 /// shows a key.
 #[derive(Drop)]
 pub struct Direction {
-    side: Role,
-    is_acceptor_subkey: bool,
     mics: Mics,
     checksums: ChecksumKey,
     sealing: UsageKey,
@@ -35,9 +33,9 @@ pub struct Direction {
 impl Model for Direction {
     ghost Value = { Sender };
 
-    ghost view = { λ d. sender_of d.sealing.key d.side d.is_acceptor_subkey };
+    ghost view = { λ d. d.mics };
 
-    ghost invariant = { λ d. IsPrepared d.side d.is_acceptor_subkey d.mics d.checksums d.sealing };
+    ghost invariant = { λ d. IsPrepared d.mics d.checksums d.sealing };
 }
 
 /// Where the text of a Wrap token is, after the token was opened in place.
@@ -72,8 +70,6 @@ impl Direction {
         ensures { result ≡ record { key = key.now; side = side; acceptor_subkey = is_acceptor_subkey } }
     {
         Direction {
-            side,
-            is_acceptor_subkey,
             mics: Mics::new(key, side, is_acceptor_subkey),
             checksums: key.for_checksums(side.seal_usage()),
             sealing: key.for_usage(side.seal_usage()),
@@ -174,24 +170,6 @@ impl Direction {
         put(&header, text, &checksum, token)
     }
 
-    // Writes the sealed Wrap token as `seal_to` does, rotated by `rotation` bytes.
-    fn seal_rotated_to(
-        &self,
-        rotation: u16,
-        number: u64,
-        confounder: &[u8; 16],
-        text: &[u8],
-        token: &mut [u8],
-    ) -> Result<usize, ShortSlice>
-        ensures { IsWritten ShortSlice (λ needed. record { needed = needed })
-            (rotated_token self.now rotation confounder.now number text.now) token.old token.new result }
-    {
-        let size = self.seal_to(number, confounder, text, token)?;
-        let header = self.wrap_header(true, 0, rotation, number);
-        rotate(&header, rotation, &mut token[..size]);
-        Ok(size)
-    }
-
     // Writes the Wrap token, sealed and rotated or in plain.
     pub(crate) fn wrap_to(
         &self,
@@ -206,7 +184,10 @@ impl Direction {
             (wrap_token self.now is_sealed rotation confounder.now number text.now) token.old token.new result }
     {
         if is_sealed {
-            self.seal_rotated_to(rotation, number, confounder, text, token)
+            let size = self.seal_to(number, confounder, text, token)?;
+            let header = self.wrap_header(true, 0, rotation, number);
+            rotate(&header, rotation, &mut token[..size]);
+            Ok(size)
         } else {
             self.wrap_in_plain_to(number, text, token)
         }
@@ -273,20 +254,12 @@ impl Direction {
         ensures { result ≡ wrap_header (flags_of self.now is_sealed) extra rotation number }
     {
         WrapHeader {
-            flags: self.flags(is_sealed),
+            flags: self.mics.flags(is_sealed),
             extra,
             rotation,
             number,
         }
         .bytes()
-    }
-
-    // The flags of a token that this side sends.
-    fn flags(&self, is_sealed: bool) -> u8
-        ensures value { result ≡ flags_of self.now is_sealed }
-        ensures most { result ≤ 7 }
-    {
-        self.mics.flags(is_sealed)
     }
 
     // The header of a token that has the form of a Wrap token of this side.
@@ -305,7 +278,7 @@ impl Direction {
         if !self.has_room(header, body.len()) {
             return Err(MessageFault::Defective);
         }
-        self.check_flags(header.flags)?;
+        self.mics.check_flags(header.flags)?;
         Ok(header)
     }
 
@@ -350,9 +323,7 @@ impl Direction {
             OpensTo self.now header body.old (take len (drop 16 body.new)) × (16 + len ≤ length body.new)) }
         ensures none { IsNone result → (text : List ℕ) → OpensTo self.now header body.old text → ⊥ }
     {
-        if self.sealing.open_in_place(body).is_err() {
-            return None;
-        }
+        self.sealing.open_in_place(body).ok()?;
         let end = body.len() - self.sealing.tag_len();
         text_before(header, &body[CONFOUNDER_LEN..end])
     }
@@ -386,16 +357,6 @@ impl Direction {
         }
         .bytes();
         self.checksums.verify(&[text, &bare], tag)
-    }
-
-    // Whether flags are of this side and this key.
-    fn check_flags(&self, flags: u8) -> Result<(), MessageFault>
-        ensures ok { IsOk result
-            → (sender_bit flags ≡ sender_flag self.now.side)
-            × (subkey_bit flags ≡ (if self.now.acceptor_subkey then 1 else 0)) }
-        ensures fault { IfErr result (IsFlagFault self.now flags) }
-    {
-        self.mics.check_flags(flags)
     }
 }
 

@@ -1,9 +1,9 @@
 //! Headers of tokens: 16 bytes.
 
 ghost use Rattle.std.specs.Prelude.{◌≡◌, ◌<◌, ◌^◌, ℕ, IfSome, IsNone, length};
+ghost use Rattle.std.specs.Int.{w64, from_be_bytes};
 ghost use Rattle.krb_context.specs.Mic.{mic_header};
 ghost use Rattle.krb_context.specs.Wrap.{wrap_header};
-ghost use Rattle.krb_context.specs.Inner.Headers.{number_of};
 
 pub(crate) const HEADER_LEN: usize = 16;
 
@@ -88,7 +88,7 @@ impl WrapHeader {
 // A number of 8 bytes, high first.
 fn number_of(bytes: &[u8]) -> u64
     requires { length bytes.now ≡ 8 }
-    ensures { result ≡ number_of bytes.now }
+    ensures { result ≡ from_be_bytes w64 bytes.now }
 {
     u64::from_be_bytes([
         bytes[0], bytes[1], bytes[2], bytes[3], bytes[4], bytes[5], bytes[6], bytes[7],

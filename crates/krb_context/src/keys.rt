@@ -72,34 +72,6 @@ impl Keys {
         Ok(())
     }
 
-    // The own side, prepared anew.
-    fn own(&self) -> Direction
-        ensures { result ≡ self.now }
-    {
-        Direction::new(&self.key, self.side, self.is_acceptor_subkey)
-    }
-
-    // The other side, prepared anew.
-    fn other(&self) -> Direction
-        ensures { result ≡ peer_sender self.now }
-    {
-        Direction::new(&self.key, self.side.peer(), self.is_acceptor_subkey)
-    }
-
-    // The key of the own side's MIC tokens, prepared anew.
-    fn own_mics(&self) -> Mics
-        ensures { result ≡ self.now }
-    {
-        Mics::new(&self.key, self.side, self.is_acceptor_subkey)
-    }
-
-    // The key of the other side's MIC tokens, prepared anew.
-    fn other_mics(&self) -> Mics
-        ensures { result ≡ peer_sender self.now }
-    {
-        Mics::new(&self.key, self.side.peer(), self.is_acceptor_subkey)
-    }
-
     // Writes a MIC token of the own side (`Direction::mic_to`).
     pub(crate) fn mic_to(
         &self,
@@ -112,7 +84,9 @@ impl Keys {
     {
         match &self.sending {
             Some(own) => own.mic_to(number, text, token),
-            None => self.own_mics().mic_to(number, text, token),
+            None => Mics::new(&self.key, self.side, self.is_acceptor_subkey).mic_to(
+                number, text, token,
+            ),
         }
     }
 
@@ -131,9 +105,9 @@ impl Keys {
     {
         match &self.sending {
             Some(own) => own.wrap_to(is_sealed, rotation, number, confounder, text, token),
-            None => self
-                .own()
-                .wrap_to(is_sealed, rotation, number, confounder, text, token),
+            None => Direction::new(&self.key, self.side, self.is_acceptor_subkey).wrap_to(
+                is_sealed, rotation, number, confounder, text, token,
+            ),
         }
     }
 
@@ -158,7 +132,9 @@ impl Keys {
     {
         match &self.receiving {
             Some(other) => other.verify_mic(text, token),
-            None => self.other_mics().verify_mic(text, token),
+            None => Mics::new(&self.key, self.side.peer(), self.is_acceptor_subkey).verify_mic(
+                text, token,
+            ),
         }
     }
 
@@ -168,7 +144,10 @@ impl Keys {
     {
         match &self.receiving {
             Some(other) => unwrapped(other, token),
-            None => unwrapped(&self.other(), token),
+            None => unwrapped(
+                &Direction::new(&self.key, self.side.peer(), self.is_acceptor_subkey),
+                token,
+            ),
         }
     }
 }

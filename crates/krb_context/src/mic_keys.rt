@@ -98,8 +98,7 @@ impl Mics {
 
     // The flags of a token that this side sends.
     pub(crate) fn flags(&self, is_sealed: bool) -> u8
-        ensures value { result ≡ flags_of self.now is_sealed }
-        ensures most { result ≤ 7 }
+        ensures { result ≡ flags_of self.now is_sealed }
     {
         self.side.sender_flag()
             + if is_sealed { SEALED } else { 0 }

@@ -40,6 +40,3 @@ pub same_kind : (k l : Kind) → IsMessageKind k → IsMessageKind l → (v : Va
     → Spells k v a → Spells l w b → a ++ x ≡ b ++ y → k ≡ l
 same_kind k l m n v w a b x y s t e =
     sym (each k m).2 ∙ ap kind_with (sym (tag_first k v a x s) ∙ ap (first_or 0) e ∙ tag_first l w b y t) ∙ (each l n).2
-
-pub same_tag : (k l : Kind) (v : ValueOf k) (w : ValueOf l) (bytes : List ℕ) → Spells k v bytes → Spells l w bytes → tag_of k ≡ tag_of l
-same_tag k l v w bytes s t = sym (tag_first k v bytes [] s) ∙ tag_first l w bytes [] t

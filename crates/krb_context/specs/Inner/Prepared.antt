@@ -10,11 +10,14 @@ use Rattle.krb_context.specs.declared.role.Role.{Role}
 abbrev pub sender_of : KeyValue → Role → Bool → Sender
 sender_of key side subkey = record { key = key; side = side; acceptor_subkey = subkey }
 
--- they are of one key, for the usages of this side
-pub record IsPrepared (side : Role) (subkey : Bool) (mics : Sender) (checksums sealing : UsageKeyValue) : Type 0 where
-  pub mics_are : mics ≡ sender_of sealing.key side subkey
-  pub checksums_are : checksums ≡ record { key = sealing.key; usage = seal_usage side }
-  pub sealing_is : sealing.usage ≡ seal_usage side
+-- the key of a side's Wrap tokens, and its usage
+abbrev pub seal_key : Sender → UsageKeyValue
+seal_key sender = record { key = sender.key; usage = seal_usage sender.side }
+
+-- what protects the Wrap tokens is of the side and the key of the MIC tokens
+pub record IsPrepared (mics : Sender) (checksums sealing : UsageKeyValue) : Type 0 where
+  pub checksums_are : checksums ≡ seal_key mics
+  pub sealing_is : sealing ≡ seal_key mics
 
 abbrev pub state_of : Sender → Options → Option ℕ → Known → State
 state_of sender options next window = record { sender = sender; options = options; next = next; window = window }

@@ -1,13 +1,11 @@
-use Rattle.std.proofs.Common.{◌≡◌, ◌∙◌, ℕ, List, Bool, true, false, length, sym, ap}
+use Rattle.std.proofs.Common.{◌≡◌, ◌∙◌, ℕ, List, length, sym, ap}
+use Rattle.std.proofs.lemmas.Bool.{iff_false}
 use Rattle.krb_enc.specs.Key.{profile_of}
 use Rattle.krb_enc.proofs.KeyLaws.{known_profile}
 use Rattle.krb_enc.proofs.Tags.{length-checksum_of}
 use Rattle.krb_context.specs.Wrap.{wrap_checksum}
 use Rattle.krb_context.proofs.Wraps.{before_checksum}
 use Rattle.krb_context.proofs.direction.Direction.check.Goals as goal
-
-not_both : (b : Bool) → b ≡ true → b ≡ false → ⊥
-not_both b is isnt = cc
 
 pub returns-else-is_checksum-clause-none : goal.returns-else-is_checksum-clause-none
 returns-else-is_checksum-clause-none c _ text is =
@@ -18,6 +16,5 @@ returns-else-is_checksum-clause-none c _ text is =
     length-checksum_of (profile_of self.key) self.key.bytes _ _ (known_profile self.key) ∙ sym (c.from.ensures ∙ c.requires.tag) in
     let parts = before_checksum body text (wrap_checksum self header.flags header.number text) c.from.result size is in
     let front : c.split_at.result.0.now ≡ text = c.split_at.ensures.front ∙ parts.0 in
-    not_both c.is_checksum.result
-    (c.is_checksum.ensures.1 (c.split_at.ensures.back ∙ parts.1 ∙ sym (ap (λ (t : List ℕ). wrap_checksum self header.flags header.number t) front)))
-    c.if-is_checksum.false
+    iff_false c.is_checksum.ensures c.if-is_checksum.false
+    (c.split_at.ensures.back ∙ parts.1 ∙ sym (ap (λ (t : List ℕ). wrap_checksum self header.flags header.number t) front))

@@ -1,31 +1,36 @@
-use Rattle.std.proofs.Common.{◌≡◌, ◌≤◌, ◌+◌, ◌-◌, ◌∙◌, ◌++◌, ℕ, List, true, false, length, take, drop, sym, ap, refl, subst, Ok, Err, Result, IfOk, arith}
-use Rattle.std.specs.Result.{is_err}
+use Rattle.std.proofs.Common.{◌≡◌, ◌≤◌, ◌+◌, ◌-◌, ◌∙◌, ◌++◌, ℕ, List, Some, None, length, take, drop, sym, ap, refl, subst, Ok, Err, Result, IfOk, arith}
+use Rattle.std.specs.Prelude.{IsErr}
+use Rattle.std.specs.Result.{result_ok}
+use Rattle.std.proofs.lemmas.Option.{IfSome_then}
 use Rattle.std.proofs.lemmas.List.{drop-take, length-take, length-take-le, length-drop, take-take}
 use Rattle.krb_enc.specs.Sealed.{Profile}
 use Rattle.krb_enc.specs.declared.fault.NotSealed.{NotSealed}
-use Rattle.krb_enc.specs.Key.{profile_of}
+use Rattle.krb_enc.specs.Key.{UsageKeyValue, profile_of}
 use Rattle.krb_enc.specs.Opens.{Opens, body_of}
 use Rattle.krb_enc.proofs.KeyLaws.{known_profile}
 use Rattle.krb_enc.proofs.OnePlain.{one_plain}
-use Rattle.krb_context.specs.Side.{Sender, seal_usage}
+use Rattle.krb_context.specs.Side.{seal_usage}
 use Rattle.krb_context.specs.Wrap.{wrap_header}
-use Rattle.krb_context.proofs.Wraps.{some_then, plain_parts, header_at_end}
+use Rattle.krb_context.specs.Inner.Prepared.{seal_key}
+use Rattle.krb_context.proofs.Wraps.{plain_parts, header_at_end}
 use Rattle.krb_context.proofs.direction.Direction.open.Goals as goal
 
-true_is_no : true ≡ false → ⊥
-true_is_no is = cc
+abbrev OpensBy : List ℕ → List ℕ → UsageKeyValue → Type 0
+OpensBy body plain u = Opens (profile_of u.key) u.key.bytes u.usage body plain
 
--- the same of the key that is held
-abbrev OpensBy : List ℕ → List ℕ → Sender → Type 0
-OpensBy body plain s = Opens (profile_of s.key) s.key.bytes (seal_usage s.side) body plain
+no_ok : (r : Result (Unit {0}) NotSealed) → result_ok r ≡ None → IsErr r
+no_ok (Ok x) is = absurd cc
+no_ok (Err x) is = refl
 
-pub returns-then-is_err-clause-none : goal.returns-then-is_err-clause-none
-returns-then-is_err-clause-none c _ text o =
+if_ok : (r : Result (Unit {0}) NotSealed) (P : Type 0) (x : Unit {0}) → result_ok r ≡ Some x → IfOk r (λ _. P) → P
+if_ok (Ok x) P y is it = it
+if_ok (Err x) P y is it = absurd cc
+
+pub returns-in_err-ok-clause-none : goal.returns-in_err-ok-clause-none
+returns-in_err-ok-clause-none c _ text o =
     let plain : List ℕ = text ++ (o.filler ++ wrap_header c.args.header.flags c.args.header.extra 0 c.args.header.number) in
-    let own = c.self.inside.sealing in
-    let opens = subst (λ (u : ℕ). Opens (profile_of own.key) own.key.bytes u c.args.body.now plain) (sym c.self.invariant.sealing_is)
-    (subst (OpensBy c.args.body.now plain) (sym c.self.view_is) o.opens) in
-    c.open_in_place.ensures.refused.0 (sym c.is_err.ensures.value ∙ c.if-is_err.true) plain opens
+    let opens = subst (OpensBy c.args.body.now plain) (sym (c.self.invariant.sealing_is ∙ ap seal_key c.self.view_is)) o.opens in
+    c.open_in_place.ensures.refused.0 (no_ok c.open_in_place.result (sym c.ok.ensures.value ∙ c.in_err-ok.was)) plain opens
 
 -- what follows the confounder, before the tag
 abbrev plain_in : List ℕ → ℕ → List ℕ
@@ -36,41 +41,36 @@ plain_is p body tag_len is long =
     let sum : length body - p.tag_len ≡ 16 + (length body - tag_len - 16) = omega (arith, is, long) in
     ap (λ (n : ℕ). drop 16 (take n body)) sum ∙ drop-take 16 (length body - tag_len - 16) body
 
-if_ok : (r : Result (Unit {0}) NotSealed) (P : Type 0) → is_err r ≡ false → IfOk r (λ _. P) → P
-if_ok (Ok x) P is it = it
-if_ok (Err x) P is it = absurd (true_is_no is)
-
-opened : (c : goal.After-text_before) → OpensBy c.args.body.now (plain_in c.open_in_place.new.text c.tag_len.result) c.args.self.now
+opened : (c : goal.After-text_before) → OpensBy c.args.body.now (plain_in c.open_in_place.new.text c.tag_len.result) (seal_key c.args.self.now)
 opened c =
     let own = c.self.inside.sealing in
     let body = c.args.body.now in
     let new = c.open_in_place.new.text in
+    let sealing = c.self.invariant.sealing_is ∙ ap seal_key c.self.view_is in
     let is = plain_is (profile_of own.key) new c.tag_len.result c.tag_len.ensures.value
-    (omega (arith, c.open_in_place.ensures.length, c.requires, c.tag_len.ensures.value, ap (λ (s : Sender). (profile_of s.key).tag_len) c.self.view_is)) in
+    (omega (arith, c.open_in_place.ensures.length, c.requires, c.tag_len.ensures.value, ap (λ (u : UsageKeyValue). (profile_of u.key).tag_len) sealing)) in
     let opens = if_ok c.open_in_place.result (Opens (profile_of own.key) own.key.bytes own.usage body (drop 16 (body_of (profile_of own.key) new)))
-    (sym c.is_err.ensures.value ∙ c.if-is_err.false) c.open_in_place.ensures.opened in
-    subst (OpensBy body (plain_in new c.tag_len.result)) c.self.view_is
-    (subst (λ (u : ℕ). Opens (profile_of own.key) own.key.bytes u body (plain_in new c.tag_len.result)) c.self.invariant.sealing_is
-    (subst (Opens (profile_of own.key) own.key.bytes own.usage body) is opens))
+    _ (sym c.ok.ensures.value ∙ c.in_ok-ok.was) c.open_in_place.ensures.opened in
+    subst (OpensBy body (plain_in new c.tag_len.result)) sealing (subst (Opens (profile_of own.key) own.key.bytes own.usage body) is opens)
 
 pub returns-clause-found : goal.returns-clause-found
 returns-clause-found c =
     let plain : List ℕ = plain_in c.open_in_place.new.text c.tag_len.result in
     let new = c.open_in_place.new.text in
     let header = c.args.header in
-    some_then c.text_before.result _ _ (λ size it.
+    IfSome_then c.text_before.result c.text_before.ensures.found (λ size it.
     let within : size ≤ length new - c.tag_len.result - 16 = omega (arith, it.0, length-take (length new - c.tag_len.result - 16) (drop 16 new)) in
     let text : take size (drop 16 new) ≡ take size plain = sym (take-take size (length new - c.tag_len.result - 16) (drop 16 new) within) in (
       record {
         filler = take header.extra (drop size plain);
         size = length-take-le header.extra (drop size plain) (omega (arith, it.0, length-drop size plain));
-        opens = subst (λ (t : List ℕ). OpensBy c.args.body.now t c.args.self.now)
+        opens = subst (λ (t : List ℕ). OpensBy c.args.body.now t (seal_key c.args.self.now))
             (plain_parts plain (wrap_header header.flags header.extra 0 header.number) size header.extra it.0 it.1
             ∙ ap (λ (t : List ℕ). t ++ (take header.extra (drop size plain) ++ wrap_header header.flags header.extra 0 header.number)) (sym text))
             (opened c);
       },
       omega (arith, within, it.0, length-take (length new - c.tag_len.result - 16) (drop 16 new), length-drop 16 new),
-    )) c.text_before.ensures.found
+    ))
 
 pub returns-clause-none : goal.returns-clause-none
 returns-clause-none c none text o =

@@ -1,6 +1,7 @@
-use Rattle.std.proofs.Common.{◌≡◌, ◌∙◌, ◌<◌, ◌+◌, ◌++◌, ℕ, List, length, take, drop, refl, sym, ap, ap₂, subst, arith}
+use Rattle.std.proofs.Common.{◌≡◌, ◌∙◌, ◌<◌, ◌+◌, ◌++◌, ℕ, List, Bool, length, take, drop, refl, sym, ap, ap₂, subst, arith}
 use Rattle.std.proofs.lemmas.List.{drop-drop, length-drop}
 use Rattle.std.proofs.Math.Seq.{drop-append_seam}
+use Rattle.krb_context.specs.Wrap.{IsWrap}
 use Rattle.krb_context.specs.Inner.Forms.{Holds}
 use Rattle.krb_context.proofs.Rotations.{turned_back}
 use Rattle.krb_context.proofs.Unwraps.{has_no_fault, is_token, find, form_of, one_text, some_room}
@@ -11,8 +12,8 @@ returns-in_err-header-clause-found c is_sealed number text w =
     absurd (has_no_fault c.args.self.now is_sealed number text c.args.token.now w _ c.in_err-header.ensures.fault)
 
 -- the body that is opened is what comes after the header, turned back
-pub returns-in_default-clause-found : goal.returns-in_default-clause-found
-returns-in_default-clause-found c is_sealed number text w =
+none_held : (c : goal.After-slice_known-in_default-2-1) (is_sealed : Bool) (number : ℕ) (text : List ℕ) → IsWrap c.args.self.now is_sealed number text c.args.token.now → ⊥
+none_held c is_sealed number text w =
     let header = c.in_ok-header.header in
     let token = c.args.token.now in
     let found = find c.args.self.now token text header is_sealed number c.in_ok-header.ensures.form (omega arith) (omega arith) (omega arith) w in
@@ -20,18 +21,14 @@ returns-in_default-clause-found c is_sealed number text w =
     c.rotate_left.ensures.after ∙ ap₂ (λ (r : ℕ) (t : List ℕ). turned_back r t) c.from.ensures c.split_at_mut-body.ensures.back in
     c.in_default.ensures.none refl text (subst (λ (t : List ℕ). Holds c.args.self.now header t text) (sym body) found.holds)
 
+pub returns-in_default-clause-found : goal.returns-in_default-clause-found
+returns-in_default-clause-found c is_sealed number text w = absurd (none_held c is_sealed number text w)
+
 pub returns-in_default-clause-fault : goal.returns-in_default-clause-fault
 returns-in_default-clause-fault c =
-    let header = c.in_ok-header.header in (
-      header.flags,
-      form_of c.args.self.now c.args.token.now header c.in_ok-header.ensures.form (omega arith) (omega arith) (omega arith),
-      c.in_ok-header.ensures.form.has_flags,
-      λ is_sealed number text w.
-          let found = find c.args.self.now c.args.token.now text header is_sealed number c.in_ok-header.ensures.form (omega arith) (omega arith) (omega arith) w in
-          let body : c.rotate_left.new.self ≡ turned_back header.rotation (drop 16 c.args.token.now) =
-          c.rotate_left.ensures.after ∙ ap₂ (λ (r : ℕ) (t : List ℕ). turned_back r t) c.from.ensures c.split_at_mut-body.ensures.back in
-          c.in_default.ensures.none refl text (subst (λ (t : List ℕ). Holds c.args.self.now header t text) (sym body) found.holds),
-    )
+    let header = c.in_ok-header.header in
+    let form = c.in_ok-header.ensures.form in
+    (header.flags, form_of c.args.self.now c.args.token.now header form (omega arith) (omega arith) (omega arith), form.has_flags, none_held c)
 
 -- the body that was opened, and the text where it stands in the token
 holds : (c : goal.After-struct_known-2-1) → Holds c.args.self.now c.in_ok-header.header (turned_back c.in_ok-header.header.rotation (drop 16 c.args.token.now))

@@ -13,7 +13,7 @@ returns c =
     let self = c.args.self.now in
     let text = c.args.text.now in
     let header : List ℕ = mic_header (flags_of self false) c.args.number in
-    let header_is : c.bytes-header.result ≡ header = c.bytes-header.ensures ∙ ap (λ (f : ℕ). mic_header f c.args.number) c.flags.ensures.value in
+    let header_is : c.bytes-header.result ≡ header = c.bytes-header.ensures ∙ ap (λ (f : ℕ). mic_header f c.args.number) c.flags.ensures in
     let tag_is : c.checksum.result ≡ checksum_of (profile_of self.key) self.key.bytes (sign_usage self.side) (text ++ header) =
     checksum_under c.self.inside.key _ (sign_usage c.self.inside.side) text c.bytes-header.result header c.checksum.result c.checksum.ensures c.self.invariant header_is
     ∙ ap (λ (s : Sender). checksum_of (profile_of s.key) s.key.bytes (sign_usage s.side) (text ++ header)) c.self.view_is in

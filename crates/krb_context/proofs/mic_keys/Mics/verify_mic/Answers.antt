@@ -1,4 +1,5 @@
-use Rattle.std.proofs.Common.{◌≡◌, ◌∙◌, ◌++◌, ℕ, List, Bool, true, false, refl, sym, ap, ap₂, subst, arith}
+use Rattle.std.proofs.Common.{◌≡◌, ◌∙◌, ◌++◌, ℕ, List, refl, sym, ap, ap₂, subst, arith, take, drop}
+use Rattle.std.proofs.lemmas.Bool.{iff_false}
 use Rattle.std.proofs.lemmas.List.{take-append-drop}
 use Rattle.std.proofs.lemmas.Result.{err_from_is_err_and}
 use Rattle.krb_enc.specs.Key.{profile_of}
@@ -8,19 +9,16 @@ use Rattle.krb_context.specs.Mic.{IsMic, mic_header}
 use Rattle.krb_context.specs.Inner.Forms.{IsFlagFault}
 use Rattle.krb_context.specs.declared.fault.MessageFault.{MessageFault}
 use Rattle.krb_context.proofs.Parts.{checksum_under, checksum_back}
-use Rattle.krb_context.proofs.Mics.{mic_flag_fault, front_of, after_of, form_of, flags_known}
+use Rattle.krb_context.proofs.Mics.{mic_flag_fault, form_of, flags_known}
 use Rattle.krb_context.proofs.mic_keys.Mics.verify_mic.Goals as goal
-
-not_both : (b : Bool) → b ≡ true → b ≡ false → ⊥
-not_both b is isnt = cc
 
 pub returns-in_default-clause-found : goal.returns-in_default-clause-found
 returns-in_default-clause-found c number mic =
-    absurd (c.in_default.ensures.none refl mic.flags number mic.fits (c.split_at.ensures.front ∙ front_of c.args.token.now _ mic.flags number mic.whole))
+    absurd (c.in_default.ensures.none refl mic.flags number mic.fits (c.split_at.ensures.front ∙ ap (take 16) mic.whole))
 
 pub returns-in_default-clause-fault : goal.returns-in_default-clause-fault
 returns-in_default-clause-fault c flags form =
-    c.in_default.ensures.none refl flags form.number form.fits (c.split_at.ensures.front ∙ front_of c.args.token.now form.after flags form.number form.whole)
+    c.in_default.ensures.none refl flags form.number form.fits (c.split_at.ensures.front ∙ ap (take 16) form.whole)
 
 pub returns-in_err-check_flags-clause-fault : goal.returns-in_err-check_flags-clause-fault
 returns-in_err-check_flags-clause-fault c =
@@ -52,12 +50,11 @@ refuted c number mic =
     let text = c.args.text.now in
     let token = c.args.token.now in
     let header : List ℕ = mic_header mic.flags number in
-    let front : c.split_at.result.0.now ≡ header = c.split_at.ensures.front ∙ front_of token _ mic.flags number mic.whole in
+    let front : c.split_at.result.0.now ≡ header = c.split_at.ensures.front ∙ ap (take 16) mic.whole in
     let tag : c.split_at.result.1.now ≡ checksum_of (profile_of c.self.inside.key.key) c.self.inside.key.key.bytes (sign_usage c.self.inside.side) (text ++ header) =
-    c.split_at.ensures.back ∙ after_of token _ mic.flags number mic.whole
+    c.split_at.ensures.back ∙ ap (drop 16) mic.whole
     ∙ ap (λ (s : Sender). checksum_of (profile_of s.key) s.key.bytes (sign_usage s.side) (text ++ header)) (sym c.self.view_is) in
-    not_both c.verify.result (c.verify.ensures.1 (checksum_back c.self.inside.key _ (sign_usage c.self.inside.side) text c.split_at.result.0.now header _ tag c.self.invariant front))
-    c.if-verify.false
+    iff_false c.verify.ensures c.if-verify.false (checksum_back c.self.inside.key _ (sign_usage c.self.inside.side) text c.split_at.result.0.now header _ tag c.self.invariant front)
 
 pub returns-else-verify-clause-found : goal.returns-else-verify-clause-found
 returns-else-verify-clause-found c number mic = absurd (refuted c number mic)

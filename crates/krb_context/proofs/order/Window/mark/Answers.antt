@@ -1,13 +1,11 @@
-use Rattle.std.proofs.Common.{◌≡◌, ◌+◌, ◌%◌, ◌≤◌, ◌∷◌, ◌∙◌, ℕ, Bool, true, false, Some, sym, subst, ap, arith, length, slice_set}
+use Rattle.std.proofs.Common.{◌≡◌, ◌+◌, ◌%◌, ◌∷◌, ◌∙◌, ℕ, Some, sym, subst, ap, arith, length, slice_set}
 use Rattle.std.specs.Prelude.{max}
+use Rattle.std.proofs.lemmas.Bool.{iff_false}
 use Rattle.krb_context.specs.Sequence.{Known, Stands}
 use Rattle.krb_context.specs.Inner.Ring.{Ring, StandsFor, known_of}
 use Rattle.krb_context.proofs.Rings.{ring_of, known_from, put_in_place}
 use Rattle.krb_context.proofs.Windows.{put, too_old}
 use Rattle.krb_context.proofs.order.Window.mark.Goals as goal
-
-not_both : (b : Bool) → b ≡ true → b ≡ false → ⊥
-not_both b is isnt = cc
 
 pub returns-then-is_near : goal.returns-then-is_near
 returns-then-is_near c first taken s =
@@ -26,9 +24,8 @@ returns-then-is_near c first taken s =
 pub returns-else-is_near : goal.returns-else-is_near
 returns-else-is_near c first taken s =
     let known : Stands (known_of c.self.inside.first c.self.inside.next c.self.inside.slots) first taken = subst (λ (w : Known). Stands w first taken) (sym c.self.view_is) s in
-    let far = λ (near : (c.args.self.now.first ≤ c.args.number) × (c.args.self.now.next ≤ c.args.number + 64)). not_both c.is_near.result (c.is_near.ensures.1 near) c.if-is_near.false in
     subst (λ (w : Known). Stands w first (c.args.number ∷ taken)) c.self.view_is
     (known_from c.self.inside.first c.self.inside.next c.self.inside.slots first (c.args.number ∷ taken) c.self.invariant
     (too_old (record { first = c.self.inside.first; next = c.self.inside.next; slots = c.self.inside.slots }) first c.args.number taken
     (ring_of c.self.inside.first c.self.inside.next c.self.inside.slots first taken c.self.invariant known)
-    (λ near. far (omega (arith, near.0, known.first_is, s.first_is), omega (arith, near.1, known.next_is, s.next_is)))))
+    (λ near. iff_false c.is_near.ensures c.if-is_near.false (omega (arith, near.0, known.first_is, s.first_is), omega (arith, near.1, known.next_is, s.next_is)))))
