@@ -50,14 +50,14 @@ IsChoiceBy Usable entries name etype kvno no_name = All (λ entry. ¬ SameName e
 IsChoiceBy Usable entries name etype kvno no_key = HasEntry (λ entry. SameName entry.principal name) entries × All (λ entry. ¬ IsKeyOf Usable name etype entry) entries
 IsChoiceBy Usable entries name etype kvno no_version = HasEntry (IsKeyOf Usable name etype) entries × All (λ entry. ¬ IsCandidate Usable name etype kvno entry) entries
 
--- what `pick` chooses: a key counts if it is one of its encryption type
+-- what `pick` chooses: only usable keys count
 abbrev pub IsChoice : List KeytabEntry → Principal → ℤ → Option ℕ → Choice → Type 0
 IsChoice entries name etype kvno choice = IsChoiceBy IsUsable entries name etype kvno choice
 
 abbrev pub IsAnyKey : KeytabEntry → Type 0
 IsAnyKey entry = Unit {0}
 
--- what `pick_of_type` chooses: any key counts, whatever its length
+-- what `pick_of_type` chooses: every key counts, whatever its length
 abbrev pub IsChoiceOfType : List KeytabEntry → Principal → ℤ → Option ℕ → Choice → Type 0
 IsChoiceOfType entries name etype kvno choice = IsChoiceBy IsAnyKey entries name etype kvno choice
 
