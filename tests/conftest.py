@@ -7,6 +7,7 @@ import fcntl
 import random
 import subprocess
 
+import fevstunik
 import pytest
 
 from support import TOP
@@ -181,6 +182,12 @@ def library():
     archive = made(TARGET)
     version = subprocess.run([TOP / "packaging/version"], capture_output=True, text=True).stdout.strip()
     return archive.with_suffix(f".so.{version}")
+
+
+@pytest.fixture(scope="session")
+def in_c(library):
+    """The library for C, for the modules of tests/support that make calls by it."""
+    fevstunik.load(library)
 
 
 @pytest.fixture(scope="session")

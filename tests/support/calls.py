@@ -1,19 +1,22 @@
 """Makes calls of the libraries by the programs of the crates krb_calls_*, and compares what they answer.
 
 Such a program reads one call a line and answers one line for each; its crate's documentation says which calls. The
-cases of a file
-tests/*/*.toml that names a program:
+cases of a file tests/*/*.toml that names a program:
 
-    program = "krb_calls_wire"     the program that makes the calls
+    program = "krb_calls_wire"     the program that makes the calls; a case may name another
     [[case]]
     name    what it shows; where its values come from, if not said once for the file
     lines   a call, or a list of calls; what an earlier line of the case made is there for the later ones
     answers what is answered: a text, or a list
 
+A program that isn't one of crates/krb_calls_* is a module of tests/support, whose `answers(lines)` makes the calls by
+the library for C (a test of such cases asks for the fixture `in_c`).
+
 A case begins with nothing made: the line `new` goes before it, and is answered `new`. Bytes are hexadecimal digits, `-`
 where there are none, `HEX*N` for HEX N times, several such joined by `+`; `@PATH` is a file of the repository. In an
 answer, a word of bytes of more than 1,024 bytes stands as `#LENGTH:SHA256` (in a case it is written like the bytes of a
-call). Of the program krb_calls_exchange a text in braces stands for what exchange_made.py makes of it.
+call). Of the programs krb_calls_exchange and exchange_in_c a text in braces stands for what exchange_made.py makes of
+it.
 
 A case of that program may have `calls` in place of lines: what follows `accept` in the line of a request. Each of them,
 made to a fresh service over the keytab `keytab` (if there is none, the fixture's for both types) with a skew of 300 s,
@@ -23,6 +26,7 @@ import re
 import subprocess
 import tomllib
 from collections import defaultdict
+from importlib import import_module
 
 from support import TESTS, TOP, exchange_made
 from support.checks import slug
@@ -31,8 +35,8 @@ from support.exchange_made import SHOWN, shown
 # How long a program may take for all calls of a test.
 SECONDS = 1500
 
-# The program for whose cases messages are made.
-EXCHANGE = "krb_calls_exchange"
+# The programs for whose cases messages are made.
+EXCHANGE = ("krb_calls_exchange", "exchange_in_c")
 
 PIECE = re.compile(r"(?:[0-9a-f]{2})+(?:\*[0-9]+)?")
 
@@ -74,7 +78,7 @@ def listed(it):
 
 def spelled(program, texts):
     """Lines or answers, with what is made in the place of braces."""
-    if program != EXCHANGE:
+    if program not in EXCHANGE:
         return texts
     return [re.sub(r"\{(\w[^}]*)\}", lambda it: exchange_made.written(it[1]), text) for text in texts]
 
@@ -99,11 +103,12 @@ def stored(folder="*"):
         with open(path, "rb") as file:
             table = tomllib.load(file)
         for case in table["case"] if "program" in table else ():
-            unknown = set(case) - {"name", "lines", "answers", "calls", "keytab"}
+            unknown = set(case) - {"name", "lines", "answers", "calls", "keytab", "program"}
             if unknown:
                 raise ValueError(f"{path.name}: {case.get('name')}: unknown keys {sorted(unknown)}")
             for form, lines, answers in forms(case):
-                yield table["program"], f"{path.stem}: {case['name']}{form}", lines, answers
+                program = case.get("program", table["program"])
+                yield program, f"{path.stem}: {case['name']}{form}", lines, answers
 
 
 def title(case):
@@ -134,15 +139,29 @@ def built(program):
     return path
 
 
+def is_built(program):
+    """Whether a program is one of crates/krb_calls_*, and not a module that makes the calls by the library for C."""
+    return program.startswith("krb_calls_")
+
+
+def given_to(program, cases):
+    """What the program answers to the lines of the cases, and what else there is to say of its run."""
+    if not is_built(program):
+        lines = [line for _, lines, _ in cases for line in lines]
+        return list(import_module(f"support.{program}").answers(lines)), 0, b""
+    ran = subprocess.run([built(program)], input=joined(lines for _, lines, _ in cases).encode(), capture_output=True,
+                         timeout=SECONDS)
+    return ran.stdout.decode(errors="replace").splitlines(), ran.returncode, ran.stderr
+
+
 def compared(program, cases):
     """The name of each case, and what is wrong with what the program answers, or None."""
     try:
-        text, path = joined(lines for _, lines, _ in cases), built(program)
-        ran = subprocess.run([path], input=text.encode(), capture_output=True, timeout=SECONDS)
+        answers, status, errors = given_to(program, cases)
     except (OSError, subprocess.TimeoutExpired) as error:
         yield program, str(error)
         return
-    answers, at = ran.stdout.decode(errors="replace").splitlines(), 0
+    at = 0
     for name, lines, right in cases:
         found = answers[at : at + len(right)]
         at += len(right)
@@ -150,10 +169,10 @@ def compared(program, cases):
         if wrong:
             yield name, f"{wrong[0][:300]}: {wrong[1][:600]}, not {wrong[2][:600]}"
         else:
-            ended = f"the program ended before its answers, with status {ran.returncode}"
+            ended = f"the program ended before its answers, with status {status}"
             yield name, None if len(found) == len(right) else ended
-    ended_well = ran.returncode == 0 and not ran.stderr and at == len(answers)
-    wrong = f"status {ran.returncode}, {ran.stderr[:300]!r}, {len(answers) - at} lines too many"
+    ended_well = status == 0 and not errors and at == len(answers)
+    wrong = f"status {status}, {errors[:300]!r}, {len(answers) - at} lines too many"
     yield f"{program} ends well", None if ended_well else wrong
 
 
@@ -167,6 +186,7 @@ def answered(cases, word=""):
 def lay_out():
     """Writes crates/PROGRAM/stdin and stdout of the stored cases, on which `rt ci` runs each program as both compilers
     build it."""
-    for program, cases in by_program(stored()).items():
+    found = by_program(stored())
+    for program, cases in ((it, found[it]) for it in found if is_built(it)):
         (TOP / f"crates/{program}/stdin").write_text(joined(lines for _, lines, _ in cases))
         (TOP / f"crates/{program}/stdout").write_text(joined(right for _, _, right in cases))
