@@ -1,6 +1,6 @@
 """Says which edits were refused, and of which texts that was so, by tests/edits.lock:
 
-    toolchain VERSION          what `rt version` prints; it goes for the lines that follow
+    toolchain LOGIC            the logic that `rt version` prints; it goes for the lines that follow
     CRATE/WHAT.edit HASH       this edit was refused
 
 Whether an edit is refused depends on the edit, on the functions that it changes and their proofs, on the heads of the functions that these name
@@ -27,8 +27,10 @@ OUTSIDE = 4
 
 
 def toolchain():
-    ran = subprocess.run(["rt", "version"], capture_output=True, text=True)
-    return ran.stdout.strip()
+    """The logic of the toolchain. Toolchains of several names have the same one (README.md), and check the same proofs: what one refuses, the
+    others refuse. (If one found a proof that another doesn't find, it would show when the edit's turn comes.)"""
+    text = subprocess.run(["rt", "version"], capture_output=True, text=True).stdout.strip()
+    return text.partition(" ")[2] or text
 
 
 def sum_of(*parts):
