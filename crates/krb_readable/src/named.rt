@@ -2,6 +2,7 @@
 
 ghost use Rattle.std.specs.Prelude.{◌≡◌, map};
 ghost use Rattle.std.specs.Option.{option_map};
+ghost use Rattle.std.specs.Str.{str_eq_ignore_ascii_case};
 ghost use Rattle.krb_readable.specs.Named.{name_in, number_called, number_in, row_of};
 
 /// A row of a registry: a number, and its name.
@@ -36,10 +37,16 @@ pub fn number_in(registry: &[Named], name: &str) -> Option<i32>
 pub fn number_called(registry: &[Named], name: &str) -> Option<i32>
     ensures { result ≡ number_called (map row_of registry.now) name.now }
 {
-    for known in registry {
-        if known.1.eq_ignore_ascii_case(name) {
-            return Some(known.0);
+    for row in registry {
+        if is_called(row, name) {
+            return Some(row.0);
         }
     }
     None
+}
+
+fn is_called(row: &Named, name: &str) -> bool
+    ensures { result ≡ str_eq_ignore_ascii_case row.now.1.now name.now }
+{
+    row.1.eq_ignore_ascii_case(name)
 }
