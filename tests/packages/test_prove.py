@@ -100,6 +100,23 @@ def test_library_that_is_there(room):
     assert not mark.exists() and not (room / "crates/krb_name/out/rlib/stamp").exists()
 
 
+def test_libraries_that_are_left(room):
+    """What `rt ci` has just left isn't proved again, unless something has changed or it is an author's."""
+    below = ("--below", "krbtool", "krb_c")
+    assert len(proved(room, *below)[2]) == 1
+    status, said, calls = proved(room, *below)
+    assert (status, calls) == (0, []) and "rt ci has proved krb_name krb_key here" in said
+    (room / "crates/krb_name/src/lib.rt").write_text("changed")
+    assert len(proved(room, *below)[2]) == 1 and library(room, "krb_name").read_text() == "changed"
+    assert proved(room, *below)[2] == []
+    (room / "crates/krb_key/out/rlib/stamp").write_text("")
+    assert len(proved(room, *below)[2]) == 1 and proved(room, *below)[2] == []
+    (room / "crates/krb_key/src/other.rt").write_text("")
+    assert len(proved(room, *below)[2]) == 1 and proved(room, *below)[2] == []
+    (room / "crates/krb_key/src/other.rt").unlink()
+    assert len(proved(room, *below)[2]) == 1
+
+
 def test_failure(room):
     status, said, _ = proved(room, "krbtool", FAILS="yes")
     assert status == 1 and "NOT PROVED" in said and said.endswith("prove: not all crates are proved\n")
