@@ -22,6 +22,7 @@ TICKS = os.sysconf("SC_CLK_TCK")
 
 def checks(top):
     """The crate and the processor seconds so far of each check that runs in the repository, by process."""
+    found = {}
     for folder in Path("/proc").glob("[0-9]*"):
         try:
             words = (folder / "cmdline").read_bytes().split(b"\0")
@@ -33,7 +34,10 @@ def checks(top):
         except OSError:
             continue
         # (user and system time, also of processes that it waited for)
-        yield folder.name, words[words.index(b"--crate-name") + 1].decode(), sum(map(int, used[11:15])) / TICKS
+        crate, seconds = words[words.index(b"--crate-name") + 1].decode(), sum(map(int, used[11:15])) / TICKS
+        found[folder.name] = used[1], crate, seconds
+    # (a check's own processes count once it has waited for them)
+    return [(process, *it) for process, (parent, *it) in found.items() if parent not in found]
 
 
 def sampled(ended, top):
