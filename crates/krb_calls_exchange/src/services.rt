@@ -31,8 +31,8 @@ pub(crate) fn start(words: &mut Words) -> Option<Served> {
         Some(moment(words)?)
     };
     match kind {
-        "list" => Some(Served::List(service(keytab, skew, ListMemory::new(words.alloc), start))),
-        "timed" => Some(Served::Timed(service(keytab, skew, TimedMemory::new(words.alloc), start))),
+        "list" => Some(Served::List(open_to_all(listed(words.alloc, keytab, skew, start)))),
+        "timed" => Some(Served::Timed(open_to_all(timed(words.alloc, keytab, skew, start)))),
         _ => None,
     }
 }
@@ -42,16 +42,33 @@ fn keytab(words: &mut Words) -> Option<Keytab> {
     Keytab::parse(words.alloc, &file).ok()
 }
 
-fn service<M: ReplayMemory>(
+fn listed(
+    alloc: Global,
     keytab: Keytab,
     skew: Skew,
-    memory: M,
     start: Option<Moment>,
-) -> Service<M> {
-    let acceptor = match start {
+) -> Acceptor<ListMemory> {
+    let memory = ListMemory::new(alloc);
+    match start {
         Some(start) => Acceptor::started(keytab, skew, memory, start),
         None => Acceptor::new(keytab, skew, memory),
-    };
+    }
+}
+
+fn timed(
+    alloc: Global,
+    keytab: Keytab,
+    skew: Skew,
+    start: Option<Moment>,
+) -> Acceptor<TimedMemory> {
+    let memory = TimedMemory::new(alloc);
+    match start {
+        Some(start) => Acceptor::started(keytab, skew, memory, start),
+        None => Acceptor::new(keytab, skew, memory),
+    }
+}
+
+fn open_to_all<M: ReplayMemory>(acceptor: Acceptor<M>) -> Service<M> {
     let terms = Terms {
         anonymous: false,
         realms: Realms::Any,
