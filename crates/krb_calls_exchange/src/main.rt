@@ -14,6 +14,8 @@
 //! held                                  how many tuples its memory has, and the latest moment
 //! share new|known|failed TIME TIME BYTES    what it decides of the bytes of a client, at the second time, with a store that says this, and a
 //!                                       clock that shows the first time after that: `in`, `on` or `refused TEXT`, and what goes back
+//! talk TIME BYTES ..                    what it decides of each message of a client that may name another mechanism first: `in`, `shown` (its
+//!                                       list of mechanisms), `on`, `refused` or `unshown`, and what goes back
 //! memory list|timed|limited [LIMIT LIMIT]   a new memory; one with limits has one for all clients, and one for each
 //! remember|contains NAME NAME TIME      of the tuple of this server, client and time
 //! advance|expect TIME SKEW, len, latest
@@ -35,6 +37,7 @@ mod cause_list;
 mod memories;
 mod names;
 mod services;
+mod talks;
 mod texts;
 
 use krb_words::{Answer, Calls, Words, answer_lines};
@@ -70,7 +73,7 @@ impl Calls for Kept {
                 self.served = Some(services::start(words)?);
                 out.word("service")
             }
-            "accept" | "serve" | "keytab" | "held" | "share" => {
+            "accept" | "serve" | "keytab" | "held" | "share" | "talk" => {
                 services::answer(self.served.as_mut()?, first, words, out)
             }
             "text" => texts::answer(words, out),
@@ -96,6 +99,12 @@ fn laws(out: &mut Answer) -> Option<()> {
     krb_login::laws::answers_that();
     krb_login::laws::shows_what_is_open();
     krb_login::laws::completed_if_let_in();
+    krb_talk::laws::let_in_only_over_its_list();
+    krb_talk::laws::both_have_sent_their_mics();
+    krb_talk::laws::a_list_is_never_passed_over();
+    krb_talk::laws::few_messages();
+    krb_talk::laws::turns_are_talks();
+    krb_talk::laws::no_second_decision();
     krb_replay::laws::a_set_has_one_size();
     krb_replay::laws::bytes_are_the_stamps();
     out.word("laws")

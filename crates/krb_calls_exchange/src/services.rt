@@ -4,6 +4,7 @@ ghost use Rattle.std.specs.Prelude.{◌≡◌};
 
 use crate::memories::show_memory;
 use crate::names::moment;
+use crate::talks::talk;
 use krb_ap::{Acceptor, Call, Outcome, Refusal, ReplyOptions};
 use krb_gss::Negotiation;
 use krb_keytab::Keytab;
@@ -113,6 +114,7 @@ fn call<M: ReplayMemory>(
         }
         "held" => show_memory(service.acceptor.memory(), out),
         "share" => share(service, words, out),
+        "talk" => talk(service, words, out),
         _ => None,
     }
 }
@@ -137,7 +139,7 @@ fn serve<M: ReplayMemory>(
     Some(())
 }
 
-fn all_given(words: &mut Words) -> Option<Vec<(Moment, Vec<u8>)>> {
+pub(crate) fn all_given(words: &mut Words) -> Option<Vec<(Moment, Vec<u8>)>> {
     let mut given = Vec::new(words.alloc);
     for _ in 0..u32::MAX {
         if words.is_at_end() {
@@ -208,6 +210,19 @@ const CONFOUNDER: [u8; 16] = [
     0x30, 0x31, 0x32, 0x33, 0x34, 0x35, 0x36, 0x37, 0x38, 0x39, 0x3a, 0x3b, 0x3c, 0x3d, 0x3e, 0x3f,
 ];
 
+/// A message of a client, and what the service chooses for its reply: no subkey and no number.
+pub(crate) fn given_of(now: Moment, bytes: &[u8]) -> Given<'_> {
+    Given {
+        bytes,
+        now,
+        confounder: &CONFOUNDER,
+        choice: ReplyOptions {
+            subkey: None,
+            seq: None,
+        },
+    }
+}
+
 fn share<M: ReplayMemory>(
     service: &mut Service<M>,
     words: &mut Words,
@@ -219,16 +234,8 @@ fn share<M: ReplayMemory>(
     };
     let now = moment(words)?;
     let bytes = words.bytes()?;
-    let given = Given {
-        bytes: &bytes,
-        now,
-        confounder: &CONFOUNDER,
-        choice: ReplyOptions {
-            subkey: None,
-            seq: None,
-        },
-    };
     let mut negotiation = Negotiation::Begun;
+    let given = given_of(now, &bytes);
     let decision = service.answer_shared(words.alloc, &mut negotiation, &mut store, given);
     show_decision(&decision, out)
 }
@@ -251,7 +258,7 @@ fn show_decision(decision: &Decision, out: &mut Answer) -> Option<()> {
     }
 }
 
-fn show_sent(sent: &Option<Vec<u8>>, out: &mut Answer) -> Option<()> {
+pub(crate) fn show_sent(sent: &Option<Vec<u8>>, out: &mut Answer) -> Option<()> {
     match sent {
         Some(bytes) => out.bytes(bytes),
         None => out.word("nothing"),
