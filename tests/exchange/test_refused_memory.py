@@ -1,137 +1,138 @@
-"""Calls of the libraries that the command doesn't make, with memory refused.
+"""Calls of a service and of a memory, with memory refused, of the program of the crate krb_calls_exchange. (tests/c has
+those of the library for C.)
 
-The program of the crate krb_calls_exchange makes each call twice in a run (its arguments are `call CALL`). Of each run
-one call for memory is refused, or one and all after it, until a run meets none (tests/support/refuse.c). The answer is
-then out of memory and no other, what there was before is as it was, and what follows is answered as if the refused call
-had never been made.
+Of each run one call for memory is refused, or two or three in a row, until a run meets none (tests/support/refuse.c).
+A call of the library then answers out of memory and no other, and what follows is answered as if it had never been
+made. A line that the program itself has no room to read or to show is answered `bad line`; its call was made, or it
+wasn't.
 """
 import os
 import subprocess
+from dataclasses import dataclass, replace
 
 import pytest
 
-from support import calls, fixture, preload, reference, sealing
-from support.preload import ALL, PASSED_OVER
+from support import calls, exchange_made, preload
+from support.exchange_made import Made, written
+from support.preload import ALL
 
-KEY, CONFOUNDER, PLAIN = b"\x21" * 16, b"\x5a" * 16, b"\x33" * 60
 REFUSED = "OutOfMemory"
-ACCEPTED = "accepted alice@EX"
-FIVE, SIX = 1_700_000_100_000_005, 1_700_000_100_000_006
+KEYTAB, NAMES = written("keytab"), f"{written('name 3 host/web@EX')} {written('name 1 alice@EX')}"
+REQUESTS, STAMPS = ({it: make(Made(micros=it)).hex() for it in (5, 6)}
+                    for make in (exchange_made.request, exchange_made.stamp))
+# The lines, each as its first word and the microseconds of requests or of tuples.
+LINES = [("service",), ("accept", 5), ("accept", 5), ("held",), ("serve", 5, 6, 6), ("held",), ("serve", 6), ("held",),
+         ("memory",), ("remember", 5), ("contains", 5), ("remember", 6), ("contains", 6), ("remember", 5), ("len",)]
 
 
-def twice(given):
-    """The lines of a call that changes nothing, of whose two calls these are refused."""
-    return 2, lambda refused: [REFUSED if it in refused else given for it in range(2)]
+@dataclass(frozen=True)
+class State:
+    """What a service has seen, and its latest second; what is in a memory; or None if there is none."""
+
+    seen: frozenset | None = None
+    second: int | None = None
+    kept: frozenset | None = None
 
 
-def appended(refused):
-    entry = {"realm": b"EX", "components": [b"host", b"web7"], "name_type": 1, "timestamp": 1_700_000_000, "kvno": 7,
-             "etype": 20, "key": b"\7" * 32}
-    file, lines = fixture.keytab(), []
-    for it in range(2):
-        if it not in refused:
-            file += reference.record_of(entry)
-        lines.append(f"{REFUSED if it in refused else 'added'} {file.hex()}")
-    return lines
+def line_of(place, memory):
+    """A line as the program reads it. Each is made a second after that before it."""
+    call, *micros = LINES[place]
+    second = 1_700_000_100 + place
+    if call == "service":
+        return f"service {memory} 300 {KEYTAB}"
+    if call in ("accept", "serve"):
+        return " ".join([call, *(f"{second} 5 {REQUESTS[it]}" for it in micros)])
+    if call == "memory":
+        return f"memory {memory}"
+    return " ".join([call, *(f"{NAMES} 1700000100 {it}" for it in micros)])
 
 
-def taken(calls, refused, held):
-    """The answers to calls, each a request's moment, by a service that has seen what is held; these are refused
-    memory."""
-    lines = []
-    for it, moment in enumerate(calls):
-        lines.append(REFUSED if it in refused else "Repeat" if moment in held else ACCEPTED)
-        held |= set() if it in refused else {moment}
-    return lines
+def decided(state, micros, second):
+    """The ways to answer a request, and the state after each."""
+    said = "refused Repeat" if micros in state.seen else f"accepted {STAMPS[micros]}"
+    yield said, replace(state, seen=state.seen | {micros}, second=second)
+    yield f"refused {REFUSED}", state
 
 
-def memory(held, latest):
-    return f"holds {len(held)}" + (f", latest {latest}" if held else "")
+def served(state, all_micros, second):
+    ways = [([], state)]
+    for micros in all_micros:
+        ways = [([*said, more], after) for said, before in ways for more, after in decided(before, micros, second)]
+    for said, after in ways:
+        yield " | ".join([str(len(said)), *said]), after
+    yield REFUSED, state
 
 
-def accepted(refused):
-    held, lines = set(), []
-    for it in range(2):
-        lines += taken([FIVE], {0} if it in refused else set(), held)
-        lines.append(memory(held, FIVE))
-    return lines
+def told(state, place):
+    """The ways to answer a line that is read and shown, and the state after each: first, if no memory is refused."""
+    (call, *micros), second = LINES[place], 1_700_000_100 + place
+    if call == "service":
+        yield "service", replace(state, seen=frozenset(), second=None)
+    elif call == "memory":
+        yield "memory", replace(state, kept=frozenset())
+    elif (state.seen if call in ("accept", "serve", "held") else state.kept) is None:
+        return
+    elif call == "accept":
+        yield from decided(state, *micros, second)
+    elif call == "serve":
+        yield from served(state, micros, second)
+    elif call == "held":
+        yield f"{len(state.seen)} " + ("none" if state.second is None else f"{state.second} 5"), state
+    elif call == "remember":
+        yield "ok", replace(state, kept=state.kept | set(micros))
+        yield REFUSED, state
+    else:
+        yield str(len(state.kept)) if call == "len" else str(micros[0] in state.kept).lower(), state
 
 
-def served(refused):
-    """Two new services; each is refused the room for its answers, or one of three calls."""
-    lines = []
-    for first in (0, 4):
-        held = set()
-        if first in refused:
-            lines.append("no room for outcomes")
-        else:
-            lines += taken([FIVE, FIVE, SIX], {it - first - 1 for it in refused}, held)
-        lines.append(memory(held, SIX))
-    return lines
+def ways(state, place):
+    """All ways to answer a line, and the state after each."""
+    for said, after in told(state, place):
+        yield said, after
+        yield "bad line", after
+    yield "bad line", state
 
 
-# Of each call, how many of its steps may be refused memory, and what it prints where these are.
-CALLS = {
-    "seal": twice(f"sealed {sealing.sealed(19, KEY, 2, CONFOUNDER, PLAIN).hex()}"),
-    "open": twice(f"opened {PLAIN.hex()}"),
-    "append": (2, appended),
-    "finish": twice(f"agreed alice@EX {KEY.hex()} 9"),
-    "serve": (8, served),
-    "accept-list": (2, accepted),
-    "accept-timed": (2, accepted),
-}
+def right_answers():
+    """What is answered if no memory is refused."""
+    state = State()
+    for place in range(len(LINES)):
+        said, state = next(told(state, place))
+        yield said
 
 
-def run(room, words, **more):
-    done = subprocess.run([calls.built("krb_calls_exchange"), *words], cwd=room, env={**os.environ, **more},
+def wrong_with(found):
+    """What is wrong with the answers of a run, or None."""
+    states = {State()}
+    for place, answer in enumerate(found):
+        states = {after for it in states for said, after in ways(it, place) if said == answer}
+        if not states:
+            return f"{LINES[place]} is answered {answer[:200]}"
+    return None
+
+
+def run(text, **more):
+    done = subprocess.run([calls.built("krb_calls_exchange")], input=text, env={**os.environ, **more},
                           capture_output=True, timeout=preload.SECONDS)
     return done.returncode, done.stdout.decode().splitlines()
 
 
-def refused_steps(steps, lines_of, status, lines, lasting):
-    """The steps that this run was refused memory in: none where it couldn't make the calls, or not tell of them; or
-    None where the run is wrong."""
-    for first in range(steps):
-        refused = set(range(first, steps if lasting else first + 1))
-        wanted = lines_of(refused)
-        if status == 0 and lines == wanted:
-            return refused
-        if lasting and status == 2 and lines == wanted[: len(lines)]:
-            return set()
-    return set() if status == 2 and lines == lines_of(set())[: len(lines)] else None
-
-
-def swept(room, preloaded, name, steps, lines_of, lasting):
-    """What is wrong with a run in which memory is refused, or None."""
-    met, passed_over = set(), 0
+@pytest.mark.parametrize("count", [1, 2, 3])
+@pytest.mark.parametrize("memory", ["list", "timed"])
+def test_refused_memory(tmp_path, memory, count):
+    text = "".join(f"{line_of(place, memory)}\n" for place in range(len(LINES))).encode()
+    preloaded, met, right, most = preload.library(tmp_path, "refuse"), set(), list(right_answers()), 0
     for number in range(1, ALL):
-        told = room / "told"
-        told.unlink(missing_ok=True)
-        status, lines = run(room, ["call", name], LD_PRELOAD=str(preloaded), **preload.numbers(number, lasting, told))
-        if not told.exists():
-            well = status == 0 and lines == lines_of(set())
-            lacking = set() if lasting else set(range(steps)) - met
-            wrong = f"steps {lacking} are refused by no run, and with {number} calls granted: {status} {lines}"
-            return None if well and not lacking else wrong
-        if not met and passed_over < PASSED_OVER and (status, lines) == (0, lines_of(set())):
-            passed_over += 1
-            continue
-        refused = refused_steps(steps, lines_of, status, lines, lasting)
-        if refused is None:
-            return f"where call {number} is refused it gives {status} {lines}"
-        met |= refused
-    return "it calls for memory again and again"
-
-
-@pytest.fixture
-def room(tmp_path):
-    (tmp_path / "service.keytab").write_bytes(fixture.keytab())
-    (tmp_path / "client.ccache").write_bytes(fixture.cache())
-    return tmp_path
-
-
-@pytest.mark.parametrize("lasting", [False, True], ids=["one", "all-after-it"])
-@pytest.mark.parametrize("name", CALLS)
-def test_refused_memory(room, name, lasting):
-    wrong = swept(room, preload.library(room, "refuse"), name, *CALLS[name], lasting)
-    assert wrong is None
+        refused = tmp_path / "refused"
+        refused.unlink(missing_ok=True)
+        which = {**preload.numbers(number, False, refused), "CALL_LAST": str(number + count - 1)}
+        status, found = run(text, LD_PRELOAD=str(preloaded), **which)
+        if not refused.exists():
+            break
+        assert status in (0, 2) and (status == 2 or len(found) == len(LINES)), f"status {status}, call {number}"
+        wrong = wrong_with(found)
+        assert wrong is None, f"call {number} is refused: {wrong}"
+        met |= {LINES[place][0] for place, it in enumerate(found) if REFUSED in it}
+        most = max(most, *(it.count(REFUSED) for it in found), 0)
+    assert (status, found) == (0, right)
+    assert met == {"accept", "serve", "remember"} and most == count

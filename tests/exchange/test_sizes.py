@@ -1,14 +1,12 @@
 """Calls of many sizes, with ample memory: each is answered as it should be, and not by out of memory."""
-import subprocess
-
 import pytest
 
-from support import calls, fixture
+from support import calls, exchange_made, fixture
 from support.checks import slug
-from support.exchange_made import name_word, parts_of
+from support.exchange_made import Made, name_word, parts_of
 from support.model import CODES
 
-EXCHANGE, FILES = "krb_calls_exchange", "krb_calls_files"
+EXCHANGE, IN_C, FILES = "krb_calls_exchange", "exchange_in_c", "krb_calls_files"
 CONFOUNDER = b"\x5a" * 16
 SERVICE = name_word(3, *parts_of("host/web@EX"))
 
@@ -54,15 +52,24 @@ def asked_caches():
         yield line, begins("6e82") if count else "refused NoCredential"
 
 
-def requests(memory):
+def requests():
     """A thousand requests, 1 µs apart, are accepted by one service, replied to and finished."""
-    yield f"service {memory} 300 {fixture.keytab().hex()}", "service"
+    yield f"service timed 300 {fixture.keytab().hex()}", "service"
     yield f"cache {fixture.cache().hex()}", "cache"
     for micros in range(1_000):
         yield f"request {SERVICE} 1700000100 {micros} {CONFOUNDER.hex()} mutual none {micros}", begins("6e82")
         yield f"accept 1700000100 1000 made:{micros}", begins("accepted ")
         yield f"reply {CONFOUNDER.hex()} none {micros}", begins("6f")
-        yield f"finish {micros} replied", ends("agreed ", f" none {micros} none {micros}")
+        yield f"finish {micros} replied", ends("agreed ", f" none {micros}")
+    yield "held", "1000 1700000100 1000"
+
+
+def listed_requests():
+    """As many are accepted by a service with a list."""
+    yield f"service list 300 {fixture.keytab().hex()}", "service"
+    for micros in range(1_000):
+        request, stamp = (it(Made(micros=micros)).hex() for it in (exchange_made.request, exchange_made.stamp))
+        yield f"accept 1700000100 1000 {request}", f"accepted {stamp}"
     yield "held", "1000 1700000100 1000"
 
 
@@ -106,20 +113,18 @@ def errors():
 
 
 SWEEPS = {
-    "caches": (FILES, read_caches), "the last credential of caches": (EXCHANGE, asked_caches),
-    "requests, list": (EXCHANGE, lambda: requests("list")), "requests, timed": (EXCHANGE, lambda: requests("timed")),
-    "tuples of one microsecond": (EXCHANGE, lambda: one_time(200_000)), "errors": (EXCHANGE, errors),
+    "caches": (FILES, read_caches), "the last credential of caches": (IN_C, asked_caches),
+    "requests, list": (EXCHANGE, listed_requests), "requests, timed": (IN_C, requests),
+    "tuples of one microsecond": (EXCHANGE, lambda: one_time(200_000)), "errors": (IN_C, errors),
     "several services of one client": (EXCHANGE, lambda: several_services(70_000)),
 }
 
 
 @pytest.mark.parametrize("name", SWEEPS, ids=slug)
-def test_sizes(name):
+def test_sizes(in_c, name):
     program, trials = SWEEPS[name]
     lines, are_right = zip(*trials())
-    done = subprocess.run([calls.built(program)], input="".join(f"{it}\n" for it in lines), capture_output=True,
-                          text=True)
-    found = done.stdout.splitlines()
-    assert (done.returncode, len(found)) == (0, len(lines))
+    found, status, errors = calls.given_to(program, [(name, lines, are_right)])
+    assert (status, errors, len(found)) == (0, b"", len(lines))
     for line, answer, right in zip(lines, found, are_right):
         assert right(answer) if callable(right) else answer == right, f"{line[:100]} is answered {answer[:200]}"

@@ -1,13 +1,11 @@
-"""Replies and errors: theirs read by our client, and ours by theirs. Our side is the library, by the program of the
-crate krb_calls_exchange."""
+"""Replies and errors: theirs read by our client, and ours by theirs. Our side is the library for C."""
 from pathlib import Path
 
 import pytest
 
-from support import calls, tickets
+from support import exchange_in_c, tickets
 from support.checks import slug
 from support.exchange_made import name_word, parts_of
-from support.kdc import ran
 from support.sides import LIBRARIES, now
 
 pytestmark = [pytest.mark.packages, pytest.mark.slow, pytest.mark.xdist_group("realms")]
@@ -19,13 +17,8 @@ SUBKEY = f"20/{'07' * 32}"
 SERVICE = 3
 
 
-@pytest.fixture(scope="module")
-def sides_program():
-    return calls.built("krb_calls_exchange")
-
-
 def text_of(name):
-    """The text of a NAME of the program."""
+    """The text of a NAME."""
     _, realm, components = name.split("/")
     parts = [bytes.fromhex(it).decode() for it in components.split(",")]
     return f"{'/'.join(parts)}@{bytes.fromhex(realm).decode()}"
@@ -35,14 +28,14 @@ class Sides:
     """Our client and our service at one second, for a ticket; with `chosen` they choose a subkey and a sequence
     number."""
 
-    def __init__(self, program, ticket, second, how="none"):
-        self.program, self.ticket, self.second = program, ticket, second
+    def __init__(self, ticket, second, how="none"):
+        self.ticket, self.second = ticket, second
         self.choice = f"{SUBKEY} {HIGHEST}" if how == "chosen" else "none none"
         self.name = name_word(SERVICE, *parts_of(ticket.service))
 
     def said(self, *lines):
-        """What the program answers to these lines."""
-        return ran([self.program], input="".join(f"{it}\n" for it in lines)).splitlines()
+        """What is answered to these lines."""
+        return list(exchange_in_c.answers(lines))
 
     def client(self, micros, *lines):
         cache = Path(self.ticket.cache).read_bytes().hex()
@@ -58,7 +51,7 @@ class Sides:
         answer = self.client(micros, f"finish 0 {reply}")[1].split()
         if answer[0] != "agreed":
             return " ".join(answer)
-        _, client, key, _, _, subkey, number = answer
+        _, client, key, subkey, number = answer
         chosen = "0" if subkey == "none" else subkey.split("/")[0]
         return f"agreed {text_of(client)} {key.split('/')[0]} {chosen} {'-1' if number == 'none' else number}"
 
@@ -73,13 +66,13 @@ class Sides:
 
 
 @OF_EACH_TYPE
-def test_theirs_to_ours(checks, peers, sides_program, ticket):
+def test_theirs_to_ours(checks, peers, in_c, ticket):
     """Replies of their services, with and without a subkey and a number of theirs, to requests of ours, with and
     without ours."""
     for how, given in (("none", "none 0"), ("chosen", f"20 {HIGHEST}")):
         for library in LIBRARIES:
             for words in ([], ["number"], ["subkey"], ["subkey", "number"]):
-                sides = Sides(sides_program, ticket, now(), how)
+                sides = Sides(ticket, now(), how)
                 line = f"{sides.second} 0 {sides.asked(7)}"
                 *told, subkey, number, reply = peers.served(ticket.realm, library, ticket.keytab, [line],
                                                             ticket.service, words)[0].split()
@@ -91,13 +84,13 @@ def test_theirs_to_ours(checks, peers, sides_program, ticket):
 
 
 @OF_EACH_TYPE
-def test_ours_to_theirs(checks, peers, sides_program, ticket):
+def test_ours_to_theirs(checks, peers, in_c, ticket):
     """Replies of ours, with and without a subkey and a number, to requests of theirs; and the error that we send for a
     repeat."""
     for how, wanted in (("none", "agreed none 0"), ("chosen", f"agreed 20 {HIGHEST}")):
         for library in LIBRARIES:
             for words in (["mutual"], ["mutual", "subkey", "number"]):
-                sides = Sides(sides_program, ticket, now(), how)
+                sides = Sides(ticket, now(), how)
                 client, request = peers.client(ticket.realm, library, ticket.cache, ticket.service, 0, words)
                 accepted, refused, reply, error = sides.served(9, request)
                 told = client.communicate(f"{reply}\n{error}\n", timeout=300)[0].splitlines()

@@ -18,9 +18,11 @@ answer, a word of bytes of more than 1,024 bytes stands as `#LENGTH:SHA256` (in 
 call). Of the programs krb_calls_exchange and exchange_in_c a text in braces stands for what exchange_made.py makes of
 it.
 
-A case of that program may have `calls` in place of lines: what follows `accept` in the line of a request. Each of them,
+A case of the exchange may have `calls` in place of lines: what follows `accept` in the line of a request. Each of them,
 made to a fresh service over the keytab `keytab` (if there is none, the fixture's for both types) with a skew of 300 s,
-has the answer of the same place; with both memories, by `accept` one after another, and by `serve` all at once.
+has the answer of the same place: by the library for C; with both memories of krb_replay, by `serve` all at once; and
+with the list by `accept`. (Of what is malformed the library for C says the place alone. Of what is accepted it says
+all, and krb_calls_exchange the tuple.)
 """
 import re
 import subprocess
@@ -83,18 +85,21 @@ def spelled(program, texts):
     return [re.sub(r"\{(\w[^}]*)\}", lambda it: exchange_made.written(it[1]), text) for text in texts]
 
 
-def forms(case):
-    """Each form of a case: what is added to its name, the lines and the answers."""
+def forms(case, program):
+    """Each form of a case: the program, what is added to its name, the lines and the answers."""
     answers = listed(case["answers"])
     if "lines" in case:
-        yield "", listed(case["lines"]), answers
+        yield case.get("program", program), "", listed(case["lines"]), answers
         return
-    calls = listed(case["calls"])
+    calls, keytab = listed(case["calls"]), case.get("keytab", "{keytab}")
+    accepts = [f"accept {it}" for it in calls]
+    places = [re.sub(r"Malformed \w+", "Malformed", it) for it in answers]
+    yield "exchange_in_c", ", timed, accept", [f"service timed 300 {keytab}", *accepts], ["service", *places]
+    tuples = [it.replace("{accepted", "accepted {stamp") for it in answers]
+    yield program, ", list, accept", [f"service list 300 {keytab}", *accepts], ["service", *tuples]
     for memory in ("list", "timed"):
-        service = f"service {memory} 300 {case.get('keytab', '{keytab}')}"
-        yield f", {memory}, accept", [service, *(f"accept {it}" for it in calls)], ["service", *answers]
-        at_once = " | ".join([str(len(answers)), *answers])
-        yield f", {memory}, serve", [service, " ".join(["serve", *calls])], ["service", at_once]
+        lines = [f"service {memory} 300 {keytab}", " ".join(["serve", *calls])]
+        yield program, f", {memory}, serve", lines, ["service", " | ".join([str(len(tuples)), *tuples])]
 
 
 def stored(folder="*"):
@@ -106,8 +111,7 @@ def stored(folder="*"):
             unknown = set(case) - {"name", "lines", "answers", "calls", "keytab", "program"}
             if unknown:
                 raise ValueError(f"{path.name}: {case.get('name')}: unknown keys {sorted(unknown)}")
-            for form, lines, answers in forms(case):
-                program = case.get("program", table["program"])
+            for program, form, lines, answers in forms(case, table["program"]):
                 yield program, f"{path.stem}: {case['name']}{form}", lines, answers
 
 

@@ -1,16 +1,17 @@
-"""Calls of krb_calls_exchange that are drawn with a stored seed, and what a second service, client and memory answer
-(model.py).
+"""Calls of the exchange that are drawn with a stored seed, and what a second service, client and memory answer
+(model.py): by the library for C, and of a service with a list and of memories by krb_calls_exchange.
 
 Keytabs, tickets, authenticators, caches and moments come from exchange.py; what is said of an accepted request, of a
 reply and of a memory is worked out here, from RFC 4120 (sections 3.2 and 5) and docs/ACCEPTANCE.md alone.
 """
 import random
+from dataclasses import dataclass
 
 from support import der, der_rules, exchange, exchange_made, fixture, model, msg_rules
 from support.calls import shown as told_bytes
 from support.exchange_made import CONFOUNDER, REPLY_CONFOUNDER, Made, Replied, items_word, name_word, or_none, word_of
 
-PROGRAM = "krb_calls_exchange"
+RATTLE, IN_C = "krb_calls_exchange", "exchange_in_c"
 MEMORIES = ("list", "timed")
 SEED = 3306
 SERVICES, LINES, CLIENTS = 50, 30, 100
@@ -28,6 +29,8 @@ SERVICE_ANSWERS = [
 ]
 CLIENT_ANSWERS = ["NoCredential", "NoUsableKey", "Expired", "BadTicket", "MessageType", "Malformed", "Integrity",
                   "Mismatch", "agreed"]
+# What the library for C says of a request that wasn't accepted.
+NOTHING = "refused NothingThere"
 MICROS = 1_000_000
 
 
@@ -38,6 +41,11 @@ def fault_of(shape, data):
     except der_rules.Refused as refused:
         return str(refused)
     raise ValueError("the bytes are well formed")
+
+
+def placed(fault):
+    """The place of a fault."""
+    return fault.partition(" ")[2]
 
 
 def time_words(moment):
@@ -72,15 +80,20 @@ class Told:
         self.service, self.asked, self.taken = model.Service(seals, file, skew, started), None, None
 
     def answer(self, data, now):
+        """What the library for C answers, and what krb_calls_exchange does."""
+        self.taken = None
         try:
             self.asked, *self.taken = self.service.accept(data, now)
         except model.Refused as refusal:
             cause = str(refusal)
-            return f"refused {cause} {fault_of(msg_rules.AP_REQ, data)}" if cause == "Malformed" else f"refused {cause}"
-        return accepted(self.asked, *self.taken)
+            if cause != "Malformed":
+                return f"refused {cause}", f"refused {cause}"
+            fault = fault_of(msg_rules.AP_REQ, data)
+            return f"refused Malformed {placed(fault)}", f"refused Malformed {fault}"
+        return accepted(self.asked, *self.taken), f"accepted {self.stamp()}"
 
     def stamp(self):
-        """Of what was accepted last."""
+        """Of the request that was accepted."""
         ticket, (part, shown) = self.asked[3], self.taken
         return word_of(exchange_made.stamp_bytes((ticket[1], ticket[2][1]), (part[2], part[3][1]), shown[5], shown[4]))
 
@@ -119,33 +132,35 @@ def some_calls(draw, seals, told, sent):
 
 
 def conversation(draw):
-    """Lines and answers of a service; the lists are of both memories where these differ."""
+    """The lines and answers of a service with each memory: the list by krb_calls_exchange, and the other by the library
+    for C."""
     seals, file, skew = model.Seals(), exchange.keytab(draw), draw.choice([300, 300, 300, 0, 1, 86_400])
     started = draw.choice([None, None, BASE - skew - 1, BASE - skew, BASE])
     told, sent = Told(seals, file, skew, started), []
     start = "" if started is None else f" {started} 0"
-    lines, answers = [[f"service {it} {skew} {file.hex()}{start}" for it in MEMORIES]], ["service"]
+    listed, timed = ([(f"service {it} {skew} {file.hex()}{start}", "service")] for it in MEMORIES)
     for _ in range(LINES):
         calls = list(some_calls(draw, seals, told, sent))
         said = [told.answer(data, now) for data, now in calls]
         words = [f"{time_words(now)} {word_of(data)}" for data, now in calls]
-        lines.append(f"accept {words[0]}" if len(calls) == 1 else " ".join(["serve", *words]))
-        answers.append(said[0] if len(calls) == 1 else " | ".join([str(len(calls)), *said]))
-        lines.append("held")
-        answers.append([told.held(it) for it in MEMORIES])
-        if told.taken:
-            lines.append("stamp")
-            answers.append(told.stamp())
-        if told.taken and draw.random() < 0.5:
+        timed += [(f"accept {it}", in_c) for it, (in_c, _) in zip(words, said)]
+        short = [it for _, it in said]
+        is_one = len(calls) == 1
+        listed.append((f"accept {words[0]}", short[0]) if is_one else
+                      (" ".join(["serve", *words]), " | ".join([str(len(calls)), *short])))
+        for lines, memory in zip((listed, timed), MEMORIES):
+            lines.append(("held", told.held(memory)))
+        timed.append(("stamp", told.stamp() if told.taken else NOTHING))
+        if draw.random() < 0.5:
             confounder, choice = draw.randbytes(16), some_choice(draw)
-            lines.append(f"reply {confounder.hex()} {choice_words(choice)}")
-            answers.append(word_of(reply_of(seals, *told.taken, confounder, choice)))
+            reply = word_of(reply_of(seals, *told.taken, confounder, choice)) if told.taken else NOTHING
+            timed.append((f"reply {confounder.hex()} {choice_words(choice)}", reply))
         if draw.random() < 0.05:
             file = exchange.keytab(draw)
             told.service.replace_keytab(file)
-            lines.append(f"keytab {word_of(file)}")
-            answers.append("keytab")
-    return lines, answers
+            for lines in (listed, timed):
+                lines.append((f"keytab {word_of(file)}", "keytab"))
+    return listed, timed
 
 
 def refused(answers):
@@ -161,7 +176,7 @@ def refused(answers):
 def often_enough(what, wanted, cases):
     """The cases, once it is seen that each of these answers comes among them."""
     cases = list(cases)
-    seen = [it for _, _, answers in cases for it in refused(answers)]
+    seen = [it for _, _, _, answers in cases for it in refused(answers)]
     lacking = exchange.lacking(wanted, seen)
     if lacking:
         raise ValueError(f"{what}: {lacking}")
@@ -170,20 +185,18 @@ def often_enough(what, wanted, cases):
 
 def services(draw):
     for number in range(SERVICES):
-        both = conversation(draw)
-        for which, memory in enumerate(MEMORIES):
-            yield f"service {number}, {memory}", *([it if isinstance(it, str) else it[which] for it in texts]
-                                                   for texts in both)
+        for program, memory, lines in zip((RATTLE, IN_C), MEMORIES, conversation(draw)):
+            yield program, f"service {number}, {memory}", *map(list, zip(*lines))
 
 
-def finished(seals, asked, choice, data):
+def finished(seals, asked, data):
     """What the client says of a reply. `asked` are the credential and the moment of its request."""
     credential, moment = asked
     if data and data[0] != 0x6F:
         return "refused MessageType"
     fields = model.read(msg_rules.AP_REP, data)
     if fields is None:
-        return f"refused Malformed {fault_of(msg_rules.AP_REP, data)}"
+        return f"refused Malformed {placed(fault_of(msg_rules.AP_REP, data))}"
     etype, key = credential["etype"], credential["key"]
     plain = seals.opened(etype, key, model.REPLY_USAGE, fields[2][2]) if fields[2][0] == etype else None
     part = None if plain is None else model.read(msg_rules.ENC_AP_REP_PART, plain)
@@ -193,7 +206,7 @@ def finished(seals, asked, choice, data):
         return "refused Mismatch"
     client = credential["client"]
     name = name_word(client["name_type"], client["realm"], client["components"])
-    return f"agreed {name} {etype}/{key.hex()} {choice_words(choice)} {pair(part.get(2))} {or_none(part.get(3))}"
+    return f"agreed {name} {etype}/{key.hex()} {pair(part.get(2))} {or_none(part.get(3))}"
 
 
 def some_reply(draw, seals, asked):
@@ -232,14 +245,14 @@ def client(draw):
         for _ in range(4):
             reply = some_reply(draw, seals, asked)
             lines.append(f"finish {count} {word_of(reply)}")
-            answers.append(finished(seals, asked, choice, reply))
+            answers.append(finished(seals, asked, reply))
         count += 1
     return lines, answers
 
 
 def clients(draw):
     for number in range(CLIENTS):
-        yield f"client {number}", *client(draw)
+        yield IN_C, f"client {number}", *client(draw)
 
 
 def beginnings():
@@ -248,13 +261,13 @@ def beginnings():
     lines, answers = ["service timed 300 " + fixture.keytab().hex()], ["service"]
     for size in range(len(request)):
         lines.append(f"accept 1700000100 5 {word_of(request[:size])}")
-        answers.append(f"refused Malformed Truncated at {size}")
-    yield "each beginning of the request", lines, answers
+        answers.append(f"refused Malformed at {size}")
+    yield IN_C, "each beginning of the request", lines, answers
     lines, answers = asking(FIXTURE)
     for size in range(len(reply)):
         lines.append(f"finish 0 {word_of(reply[:size])}")
-        answers.append(f"refused Malformed Truncated at {size}")
-    yield "each beginning of the reply", lines, answers
+        answers.append(f"refused Malformed at {size}")
+    yield IN_C, "each beginning of the reply", lines, answers
 
 
 def asking(made):
@@ -288,12 +301,12 @@ def each_byte():
     lines, answers = [], []
     for place in range(len(request)):
         data = request[:place] + bytes([request[place] ^ 1]) + request[place + 1 :]
-        said = Told(seals, file, 300).answer(data, MICROS * 1_700_000_100 + 5)
+        said, _ = Told(seals, file, 300).answer(data, MICROS * 1_700_000_100 + 5)
         if not said.startswith(turned(place)):
             raise ValueError(f"byte {place} turned: {said}, not {turned(place)}")
         lines += [f"service timed 300 {file.hex()}", f"accept 1700000100 5 {data.hex()}"]
         answers += ["service", said]
-    yield "each byte of the request", lines, answers
+    yield IN_C, "each byte of the request", lines, answers
 
 
 class Plain:
@@ -317,29 +330,43 @@ def some_moment(draw):
     return MICROS * (BASE + draw.randrange(1_300)) + draw.randrange(MICROS)
 
 
+@dataclass(frozen=True)
+class Packet:
+    """A request: its moment, the line that makes it, its bytes, and what is said of it if it is accepted: by the
+    library for C, and by krb_calls_exchange."""
+
+    moment: int
+    line: str
+    request: str
+    accepted: str
+    stamp: str
+
+
 def packet(draw):
-    """A request: its moment, its client's choice, the line that makes it, what it is and what a service says of it."""
     moment, choice = some_moment(draw), some_choice(draw)
     made = Made(seconds=moment // MICROS, micros=moment % MICROS, options=1 << 31 - model.MUTUAL, client_type=2,
                 subkey=choice[0], number=choice[1])
     name = name_word(1, *exchange.NAMED)
     line = f"request {name} {time_words(moment)} {CONFOUNDER.hex()} mutual {choice_words(choice)}"
-    return moment, choice, line, exchange_made.request(made).hex(), exchange_made.accepted(made)
+    return Packet(moment, line, exchange_made.request(made).hex(), exchange_made.accepted(made),
+                  f"accepted {word_of(exchange_made.stamp(made))}")
 
 
-def delivered(draw, packets, plain, replies):
-    """A packet comes to the service; the reply, if there is one, to its client and to another."""
+def delivered(draw, packets, plain, replies, listed):
+    """A packet comes to the service, and to the one with a list; the reply, if there is one, to its client and to
+    another."""
     which, other = draw.randrange(PACKETS), draw.randrange(PACKETS)
-    (moment, own, _, _, said), now = packets[which], some_moment(draw)
-    refusal = plain.answer(moment, now)
-    yield f"accept {time_words(now)} made:{which}", refusal or said
+    it, now = packets[which], some_moment(draw)
+    refusal, accept = plain.answer(it.moment, now), f"accept {time_words(now)}"
+    listed.append((f"{accept} {it.request}", refusal or it.stamp))
+    yield f"{accept} made:{which}", refusal or it.accepted
     if refusal:
         return
     subkey, number = choice = draw.choice(replies)
-    made = Replied(seconds=moment // MICROS, micros=moment % MICROS, subkey=subkey, number=number)
+    made = Replied(seconds=it.moment // MICROS, micros=it.moment % MICROS, subkey=subkey, number=number)
     yield f"reply {REPLY_CONFOUNDER.hex()} {choice_words(choice)}", exchange_made.reply(made).hex()
     name, key = name_word(2, b"EX", [b"alice"]), f"19/{fixture.SESSION_KEY.hex()}"
-    agreed = f"agreed {name} {key} {choice_words(own)} {choice_words(choice)}"
+    agreed = f"agreed {name} {key} {choice_words(choice)}"
     yield f"finish {which} replied", agreed
     yield f"finish {other} replied", agreed if other == which else "refused Mismatch"
 
@@ -347,22 +374,19 @@ def delivered(draw, packets, plain, replies):
 def schedules(draw):
     """Requests that are lost, repeated and reordered, and their replies, to services with both memories."""
     packets, replies = [packet(draw) for _ in range(PACKETS)], [some_choice(draw) for _ in range(10)]
-    keytab, seed = exchange_made.keytab(exchange_made.BOTH).hex(), draw.random()
-    for memory in MEMORIES:
-        lines = [f"cache {exchange_made.cache_of(FIXTURE).hex()}", *(it[2] for it in packets)]
-        answers = ["cache", *(it[3] for it in packets)]
-        again = random.Random(seed)
-        for _ in range(SCHEDULES):
-            plain = Plain()
-            lines.append(f"service {memory} 300 {keytab}")
-            answers.append("service")
-            for _ in range(again.randrange(DELIVERIES + 1)):
-                for line, answer in delivered(again, packets, plain, replies):
-                    lines.append(line)
-                    answers.append(answer)
-        if sum(it.startswith("accepted") for it in answers) <= SCHEDULES:
-            raise ValueError("too few requests are accepted")
-        yield f"schedules of any order, {memory}", lines, answers
+    keytab, again = exchange_made.keytab(exchange_made.BOTH).hex(), random.Random(draw.random())
+    listed, timed = [], [(f"cache {exchange_made.cache_of(FIXTURE).hex()}", "cache")]
+    timed += [(it.line, it.request) for it in packets]
+    for _ in range(SCHEDULES):
+        plain = Plain()
+        for lines, memory in zip((listed, timed), MEMORIES):
+            lines.append((f"service {memory} 300 {keytab}", "service"))
+        for _ in range(again.randrange(DELIVERIES + 1)):
+            timed += delivered(again, packets, plain, replies, listed)
+    if sum(it.startswith("accepted") for _, it in listed) <= SCHEDULES:
+        raise ValueError("too few requests are accepted")
+    for program, lines, memory in zip((RATTLE, IN_C), (listed, timed), MEMORIES):
+        yield program, f"schedules of any order, {memory}", *map(list, zip(*lines))
 
 
 # How many tuples are remembered at most. A list is gone through for each.
@@ -386,16 +410,16 @@ def many_tuples():
         for number in range(count):
             lines.append(f"contains {WEB} {ALICE} {number} 5")
             answers.append("true" if number >= forgotten else "false")
-        yield f"many tuples, {memory}", lines, answers
+        yield RATTLE, f"many tuples, {memory}", lines, answers
 
 
 def many_calls():
     """One call after another is answered, of very many at once."""
-    request, answer = exchange_made.request(FIXTURE).hex(), exchange_made.accepted(FIXTURE)
+    request, answer = exchange_made.request(FIXTURE).hex(), f"accepted {word_of(exchange_made.stamp(FIXTURE))}"
     call, count = f"1700000100 5 {request}", 3_000
     for memory in MEMORIES:
         service = f"service {memory} 300 {exchange_made.keytab(exchange_made.BOTH).hex()}"
-        yield f"{count} calls at once, {memory}", [service, " ".join(["serve", *[call] * count])], [
+        yield RATTLE, f"{count} calls at once, {memory}", [service, " ".join(["serve", *[call] * count])], [
             "service", " | ".join([str(count), answer, *["refused Repeat"] * (count - 1)])]
 
 
@@ -406,16 +430,17 @@ def long_messages():
     subkey = f"18/{bytes(60_000).hex()}"
     lines.append(f"finish 0 {exchange_made.reply(Replied(subkey=subkey)).hex()}")
     client, key = name_word(2, b"EX", [b"alice"]), fixture.SESSION_KEY.hex()
-    answers.append(f"agreed {client} 19/{key} none none 18/{told_bytes(bytes(60_000))} none")
+    answers.append(f"agreed {client} 19/{key} 18/{told_bytes(bytes(60_000))} none")
+    tuples = []
     for realm, components in ((b"E" * 1_000_000, [b"host", b"web"]), (b"EX", [b"h" * 1_000_000, b"web"]),
                               (b"EX", [b"host"] * 100_000)):
         name = name_word(3, realm, components)
         lines.append(f"error Repeat 1700000100 7 {name}")
         answers.append(told_bytes(model.error(model.CODES["Repeat"], MICROS * 1_700_000_100 + 7, realm, components)))
-        lines.append(f"tuple bytes {name} {ALICE} 1700000100 5")
-        answers.append(told_bytes(exchange_made.stamp_bytes((realm, components), (b"EX", [b"alice"]), 1_700_000_100,
-                                                            5)))
-    yield "long messages and names", lines, answers
+        stamp = exchange_made.stamp_bytes((realm, components), (b"EX", [b"alice"]), 1_700_000_100, 5)
+        tuples.append((f"tuple bytes {name} {ALICE} 1700000100 5", told_bytes(stamp)))
+    yield IN_C, "long messages and names", lines, answers
+    yield RATTLE, "tuples with long names", *map(list, zip(*tuples))
 
 
 def memory_calls(draw, memory):
@@ -446,7 +471,7 @@ def memory_calls(draw, memory):
 def memories(draw):
     for number in range(4):
         for memory in MEMORIES:
-            yield f"memory {number}, {memory}", *memory_calls(draw, memory)
+            yield RATTLE, f"memory {number}, {memory}", *memory_calls(draw, memory)
 
 
 # What is drawn, each part with a seed of its own.
@@ -465,5 +490,5 @@ PARTS = {
 
 def drawn(part):
     """The cases of a part: program, name, lines, answers."""
-    for name, lines, answers in PARTS[part](random.Random(f"{SEED} {part}")):
-        yield PROGRAM, f"exchange: {name}", lines, answers
+    for program, name, lines, answers in PARTS[part](random.Random(f"{SEED} {part}")):
+        yield program, f"exchange: {name}", lines, answers

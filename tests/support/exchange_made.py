@@ -1,15 +1,15 @@
 """Messages and files that differ from the fixture's in what a text says, made by the standards' rules alone
 (fixture.py, model.py).
 
-The cases of the program krb_calls_exchange (calls.py) name them in braces, `{WHAT WORD ..}`, words being mostly
-NAME=VALUE:
+The cases of the exchange (calls.py) name them in braces, `{WHAT WORD ..}`, words being mostly NAME=VALUE:
 
     {keytab [KVNO:ETYPE:KEY ..]}     keys of host/web@EX; without a word, the fixture's key for both types
     {name TYPE TEXT}                 a name as the program reads it
     {ticket ..}, {request ..}        of what differs from the fixture: the fields of Made
     {cache [CREDENTIAL ..]}          alice@EX's cache with the credentials of these names (CREDENTIALS)
     {cache-of ..}                    the cache of the ticket's client, with the one ticket of what differs; of Made, and
-    `realm` its realm {accepted ..}                    what a service answers to the request
+                                     `realm` its realm
+    {accepted ..}                    what the library for C answers to the request
     {stamp ..}                       the bytes of what it remembers of the request
     {reply ..}                       of what differs from the fixture's reply: the fields of Replied
     {error CODE}                     the fixture's error with this code

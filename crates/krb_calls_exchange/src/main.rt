@@ -1,65 +1,47 @@
 //! Makes the calls of the exchange, and of the memory of what was seen, that the lines of standard input say, for the tests
-//! (tests/library.py).
+//! (tests/support/calls.py): those that the library for C doesn't make (tests/support/exchange_in_c.py has the others).
 //!
 //! One line is answered for each: what the call gave, or `bad line` if it can't be read. Single spaces stand between words; `new` drops
 //! what earlier lines made. BYTES are hexadecimal digits, `-` for none, `HEX*N` for HEX N times, several such joined by `+`; more than
 //! 1,024 bytes are shown as `#LENGTH:SHA256`. A NAME is `TYPE/REALM/COMPONENTS`: of BYTES, the components joined by `,`, or `.` for none.
-//! A KEY is `ETYPE/BYTES`. TIME is two words, seconds from 1970-01-01T00:00:00Z on and microseconds. What is left out is `none`.
-//! A MESSAGE is BYTES, or `made:INDEX`, a request that was made, counted from 0 on, or `replied`, the last reply.
+//! TIME is two words, seconds from 1970-01-01T00:00:00Z on and microseconds. What there isn't is shown as `none`.
 //!
 //! ```text
-//! service list|timed SKEW BYTES [TIME]  a service over this keytab, with a new memory, which was started again at that time: `service`,
-//!                                       the keytab's fault, or `none` if there is no such skew
-//! service limited SKEW BYTES LIMIT LIMIT  the same with a memory that has a limit, and one for each client
-//! accept TIME MESSAGE                   what it answers to a request: `refused CAUSE [FAULT]`, or `accepted CLIENT SERVICE KEY FLAGS
-//!                                       AUTHTIME STARTTIME|none ENDTIME ADDRESSES AUTHORIZATION CTIME CUSEC SUBKEY NUMBER CHECKSUM AUTHORIZATION
-//!                                       mutual|plain`, first of the ticket's data, then of the authenticator's
-//! serve [TIME MESSAGE ..]               the same of a list of calls, with `|` between
-//! keytab BYTES                          the service gets this keytab: `keytab`, or the keytab's fault, and then it keeps the one it has
-//! stamp                                 the bytes of the tuple of the request that was accepted last
+//! service list|timed SKEW BYTES [TIME]  a service over this keytab, with a new memory, which was started again at that time: `service`
+//! accept TIME BYTES                     what it answers to a request: `refused CAUSE [FAULT]`, or `accepted` and the bytes of the tuple
+//! serve [TIME BYTES ..]                 the same of a list of calls, with `|` between
+//! keytab BYTES                          the service gets this keytab: `keytab`
 //! held                                  how many tuples its memory has, and the latest moment
-//! refusals                              how many requests a memory with limits refused for them
-//! reply BYTES KEY|none NUMBER|none      the reply to the request that was accepted last, with this confounder
-//! error CAUSE TIME NAME                 the error that reports a refusal, or why there is none
-//! cache BYTES                           a client's cache: `cache`, or its fault
-//! request NAME TIME BYTES plain|mutual KEY|none NUMBER|none [FLAGS/BINDINGS]      the request for a service, with this confounder; or `refused
-//!                                       FAULT`
-//! initiate ..                           the same by a client that keeps the keys that it derived since the cache was read
-//! finish INDEX MESSAGE                  what the client of that request says of a reply: `agreed CLIENT KEY SUBKEY
-//!                                       NUMBER SUBKEY NUMBER`, first its own, then the service's; or `refused FAULT`
-//! memory list|timed                     a new memory
+//! share new|known|failed TIME TIME BYTES    what it decides of the bytes of a client, at the second time, with a store that says this, and a
+//!                                       clock that shows the first time after that: `in`, `on` or `refused TEXT`, and what goes back
+//! talk TIME BYTES ..                    what it decides of each message of a client that may name another mechanism first: `in`, `shown` (its
+//!                                       list of mechanisms), `on`, `refused` or `unshown`, and what goes back
+//! memory list|timed|limited [LIMIT LIMIT]   a new memory; one with limits has one for all clients, and one for each
 //! remember|contains NAME NAME TIME      of the tuple of this server, client and time
-//! advance TIME SKEW, len, latest
+//! advance|expect TIME SKEW, len, latest
+//! at-least COUNT TIME, at-least-of COUNT TIME NAME NAME TIME    whether there are so many since a time; of a tuple's client
+//! taken, bytes                          of the memory `timed`: how many tuples it holds, and in about how many bytes
+//! limits, refused, full NAME NAME TIME  of the memory `limited`
 //! tuple time NAME NAME TIME             the tuple's time
 //! tuple compare NAME NAME TIME NAME NAME TIME
 //! tuple bytes NAME NAME TIME            the tuple's bytes
 //! tuple until NAME NAME TIME SKEW       until when a shared store keeps the tuple, or `none`
 //! skew SECONDS                          its microseconds, or `none`
-//! cause CAUSE                           place, code and name of a cause, and its text
-//! breach BREACH                         the same of a breach
-//! fault request|finish|reply FAULT      the text of a fault
+//! text cause|breach INDEX               place, code, name and text of a cause or a breach, counted from 0
+//! text request|finish|reply INDEX       the text of why there is no request, no agreement or no error
 //! laws                                  calls the laws, which do nothing
 //! ```
-//!
-//! With the arguments `call CALL` it reads no line, but makes one call twice (`twice`), for the tests that refuse memory.
 #![tactic(auto)]
 
 mod cause_list;
-mod causes;
-mod clients;
-mod given;
-mod logins;
 mod memories;
-mod messages;
 mod names;
 mod services;
-mod twice;
+mod talks;
+mod texts;
 
-use krb_ap::Initiator;
 use krb_words::{Answer, Calls, Words, answer_lines};
-use logins::Logins;
 use memories::Memory;
-use messages::Messages;
 use services::Served;
 use std::alloc::Global;
 use std::process::ExitCode;
@@ -67,69 +49,34 @@ use std::process::ExitCode;
 /// What earlier lines made.
 #[derive(Drop)]
 struct Kept {
-    served: Served,
-    initiator: Option<Initiator>,
-    messages: Messages,
+    served: Option<Served>,
     memory: Option<Memory>,
-    logins: Option<Logins>,
 }
 
 fn main(rt: HostRuntime) -> ExitCode {
-    match call_named(&rt) {
-        Some(Some(name)) => called_twice(&rt, name.as_str()),
-        Some(None) => answer_lines::<Kept>(&rt),
-        None => ExitCode::from(2),
-    }
-}
-
-// The call that the arguments name, if there are arguments.
-fn call_named(rt: &HostRuntime) -> Option<Option<String>> {
-    let words: Vec<String> = std::env::args(rt).ok()?.collect(rt.alloc()).ok()?;
-    let Some(first) = words.get(1) else {
-        return Some(None);
-    };
-    match first.as_str() {
-        "call" => Some(Some(words.get(2)?.clone().ok()?)),
-        _ => None,
-    }
-}
-
-fn called_twice(rt: &HostRuntime, name: &str) -> ExitCode {
-    match twice::call(rt, name) {
-        Some(()) => ExitCode::from(0),
-        None => ExitCode::from(2),
-    }
+    answer_lines::<Kept>(&rt)
 }
 
 impl Calls for Kept {
-    fn new(alloc: Global) -> Kept {
+    fn new(_alloc: Global) -> Kept {
         Kept {
-            served: Served::new(),
-            initiator: None,
-            messages: Messages::new(alloc),
+            served: None,
             memory: None,
-            logins: None,
         }
     }
 
     fn call(&mut self, words: &mut Words, out: &mut Answer) -> Option<()> {
         let first = words.next()?;
         match first {
-            "service" | "accept" | "serve" | "keytab" | "stamp" | "held" | "refusals" | "reply" => {
-                services::answer(&mut self.served, &mut self.messages, first, words, out)
+            "service" => {
+                self.served = None;
+                self.served = Some(services::start(words)?);
+                out.word("service")
             }
-            "cache" | "request" | "initiate" | "finish" => {
-                clients::answer(&mut self.initiator, &mut self.messages, first, words, out)
+            "accept" | "serve" | "keytab" | "held" | "share" | "talk" => {
+                services::answer(self.served.as_mut()?, first, words, out)
             }
-            "logins" => {
-                self.logins = Some(logins::start(words, out)?);
-                Some(())
-            }
-            "login" | "next" => logins::answer(self.logins.as_mut()?, first, words, out),
-            "ask" => logins::ask(self.logins.as_mut()?, words, out),
-            "settle" => logins::settle(self.logins.as_mut()?, words, out),
-            "share" => logins::share(self.logins.as_mut()?, words, out),
-            "error" | "cause" | "breach" | "fault" => causes::answer(first, words, out),
+            "text" => texts::answer(words, out),
             "laws" => laws(out),
             _ => memories::answer(&mut self.memory, first, words, out),
         }
@@ -152,6 +99,12 @@ fn laws(out: &mut Answer) -> Option<()> {
     krb_login::laws::answers_that();
     krb_login::laws::shows_what_is_open();
     krb_login::laws::completed_if_let_in();
+    krb_talk::laws::let_in_only_over_its_list();
+    krb_talk::laws::both_have_sent_their_mics();
+    krb_talk::laws::a_list_is_never_passed_over();
+    krb_talk::laws::few_messages();
+    krb_talk::laws::turns_are_talks();
+    krb_talk::laws::no_second_decision();
     krb_replay::laws::a_set_has_one_size();
     krb_replay::laws::bytes_are_the_stamps();
     out.word("laws")
