@@ -31,17 +31,20 @@ def caches():
 
 
 def read_caches():
-    """Each is read, written and searched for the last credential; then a cache of 300 parts is searched, three of them
-    for one server."""
-    for count, file, name in caches():
-        yield f"cache read slice {file.hex()}", begins("ok ")
-        yield f"cache write {file.hex()}", f"ok {calls.shown(file)}"
-        yield f"cache find {name} {file.hex()}", f"found {count - 1}" if count else "found"
-    client = name_word(1, b"EX", [b"alice"])
-    servers = [name_word(3, b"EX", [b"host", b"web%d" % it]) for it in range(100)]
-    parts = " ".join(f"{client}:{servers[it % 100]}:19:-:0:0:0:0:0:0:.:.:-:-" for it in range(300))
-    yield f"cache found {servers[7]} . {client} {parts}", "found 7 107 207"
-    yield f"cache found {client} . {client} {parts}", "found"
+    """Each is read, written and searched for the last credential; then a cache that is made of 300 parts is searched,
+    three of them for one server."""
+    end = "failures 0 left 0"
+    for count, file, _ in caches():
+        yield f"cache slice {file.hex()}", ends(f"1/alice@EX none {count} ", f" {calls.shown(file)} {end}")
+        found = f"found {count - 1} Credential(etype 19) {end}" if count else f"found {end}"
+        yield f"cache slice {file.hex()} 3/host/web{count - 1}@EX", found
+    client = fixture.principal(1, b"EX", b"alice")
+    servers = [fixture.principal(3, b"EX", b"host", b"web%d" % it) for it in range(100)]
+    parts = b"".join(fixture.credential(client, servers[it % 100], 19, b"", (0, 0, 0, 0), b"") for it in range(300))
+    file = b"\5\4\0\0" + client + parts
+    made = f"made slice {file.hex()} 0"
+    yield f"{made} 3/host/web7@EX", "found" + "".join(f" {it} Credential(etype 19)" for it in (7, 107, 207))
+    yield f"{made} 1/alice@EX", "found"
 
 
 def asked_caches():

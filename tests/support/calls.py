@@ -158,6 +158,13 @@ def given_to(program, cases):
     return ran.stdout.decode(errors="replace").splitlines(), ran.returncode, ran.stderr
 
 
+def from_difference(found, right):
+    """Two answers, from the first word that differs on."""
+    words = found.split(" "), right.split(" ")
+    at = next((place for place, pair in enumerate(zip(*words)) if pair[0] != pair[1]), min(map(len, words)))
+    return [" ".join([".."] * bool(at) + it[at:])[:600] for it in words]
+
+
 def compared(program, cases):
     """The name of each case, and what is wrong with what the program answers, or None."""
     try:
@@ -171,7 +178,7 @@ def compared(program, cases):
         at += len(right)
         wrong = next((it for it in zip(lines, found, right) if it[1] != it[2]), None)
         if wrong:
-            yield name, f"{wrong[0][:300]}: {wrong[1][:600]}, not {wrong[2][:600]}"
+            yield name, f"{wrong[0][:300]}: {', not '.join(from_difference(*wrong[1:]))}"
         else:
             ended = f"the program ended before its answers, with status {status}"
             yield name, None if len(found) == len(right) else ended

@@ -1,86 +1,87 @@
-"""Draws cases of keytabs, credential caches and names, for the calls of crates/krb_calls_files (calls.py runs them).
+"""Draws cases of keytabs, credential caches and names, for the library for C (files_in_c.py) and for the program of
+crates/krb_calls_files (calls.py runs them).
 
 What is answered is worked out here: of whole files by tests/support/reference.py, of readers by a second walk over a
 source that gives a few bytes a read. Nothing is taken from the program's sources. Fields are asked of a source one
 after another; the numbers after a session key's bytes, up to the flags, at once, and an encryption type that stands
 twice, too.
 """
-import hashlib
 import random
 import struct
 
 from support import fixture, reference
 from support.calls import TOP, shown
 from support.der_rules import packed
+from support.exchange_made import name_word
 from support.reference import NEW, OLD, Fault, Reader, Short, credential_of, data16_of, name_of, record_of
 
-PROGRAM = "krb_calls_files"
+PROGRAM, IN_C = "krb_calls_files", "files_in_c"
 LIMIT = reference.LIMIT
-# A longer list is shown by its length and its hash.
-LIST = 2048
+# A longer text is shown by its length and its hash.
+TEXT = 1024
 
 HOLES = (TOP / "examples/mit-holes.keytab").read_bytes()
 KEY = bytes.fromhex("3705d96080c17728a0e800eab6e0d23c")
 
 
-# What the program shows.
+# What is shown.
 
 
-def list_shown(items, between=","):
-    text = between.join(items)
-    if not items:
-        return "."
-    return f"#{len(text)}:{hashlib.sha256(text.encode()).hexdigest()}" if len(text) > LIST else text
+def text_shown(text):
+    return text if len(text) <= TEXT else shown(text.encode())
 
 
 def name_shown(name):
-    return f"{name['name_type']}/{shown(name['realm'])}/{list_shown([shown(it) for it in name['components']])}"
+    return f"{name['name_type']}/{text_shown(reference.name_text(name))}"
 
 
 def entry_shown(it):
-    return f"{name_shown(it)}:{it['timestamp']}:{it['kvno']}:{it['etype']}:{shown(it['key'])}"
+    return f"{name_shown(it)} {it['timestamp']} {it['kvno']} {it['etype']} {shown(it['key'])}"
 
 
-def typed_shown(items):
-    return list_shown([f"{kind}/{shown(text)}" for kind, text in items])
+def truth(value):
+    return "true" if value else "false"
 
 
 def credential_shown(it):
-    times = ":".join(str(it[word]) for word in ("authtime", "starttime", "endtime", "renew_till", "is_skey", "flags"))
-    lists = f"{typed_shown(it['addresses'])}:{typed_shown(it['authdata'])}"
-    front = f"{name_shown(it['client'])}:{name_shown(it['server'])}:{it['etype']}:{shown(it['key'])}"
-    return f"{front}:{times}:{lists}:{shown(it['ticket'])}:{shown(it['second_ticket'])}"
+    """What the library for C tells of a credential."""
+    names = f"{name_shown(it['client'])} {name_shown(it['server'])}"
+    times = " ".join(str(it[word]) for word in ("authtime", "starttime", "endtime", "renew_till"))
+    key, ticket = shown(it["key"]), shown(it["ticket"])
+    return f"{names} {it['etype']} {key} {times} {truth(it['is_skey'])} {it['flags']} {ticket}"
 
 
-def kind_shown(it):
-    return f"{'config' if reference.is_configuration(it) else 'ticket'} {credential_shown(it)}"
+def typed_shown(items):
+    return " ".join([str(len(items)), *(f"{kind} {shown(text)}" for kind, text in items)])
+
+
+def all_shown(it):
+    """All of a credential."""
+    lists = f"{typed_shown(it['addresses'])} {typed_shown(it['authdata'])}"
+    return f"{credential_shown(it)} {shown(it['second_ticket'])} {lists} {truth(reference.is_configuration(it))}"
 
 
 def fault_shown(fault):
     return fault.name if fault.at is None else f"{fault.name} {{ at: {fault.at} }}"
 
 
-def keytab_shown(data):
-    try:
-        entries = reference.keytab(data)
-    except Fault as fault:
-        return fault_shown(fault)
-    return f"ok {len(entries)} {list_shown([entry_shown(it) for it in entries], ' ')}"
-
-
 def offset_shown(fields):
     offset = next((struct.unpack(">ii", value) for tag, value in fields if tag == 1), None)
-    return f"{offset[0]},{offset[1]}" if offset else "none"
+    return f"{offset[0]} {offset[1]}" if offset else "none"
 
 
-def parts_shown(fields, default, credentials):
-    listed = list_shown([kind_shown(it) for it in credentials], " ")
-    return f"ok {name_shown(default)} {offset_shown(fields)} {len(credentials)} {listed}"
+def entries_shown(entries):
+    return " ".join([str(len(entries)), *map(entry_shown, entries)])
 
 
-def cache_shown(data):
+def cache_shown(fields, default, credentials, credential=credential_shown):
+    return " ".join([name_shown(default), offset_shown(fields), str(len(credentials)), *map(credential, credentials)])
+
+
+def converted(convert, file):
+    """The bytes of a file as they are written, or the fault."""
     try:
-        return parts_shown(*reference.cache(data))
+        return f"ok {shown(convert(file))}"
     except Fault as fault:
         return fault_shown(fault)
 
@@ -90,6 +91,10 @@ def cache_shown(data):
 
 class Failed(Exception):
     """A read failed."""
+
+
+class Item(str):
+    """An item as it is shown, where a fault or the end might be."""
 
 
 class Source:
@@ -111,11 +116,8 @@ class Source:
     def spelled(self):
         return f"piece:{self.piece}" + ("" if self.failing is None else f":{self.failing}")
 
-    def told(self):
-        return f"given {self.at} failures {self.failures}"
-
     def back(self):
-        return f"{self.told()} left {len(self.data) - self.at}"
+        return f"failures {self.failures} left {len(self.data) - self.at}"
 
 
 class AtHand:
@@ -191,7 +193,7 @@ class Entries:
             if not self.hand.fill(size):
                 return f"Truncated {{ at: {at} }}"
             try:
-                return f"entry {entry_shown(reference.keytab_entry(self.hand.bytes(), 0, size))}"
+                return Item(entry_shown(reference.keytab_entry(self.hand.bytes(), 0, size)))
             except Short:
                 return self.concluded(f"BadEntry {{ at: {at} }}")
 
@@ -201,7 +203,7 @@ class Entries:
                 answer = self.step()
             except Failed:
                 answer = "Read"
-            if answer.startswith("entry"):
+            if isinstance(answer, Item):
                 return answer
             self.last = answer
         return self.last
@@ -304,35 +306,33 @@ class Credentials:
             at = self.hand.source.at
             item, fault = self.part(self.credential, f"BadItem {{ at: {at} }}")
             if not fault:
-                return kind_shown(item)
+                return Item(all_shown(item))
             is_end = fault == f"BadItem {{ at: {at} }}" and self.hand.source.at == at
             self.last = "end" if is_end else fault
         return self.last
 
 
-def is_item(answer):
-    return answer.startswith(("entry ", "ticket ", "config "))
-
-
 def conversation(reader, calls, count):
     """So many times these calls in turn, each followed by `held`; up to one answer after the last."""
-    lines, answers, left = [], [], 1
+    words, answers, left = [], [], 1
     for it in range(count):
         call = calls[it % len(calls)]
         answer = reader.next()
-        lines += [call, "held"]
-        answers += ["passed" if call == "pass" and is_item(answer) else answer, str(reader.hand.held)]
-        if not is_item(answer):
+        is_item = isinstance(answer, Item)
+        passed = {"end": "false"}.get(answer, answer) if not is_item else "true"
+        words += [call, "held"]
+        answers += [passed if call == "pass" else answer, str(reader.hand.held)]
+        if not is_item:
             left -= 1
             if left < 0:
                 break
-    return [*lines, "source", "into"], [*answers, reader.hand.source.told(), reader.hand.source.back()]
+    return " ".join(words), " ".join([*answers, reader.hand.source.back()])
 
 
 def entry_case(name, file, piece, failing=None, calls=("next",)):
     source = Source(file, piece, failing)
-    lines, answers = conversation(Entries(source), calls, 100_000)
-    return PROGRAM, name, [f"entries {source.spelled()} {packed(file)}", *lines], ["open", *answers]
+    words, answer = conversation(Entries(source), calls, 100_000)
+    return PROGRAM, name, [f"entries {source.spelled()} {packed(file)} {words}"], [answer]
 
 
 def credential_case(name, file, piece, failing=None, calls=("next",)):
@@ -341,9 +341,9 @@ def credential_case(name, file, piece, failing=None, calls=("next",)):
     line, fault = f"credentials {source.spelled()} {packed(file)}", reader.open()
     if fault:
         return PROGRAM, name, [line], [f"{fault} {source.back()}"]
-    lines, answers = conversation(reader, calls, 100_000)
-    front = [name_shown(reader.name_found), offset_shown(reader.fields)]
-    return PROGRAM, name, [line, "name", "offset", *lines], ["open", *front, *answers]
+    words, answer = conversation(reader, calls, 100_000)
+    front = f"{name_shown(reader.name_found)} {offset_shown(reader.fields)}"
+    return PROGRAM, name, [f"{line} {words}"], [f"{front} {answer}"]
 
 
 def each_call(case, name, file, piece, failing=None):
@@ -351,43 +351,54 @@ def each_call(case, name, file, piece, failing=None):
         yield case(f"{name}, by {' and '.join(calls)}", file, piece, failing, calls)
 
 
-def file_case(kind, name, file, piece, found, written):
-    """What `parse`, `read` and the writing of what was read give."""
-    given = f"given {min(len(file), LIMIT + 1)} failures 0"
-    lines = [f"{kind} parse {packed(file)}", f"{kind} read piece:{piece} {packed(file)}"]
-    answers = [found, f"{found} {given}"]
-    if found.startswith("ok"):
-        lines.append(f"{kind} write {packed(file)}")
-        answers.append(written(file))
-    return PROGRAM, name, lines, answers
+def reading_case(kind, name, file, piece, found):
+    """What is read of a source that gives so many bytes a read."""
+    back = f"failures 0 left {max(0, len(file) - LIMIT - 1)}"
+    return PROGRAM, f"{name}, off a source", [f"{kind} piece:{piece} {packed(file)}"], [f"{found} {back}"]
 
 
-def keytab_case(name, file, piece=4_096):
-    return file_case("keytab", name, file, piece, keytab_shown(file),
-                     lambda data: f"ok {shown(reference.convert_keytab(data))}")
-
-
-def written_cache(data):
+def keytab_cases(name, file, piece=4_096):
+    """What a keytab is parsed as and written as, and what is read of a source."""
     try:
-        return f"ok {shown(reference.convert_ccache(data))}"
+        found = entries_shown(reference.keytab(file))
     except Fault as fault:
-        return fault_shown(fault)
+        found = fault_shown(fault)
+        yield IN_C, name, [f"keytab parse {packed(file)}"], [found]
+    else:
+        written = converted(reference.convert_keytab, file)
+        yield IN_C, name, [f"keytab parse {packed(file)}", f"keytab write {packed(file)}"], [f"ok {found}", written]
+    yield reading_case("keytab", name, file, piece, found)
 
 
-def cache_case(name, file, piece=4_096):
-    return file_case("cache", name, file, piece, cache_shown(file), written_cache)
+def cache_cases(name, file, piece=4_096):
+    """What a cache is parsed as; and what is read of a source, and written."""
+    try:
+        parts = reference.cache(file)
+    except Fault as fault:
+        found = parsed = fault_shown(fault)
+    else:
+        parsed = f"ok {cache_shown(*parts)}"
+        found = f"{cache_shown(*parts, all_shown)} {converted(reference.convert_ccache, file).removeprefix('ok ')}"
+    yield IN_C, name, [f"cache parse {packed(file)}"], [parsed]
+    yield reading_case("cache", name, file, piece, found)
 
 
 # What is drawn of a file: the calls of its reader and of what reads it as a whole.
 
-KEYTABS, CACHES = (entry_case, keytab_case), (credential_case, cache_case)
+KEYTABS, CACHES = (entry_case, keytab_cases), (credential_case, cache_cases)
+
+
+def read_in_each_way(kinds, name, file, piece):
+    reader, whole = kinds
+    yield reader(name, file, piece)
+    yield from whole(f"{name}, as a whole", file, piece)
 
 
 def read_and_parsed(kinds, name, file, pieces, most=4_096):
     reader, whole = kinds
     for piece in pieces:
         yield from each_call(reader, f"{name}, {piece} a read", file, piece)
-    yield whole(f"{name}, as a whole", file, most)
+    yield from whole(f"{name}, as a whole", file, most)
 
 
 def beginnings(kinds, name, file, pieces):
@@ -428,14 +439,16 @@ def keytabs_of_sizes():
     """Names of 0 to 300 components, and keys of as many bytes; and files of 0 to 300 entries."""
     for count in range(301):
         file = START + record([b"host"] * count, b"\7" * count)
-        yield keytab_case(f"a keytab with a name of {count} components", file)
-        words = entry_words(times_of("686f7374", count), f"07*{count}" if count else "-")
-        yield PROGRAM, f"an entry of {count} components is added", [f"keytab add 0502 {words}"], [f"ok {shown(file)}"]
+        yield from keytab_cases(f"a keytab with a name of {count} components", file)
+        # (the text of a name without components is that of one with an empty component)
+        if count:
+            words = entry_words(f"686f7374^{count}", f"07*{count}")
+            yield IN_C, f"an entry of {count} components is added", [f"keytab add 0502 {words}"], [f"ok {shown(file)}"]
     one, words, file = record([b"host"] * 2, b"\7\7"), entry_words("686f7374^2", "0707"), START
     for count in range(301):
         lines = [f"keytab add {packed(file)} {words}", f"keytab turned {packed(file)}"]
-        yield PROGRAM, f"an entry is added to {count}", lines, [f"ok {shown(file + one)}", "same"]
-        yield keytab_case(f"a keytab of {count} entries", file)
+        yield IN_C, f"an entry is added to {count}", lines, [f"ok {shown(file + one)}", "same"]
+        yield from keytab_cases(f"a keytab of {count} entries", file)
         file += record([b"host", b"web%d" % count], b"\7" * 32, count)
 
 
@@ -467,46 +480,31 @@ def sized(size):
     return credential_of({**NONE, **names, **texts, "etype": 20, "addresses": lists, "authdata": lists})
 
 
-def times_of(item, size, sign="^"):
-    return f"{item}{sign}{size}" if size else "."
-
-
-def sized_words(size):
-    name = f"1/4558/{times_of('686f7374', size)}"
-    addresses = times_of("2/7f000001", size)
-    key, ticket, second = (f"{it:02x}*{size}" if size else "-" for it in (9, 7, 8))
-    return name, f"{name}:{name}:20:{key}:1:2:3:4:0:5:{addresses}:{addresses}:{ticket}:{second}"
-
-
 def cache_of(*credentials, fields=(), default=HOST):
     """The bytes of a cache of these credentials. Of its header's fields each is a tag and a value."""
     header = b"".join(struct.pack(">H", tag) + data16_of(value) for tag, value in fields)
     return NEW + data16_of(header) + name_of(default) + b"".join(credentials)
 
 
-def sized_cache(credentials, size):
-    """A cache of so many such credentials; its header has as many fields of as many bytes, but 100 at most."""
-    fields = min(size, 100)
-    file = cache_of(*[sized(size)] * credentials, fields=[(2, b"\6" * size)] * fields, default=host(size))
-    name, credential = sized_words(size)
-    header = times_of(f"2/06*{size}", fields) if size else "."
-    return file, " ".join([header, name, *[credential] * credentials])
-
-
-def made_case(name, file, words):
-    found = cache_shown(file)
-    return PROGRAM, name, [f"cache made {words}", f"cache written {words}"], [found, f"ok {shown(file)}"]
+def made_case(name, fields, *credentials, default=HOST):
+    """A cache is made of the fields of a header and of the credentials of a file that has none."""
+    bare, file = cache_of(*credentials, default=default), cache_of(*credentials, fields=fields, default=default)
+    words = " ".join([str(len(fields)), *(f"{tag} {packed(value)}" for tag, value in fields)])
+    _, default, found = reference.cache(bare)
+    written = shown(file) if len(file) <= LIMIT else "TooLong"
+    answer = f"{cache_shown(fields, default, found, all_shown)} {written}"
+    yield PROGRAM, f"{name} is made", [f"made slice {packed(bare)} {words}"], [answer]
+    yield from cache_cases(name, file)
 
 
 def caches_of_sizes():
+    """Caches with so many of each: components, elements and bytes. The header has as many fields of as many bytes, but
+    100 at most."""
     for size in range(301):
-        file, words = sized_cache(1, size)
-        yield made_case(f"a cache is made with {size} of each", file, words)
-        yield cache_case(f"a cache with {size} of each", file)
+        fields = [(2, b"\6" * size)] * min(size, 100)
+        yield from made_case(f"a cache with {size} of each", fields, sized(size), default=host(size))
     for count in range(0, 301, 10):
-        file, words = sized_cache(count, 1)
-        yield made_case(f"a cache of {count} credentials is made", file, words)
-        yield cache_case(f"a cache of {count} credentials", file)
+        yield from made_case(f"a cache of {count} credentials", [(2, b"\6")], *[sized(1)] * count, default=host(1))
 
 
 def unreal_ticket():
@@ -556,11 +554,11 @@ def old_caches():
     yield from with_other_bytes(CACHES, "a cache of 0x0503", whole, (0, 1, 2, 4, 0xFF), 64)
     yield from with_failures(CACHES, "a cache of 0x0503", whole, (7, 50), 41)
     for again in (b"\0\0", b"\0\x12", b"\x13\0", b"\xff\xff"):
-        yield cache_case(f"a second encryption type of {again.hex()}", fixture.old_cache(unreal_ticket(), again))
+        yield from cache_cases(f"a second encryption type of {again.hex()}", fixture.old_cache(unreal_ticket(), again))
     for length in (LIMIT, LIMIT + 1):
         size = length - 18
         file = OLD + struct.pack(">iIII", 1, 1, 0, size) + b"\7" * size
-        yield from (case(f"a cache of 0x0503 of {length} bytes without credentials", file, 65_536) for case in CACHES)
+        yield from read_in_each_way(CACHES, f"a cache of 0x0503 of {length} bytes without credentials", file, 65_536)
 
 
 def drawn_text(draw, most):
@@ -603,8 +601,7 @@ def drawn_caches():
         if draw.randrange(3) == 0:
             at = draw.randrange(len(data))
             data = data[:at] + draw.randbytes(1) + data[at + 1 :]
-        piece = draw.randrange(1, 70)
-        yield from (case(f"drawn cache {number}", data, piece) for case in CACHES)
+        yield from read_in_each_way(CACHES, f"drawn cache {number}", data, draw.randrange(1, 70))
 
 
 def other_caches():
@@ -618,9 +615,9 @@ def other_caches():
             yield credential_case(f"{length} bytes of a ticket's cache, {piece} a read", whole[:length], piece)
     yield from with_other_bytes(CACHES, "a cache", files["full"], (0, 1, 2, 0xFF), 64)
     yield from with_failures(CACHES, "a cache", whole, (7, 50), 41)
-    empty = sized_cache(1, 0)[0]
+    empty = cache_of(sized(0), default=host(0))
     for at in range(len(empty) - 3):
-        yield cache_case(f"a count of 4294967295 at {at}", empty[:at] + b"\xff" * 4 + empty[at + 4 :])
+        yield from cache_cases(f"a count of 4294967295 at {at}", empty[:at] + b"\xff" * 4 + empty[at + 4 :])
 
 
 # Sizes at which memory is taken. There is ample memory, so out of memory is a wrong answer to any of them.
@@ -685,13 +682,13 @@ def added(data, one):
 
 
 def edited_case(name, file, one, words):
-    """What `add_in` gives of this entry, and `remove_in` then."""
+    """The keytab with this entry more, or why there is none."""
     lines = [f"keytab add {packed(file)} {words}"]
     try:
         made = added(file, one)
     except Fault as fault:
-        return PROGRAM, name, lines, [f"{fault.name} {shown(file)}"]
-    return PROGRAM, name, lines, [f"ok {shown(made)}"]
+        return IN_C, name, lines, [f"{fault.name} {shown(file)}"]
+    return IN_C, name, lines, [f"ok {shown(made)}"]
 
 
 def edits_of_large_files():
@@ -702,7 +699,7 @@ def edits_of_large_files():
     yield edited_case("an entry is added to a file of 1 MB", entries, ALICE, words)
     gone = removed(entries, 19_999)
     name = "an entry of a file of 1 MB is removed"
-    yield PROGRAM, name, [f"keytab remove 19999 {packed(entries)}"], [f"ok {shown(gone)}"]
+    yield IN_C, name, [f"keytab remove 19999 {packed(entries)}"], [f"ok {shown(gone)}"]
     for key in (65_209, 65_208):
         yield edited_case(f"an entry is added to a file of {16_711_958 + key} bytes", full_keytab(key), ALICE, words)
 
@@ -719,30 +716,19 @@ def most_of_a_keytab():
     """Keytabs at the limit, and a byte past it; one that is longer where it is written."""
     for key in (65_258, 65_254):
         file = full_keytab(key)
-        entry = reference.keytab(file)
-        found = f"ok 1 {list_shown([entry_shown(it) for it in entry], ' ')}"
-        try:
-            written = f"ok {shown(reference.convert_keytab(file))}"
-        except Fault as fault:
-            written = fault.name
-        word = packed(file)
-        lines = [f"keytab parse {word}", f"keytab read reader {word}", f"keytab write {word}"]
-        answers = [found, f"{found} given {len(file)} failures 0", written]
-        yield PROGRAM, f"a keytab of {len(file)} bytes, written", lines, answers
+        yield from keytab_cases(f"a keytab of {len(file)} bytes, written", file, 65_536)
     file = full_keytab(65_258)
     yield entry_case(f"a reader of a keytab of {len(file)} bytes", file, 65_536)
-    yield from (case(f"a keytab of {len(file) + 1} bytes", file + b"\0", 65_536) for case in KEYTABS)
+    yield from read_in_each_way(KEYTABS, f"a keytab of {len(file) + 1} bytes", file + b"\0", 65_536)
 
 
 def most_of_a_cache():
-    small = len(cache_of(credential_of(NONE)))
+    # (a header's field of one byte has five)
+    small = len(cache_of(credential_of(NONE))) + 5
     for length in (65_535, 65_536, 100_000, LIMIT - small, LIMIT - small + 1):
-        file = cache_of(credential_of({**NONE, "ticket": b"\7" * length}))
-        name, short = "1/4558/686f7374", f"a cache with a ticket of {length} bytes"
-        made = f". {name} {name}:{name}:19:-:1:2:3:4:0:5:.:.:07*{length}:-"
-        written = f"ok {shown(file)}" if len(file) <= LIMIT else "TooLong"
-        yield PROGRAM, f"{short} is made", [f"cache written {made}"], [written]
-        yield from (case(short, file, 65_536) for case in CACHES)
+        one, name = credential_of({**NONE, "ticket": b"\7" * length}), f"a cache with a ticket of {length} bytes"
+        yield from made_case(name, [(2, b"\6")], one)
+        yield credential_case(f"a reader of {name}", cache_of(one, fields=[(2, b"\6")]), 65_536)
 
 
 # Of so many items, a file of small ones still has room.
@@ -750,16 +736,9 @@ MOST = 20_000
 
 
 def many_items():
-    """Very many entries and credentials: each is shown as it is alone."""
-    one = record([b"host"] * 2, KEY)
-    found = f"ok {MOST} {list_shown([entry_shown(reference.keytab(START + one)[0])] * MOST, ' ')}"
-    yield file_case("keytab", f"a keytab of {MOST} entries", START + one * MOST, 65_536, found,
-                    lambda data: f"ok {shown(data)}")
-    one = credential_of(NONE)
-    _, default, credentials = reference.cache(cache_of(one))
-    found = f"ok {name_shown(default)} none {MOST} {list_shown([kind_shown(credentials[0])] * MOST, ' ')}"
-    yield file_case("cache", f"a cache of {MOST} credentials", cache_of(one * MOST), 65_536, found,
-                    lambda data: f"ok {shown(data)}")
+    """Very many entries and credentials."""
+    yield from keytab_cases(f"a keytab of {MOST} entries", START + record([b"host"] * 2, KEY) * MOST, 65_536)
+    yield from cache_cases(f"a cache of {MOST} credentials", cache_of(credential_of(NONE) * MOST), 65_536)
 
 
 def wide_records():
@@ -789,24 +768,16 @@ def sizes():
 def long_words():
     """Strings, names and lists, made by the calls themselves."""
     long, told = "61*60000", shown(b"a" * 60_000)
-    lines, answers = [], []
-    for call in ("from", "pushed", "of", "clone"):
-        lines.append(f"bytes {call} {long}")
-        answers.append(f"60000 false {told}")
-    items = list_shown(["686f7374"] * 1_000)
-    for call in ("pushed", "clone", "room 1000"):
-        lines.append(f"components {call} 686f7374^1000")
-        answers.append(f"1000 false {items}")
-    elements = list_shown(["2/7f000001"] * 1_000)
-    lines, answers = [*lines, "cache list 2/7f000001^1000"], [*answers, f"1000 false {elements}"]
+    lines = [f"bytes {long} {long}", "list 1000" + " 2 7f000001" * 1_000]
+    answers = [f"60000 false {told} {told} true", f"false {typed_shown([(2, bytes.fromhex('7f000001'))] * 1_000)}"]
     yield PROGRAM, "long strings and lists", lines, answers
     for realm, components in ((b"a" * 1_000_000, [b"b"]), (b"EX", [b"a" * 1_000_000]), (b"EX", [b"host"] * 20_000)):
-        text = reference.principal_text(realm, components)
         name = {"name_type": 3, "realm": realm, "components": components}
-        word = f"3/{realm.hex()}/{','.join(it.hex() for it in components)}"
-        lines = [f"name text {word}", f"name read 3 ={text}", f"name clone {word}"]
-        answers = [shown(text.encode()), name_shown(name), name_shown(name)]
-        yield PROGRAM, f"a name of {len(text)} letters", lines, answers
+        text = reference.name_text(name)
+        line = " ".join([f"name 3/{text} 3 {len(components)} {realm.hex()}", *(it.hex() for it in components)])
+        items = " ".join(map(shown, components))
+        yield PROGRAM, f"a name of {len(text)} letters", [line], [f"{len(components)} false {items} {name_shown(name)}"
+                                                                  + " true" * 4]
 
 
 # Lengths and counts that the bytes don't bear out.
@@ -857,11 +828,9 @@ def names():
     """Names of 1 to 300 components become texts and names again."""
     for count in range(1, 301):
         parts = [*(b"c%d" % it for it in range(1, count)), b"last"]
-        text, listed = reference.principal_text(b"EX", parts), ",".join(it.hex() for it in parts)
-        told = f"={text}" if len(text) <= 1024 else shown(text.encode())
-        name = name_shown({"name_type": 1, "realm": b"EX", "components": parts})
-        lines = [f"name text 1/4558/{listed}", f"name read 1 ={text}"]
-        yield PROGRAM, f"a name of {count} components", lines, [told, name]
+        text, word = reference.principal_text(b"EX", parts), name_word(1, b"EX", parts)
+        told = f"={text}" if len(text) <= TEXT else shown(text.encode())
+        yield IN_C, f"a name of {count} components", [f"name text {word}", f"name read 1 ={text}"], [told, word]
 
 
 PARTS = (names, keytabs_of_sizes, other_keytabs, caches_of_sizes, other_caches, old_caches, drawn_caches, sizes,

@@ -43,16 +43,17 @@ class Reader:
         return self.take(self.number("I"))
 
 
+def letter(byte):
+    if byte in b"/@\\":
+        return "\\" + chr(byte)
+    return chr(byte) if 0x21 <= byte <= 0x7E else f"\\x{byte:02x}"
+
+
+LETTERS = list(map(letter, range(256)))
+
+
 def escaped(text):
-    out = []
-    for byte in text:
-        if byte in b"/@\\":
-            out.append("\\" + chr(byte))
-        elif 0x21 <= byte <= 0x7E:
-            out.append(chr(byte))
-        else:
-            out.append(f"\\x{byte:02x}")
-    return "".join(out)
+    return "".join(map(LETTERS.__getitem__, text))
 
 
 def principal_text(realm, components):

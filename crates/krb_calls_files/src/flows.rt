@@ -1,134 +1,104 @@
-//! Calls of cursors, sources and windows.
+//! Calls of cursors and sinks.
 
-use crate::counted::{Counted, left};
-use crate::talk::Talk;
-use crate::words::{displayed, shown, truth, word};
-use krb_file::{FileCursor, ReadFault, Short, Source, SourceFailed, Window};
-use std::alloc::Global;
-use std::fmt::Display;
+use crate::values::show;
+use krb_file::{FileCursor, PieceSink, Short, Sink, WriteSink, write_all};
+use krb_words::{Answer, Words};
+use std::io;
+use std::io::{ErrorKind, Write};
 
-impl Talk for FileCursor<'_> {
-    fn call(&mut self, alloc: Global, line: &str) -> Option<String> {
-        match line {
-            "u8" => number_read(alloc, self.read_u8()),
-            "u16" => number_read(alloc, self.read_u16()),
-            "u32" => number_read(alloc, self.read_u32()),
-            "i16" => number_read(alloc, self.read_i16()),
-            "i32" => number_read(alloc, self.read_i32()),
-            "at" => displayed(alloc, self.at()),
-            "rest" => shown(alloc, self.rest()),
-            "is-at-end" => truth(alloc, self.is_at_end()),
-            _ => cursor_bytes(alloc, self, line),
+/// Reads fields.
+pub(crate) fn cursor(words: &mut Words, out: &mut Answer) -> Option<()> {
+    let bytes = words.bytes()?;
+    let mut cursor = FileCursor::new(&bytes);
+    for _ in 0..u64::MAX {
+        if words.is_at_end() {
+            break;
+        }
+        match words.next()? {
+            "u8" => show(cursor.read_u8(), out)?,
+            "u16" => show(cursor.read_u16(), out)?,
+            "u32" => show(cursor.read_u32(), out)?,
+            "i16" => show(cursor.read_i16(), out)?,
+            "i32" => show(cursor.read_i32(), out)?,
+            "data16" => show_field(cursor.read_data16(), out)?,
+            "data32" => show_field(cursor.read_data32(), out)?,
+            "bytes" => show_field(cursor.read_bytes(words.size()?), out)?,
+            "at" => out.shown(cursor.at())?,
+            "rest" => out.bytes(cursor.rest())?,
+            "is-at-end" => out.truth(cursor.is_at_end())?,
+            _ => return None,
         }
     }
-
-    fn into_answer(self, _alloc: Global) -> Option<String> {
-        None
-    }
+    Some(())
 }
 
-fn cursor_bytes(alloc: Global, cursor: &mut FileCursor<'_>, line: &str) -> Option<String> {
-    let answer = match line {
-        "data16" => cursor.read_data16(),
-        "data32" => cursor.read_data32(),
-        _ => cursor.read_bytes(line.strip_prefix("bytes ")?.parse::<usize>().ok()?),
-    };
+fn show_field(answer: Result<&[u8], Short>, out: &mut Answer) -> Option<()> {
     match answer {
-        Ok(bytes) => shown(alloc, bytes),
-        Err(Short) => word(alloc, "Short"),
+        Ok(bytes) => out.bytes(bytes),
+        Err(fault) => out.named(fault),
     }
 }
 
-fn number_read<N: Display + Drop>(alloc: Global, answer: Result<N, Short>) -> Option<String> {
-    match answer {
-        Ok(found) => displayed(alloc, found),
-        Err(Short) => word(alloc, "Short"),
-    }
+// A writer that fails at its first call, takes nothing at the second, and then all.
+#[derive(Drop)]
+struct Slow {
+    calls: u8,
+    taken: Vec<u8>,
 }
 
-/// Tells how many bytes a source has given, and how many reads failed.
-pub(crate) fn source_told(alloc: Global, source: &Counted<'_>) -> Option<String> {
-    let given = source.given();
-    let failures = source.inner_failures();
-    format!(in alloc; "given {given} failures {failures}").ok()
-}
-
-/// Tells this of a source that was given back, and how many bytes are left of it.
-pub(crate) fn source_back(alloc: Global, source: Counted<'_>) -> Option<String> {
-    let mut source = source;
-    let given = source.given();
-    let failures = source.inner_failures();
-    let left = left(&mut source)?;
-    format!(in alloc; "given {given} failures {failures} left {left}").ok()
-}
-
-impl Talk for Counted<'_> {
-    fn call(&mut self, alloc: Global, line: &str) -> Option<String> {
-        match line {
-            "source" => source_told(alloc, self),
-            _ => read_call(
-                alloc,
-                self,
-                line.strip_prefix("read ")?.parse::<u16>().ok()?,
-            ),
+impl Write for Slow {
+    fn write(&mut self, buffer: &[u8]) -> io::Result<usize> {
+        self.calls = self.calls.saturating_add(1);
+        match self.calls {
+            1 => Err(io::Error::from(ErrorKind::Other)),
+            2 => Ok(0),
+            _ => self.taken.write(buffer),
         }
     }
 
-    fn into_answer(self, alloc: Global) -> Option<String> {
-        source_back(alloc, self)
+    fn flush(&mut self) -> io::Result<()> {
+        Ok(())
     }
 }
 
-fn read_call(alloc: Global, source: &mut Counted<'_>, count: u16) -> Option<String> {
-    let mut buffer = vec![in alloc; 0u8; usize::from(count)].ok()?;
-    match source.read(&mut buffer) {
-        Ok(came) => shown(alloc, buffer.get(..came)?),
-        Err(SourceFailed) => word(alloc, "SourceFailed"),
-    }
-}
-
-impl Talk for Window<Counted<'_>> {
-    fn call(&mut self, alloc: Global, line: &str) -> Option<String> {
-        match line {
-            "bytes" => shown(alloc, self.bytes()),
-            "held" => displayed(alloc, self.held()),
-            "given" => displayed(alloc, self.given()),
-            "source" => source_told(alloc, self.source()),
-            "clear" => {
-                self.clear();
-                word(alloc, "clear")
-            }
-            _ => counted_call(alloc, self, line),
+/// Opens a sink.
+pub(crate) fn sink(words: &mut Words, out: &mut Answer) -> Option<()> {
+    match words.next()? {
+        "pieces" => {
+            let mut room = vec![in words.alloc; 0u8; words.size()?].ok()?;
+            let piece = words.size()?;
+            let failing = words.uint32_or_none()?;
+            let mut sink = PieceSink::new(&mut room, piece.max(1), failing.map(u64::from));
+            write_to(&mut sink, words, out)?;
+            out.bytes(sink.taken())
         }
-    }
-
-    fn into_answer(self, alloc: Global) -> Option<String> {
-        source_back(alloc, self.into_source())
-    }
-}
-
-fn counted_call(alloc: Global, window: &mut Window<Counted<'_>>, line: &str) -> Option<String> {
-    let (call, digits) = line.split_once(' ')?;
-    let count = digits.parse::<u32>().ok()? as usize;
-    window.given().checked_add(count)?;
-    match call {
-        "fill" => filled(alloc, window.fill(count)),
-        "skip" => skipped(alloc, window.skip(count)),
-        "run-out" => skipped(alloc, window.run_out(count)),
+        "writer" => {
+            let calls = words.next()?.parse::<u8>().ok()?;
+            let taken = Vec::new(words.alloc);
+            let mut sink = WriteSink::new(Slow { calls, taken });
+            write_to(&mut sink, words, out)?;
+            out.bytes(&sink.into_inner().taken)
+        }
         _ => None,
     }
 }
 
-fn filled(alloc: Global, answer: Result<bool, ReadFault>) -> Option<String> {
-    match answer {
-        Ok(came) => truth(alloc, came),
-        Err(fault) => format!(in alloc; "{fault:?}").ok(),
+// Makes the calls of a sink, which is lent.
+fn write_to<S: Sink + Drop>(sink: S, words: &mut Words, out: &mut Answer) -> Option<()> {
+    let mut sink = sink;
+    for _ in 0..u64::MAX {
+        if words.is_at_end() {
+            break;
+        }
+        match words.next()? {
+            "write" => show(sink.write(&words.bytes()?), out)?,
+            "write-all" => match write_all(&mut sink, &words.bytes()?) {
+                Ok(()) => out.word("ok")?,
+                Err(fault) => out.named(fault)?,
+            },
+            "failures" => out.shown(sink.failures())?,
+            _ => return None,
+        }
     }
-}
-
-fn skipped(alloc: Global, answer: Result<bool, SourceFailed>) -> Option<String> {
-    match answer {
-        Ok(came) => truth(alloc, came),
-        Err(SourceFailed) => word(alloc, "SourceFailed"),
-    }
+    Some(())
 }
