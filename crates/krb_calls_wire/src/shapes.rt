@@ -4,7 +4,7 @@ use krb_der::{Constant, Cursor, Fault, Field, Flags, Maybe, Octets, Seconds, Tex
 use krb_words::{Answer, Words};
 
 /// The kinds are those of `tests/support/der_rules.py`: int32, uint32, seq_number, microseconds, five, octets, string, flags, time; and
-/// tagged, nested, pair, options, mixed, numbers, texts and name.
+/// tagged, nested, pair, options, mixed, maybe (octets tagged a1, or nothing), numbers, texts and name.
 pub(crate) fn read(words: &mut Words, out: &mut Answer) -> Option<()> {
     let kind = words.next()?;
     let bytes = words.bytes()?;
@@ -49,6 +49,7 @@ fn parts<'a>(cursor: &mut Cursor<'a>, kind: &str, out: &mut Answer) -> Result<Op
         "pair" => Ok(show_pair(cursor.sequence()?, out)),
         "options" => Ok(show_options(cursor.sequence()?, out)),
         "mixed" => mixed(cursor, out),
+        "maybe" => maybe(cursor, out),
         "numbers" => Ok(show_numbers(cursor.list::<i32>()?, out)),
         "texts" => Ok(show_texts(texts(cursor)?, out)),
         "name" => Ok(show_name(name(cursor)?, out)),
@@ -111,6 +112,15 @@ fn show_mixed(
     out.shown_or_none(time)?;
     out.shown(number)?;
     show_octets(octets, out)
+}
+
+fn maybe(cursor: &mut Cursor, out: &mut Answer) -> Result<Option<()>, Fault> {
+    let Some(mut inside) = cursor.optional(0xa1)? else {
+        return Ok(out.word("none"));
+    };
+    let octets = inside.octets()?;
+    inside.finish()?;
+    Ok(out.bytes(octets))
 }
 
 fn show_numbers(mut list: Cursor, out: &mut Answer) -> Option<()> {
