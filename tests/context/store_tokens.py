@@ -83,7 +83,7 @@ def shown(library, version, found):
     about = f"""Per-message tokens that {library} made ({version}),
 stored by tests/context/store_tokens.py: MIC tokens, and Wrap tokens with confidentiality and without it, of both sides,
 under subkeys of the initiator and, after a reply, of the acceptor. tests/support/context.py draws more."""
-    text = "".join(f"# {line}\n" for line in about.splitlines()) + 'program = "krb_calls_context"\n'
+    text = "".join(f"# {line}\n" for line in about.splitlines()) + 'program = "wire_in_c"\n'
     for name, lines, answers in found:
         text += f'\n[[case]]\nname = "{name}"\n'
         for word, them in (("lines", lines), ("answers", answers)):

@@ -3,6 +3,8 @@ import pytest
 
 from support import calls, context
 
+pytestmark = pytest.mark.usefixtures("in_c")
+
 
 @pytest.mark.parametrize("case", calls.stored("context"), ids=calls.title)
 def test_call(case, checks):

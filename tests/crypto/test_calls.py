@@ -3,6 +3,8 @@ import pytest
 
 from support import aes, calls, codes, sealing, stealing
 
+pytestmark = pytest.mark.usefixtures("in_c")
+
 
 @pytest.mark.parametrize("case", calls.stored("crypto"), ids=calls.title)
 def test_call(case, checks):

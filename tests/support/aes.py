@@ -101,7 +101,6 @@ def drawn():
         key = bytes(range(size))
         for first in range(256):
             block = bytes([first]) + bytes.fromhex("112233445566778899aabbccddeeff")
-            answers = [encrypted(key, block).hex()] * 2 + [decrypted(key, block).hex()] * 2
-            calls = ["encrypt", "plain-encrypt", "decrypt", "plain-decrypt"]
-            lines = [f"aes {call} {key.hex()} {block.hex()}" for call in calls]
-            yield "krb_calls_wire", f"AES: a key of {size} bytes, a block that begins with {first}", lines, answers
+            words = [encrypted(key, block).hex()] * 2 + [decrypted(key, block).hex()] * 2
+            name = f"AES: a key of {size} bytes, a block that begins with {first}"
+            yield "krb_calls_wire", name, [f"aes {key.hex()} {block.hex()} {block.hex()}"], [" ".join(words)]

@@ -13,10 +13,10 @@ def code(name, key, *parts):
 
 
 def both(key, *parts):
-    """The lines that ask for the two codes of some parts, and the codes."""
+    """The lines that ask for the two codes of some parts, and the codes: each is made in three ways."""
     names = ("sha256", "sha384")
-    lines = [" ".join([f"kdf {it} {word(key)}", *map(word, parts)]) for it in names]
-    return lines, [code(it, key, *parts).hex() for it in names]
+    lines = [" ".join([f"hmac {it} {word(key)}", *map(word, parts)]) for it in names]
+    return lines, [" ".join([code(it, key, *parts).hex()] * 3) for it in names]
 
 
 def drawn():

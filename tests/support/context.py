@@ -1,13 +1,15 @@
 """A second implementation of per-message tokens (RFC 4121, section 4.2), of the order of their numbers (RFC 2743,
 section 1.2.3), and of the two sides of a context."""
+import functools
 import itertools
 import random
 import struct
 
 from support import calls
+from support.exchange_made import shown
 from support.sealing import TYPES, checksum, sealed
 
-PROGRAM = "krb_calls_context"
+PROGRAM, WIRE = "wire_in_c", "krb_calls_wire"
 SIGN, SEAL = {"acceptor": 23, "initiator": 25}, {"acceptor": 22, "initiator": 24}
 DEFECTIVE, WRONG = "the bytes are no token of this kind", "the checksum is wrong"
 OTHER_SIDE, OTHER_KEY = "the token was sent back: it is of the side that reads it", "the token is under another key"
@@ -134,7 +136,8 @@ class Side:
         """What is answered for a token with this number: it and its order, or that the options refuse it."""
         order = self.window.order(number)
         if self.in_order and order != "Next" or self.once and order in ("Repeat", "Old"):
-            return f"{NOT_NEXT} {order}{refused}"
+            # (the library for C has one code for a gap and what comes late)
+            return f"{NOT_NEXT} {order.replace('Late', 'AfterGap')}{refused}"
         return f"{number} {self.window.take(number)}{more}"
 
     def takes_mic(self, text, token):
@@ -167,23 +170,30 @@ def senders():
 
 def written(call, token):
     """What is written into slices of its length and more, and of a byte less."""
-    head, arguments = call
     size = len(token)
-    return ([f"{head} {size + 2} {arguments}", f"{head} {size - 1} {arguments}"],
+    return ([call.format(size + 2), call.format(size - 1)],
             [f"{size} {token.hex()}a5a5", f"the slice has fewer than {size} bytes a5*{size - 1}"])
+
+
+@functools.lru_cache(maxsize=1)
+def made(it, number, confounder, text):
+    """A MIC token and both Wrap tokens."""
+    return it.mic(number, text), it.seal(number, confounder, text), it.plain(number, text)
 
 
 def lengths(it, drawn):
     """Texts of many lengths, written and read."""
     lines, answers = [it.line()], ["kept"]
     for size in (*range(50), 1000, 70000):
-        text, confounder, number = drawn.randbytes(size), drawn.randbytes(16), drawn.getrandbits(64)
-        tokens = it.mic(number, text), it.seal(number, confounder, text), it.plain(number, text)
-        heads = (("mic", f"{number} {hexed(text)}"), ("seal", f"{number} {confounder.hex()} {hexed(text)}"),
-                 ("plain", f"{number} {hexed(text)}"))
-        for call, token in zip(heads, tokens):
+        # A side begins with a number of 32 bits, but takes any.
+        text, confounder, first = drawn.randbytes(size), drawn.randbytes(16), drawn.getrandbits(32)
+        number = drawn.getrandbits(64) if size < 50 else first
+        heads = (f"mic {{}} {first} {hexed(text)}", f"seal {{}} {first} {confounder.hex()} {hexed(text)}",
+                 f"plain {{}} {first} {hexed(text)}")
+        for call, token in zip(heads, made(it, first, confounder, text)):
             more, right = written(call, token)
             lines, answers = lines + more, answers + right
+        tokens = made(it, number, confounder, text)
         lines += [f"verify {hexed(text)} {tokens[0].hex()}", f"unwrap {tokens[1].hex()}", f"unwrap {tokens[2].hex()}"]
         answers += [f"{number}", f"{number} true {hexed(text)}", f"{number} false {hexed(text)}"]
     return lines, answers
@@ -231,12 +241,27 @@ def faults(it, drawn):
 def order(drawn):
     """Numbers near each other and far, at both ends of what 64 bits can say."""
     for first in (0, 5, 2**32 - 1, 2**64 - 70):
-        lines, answers, window = [f"window {first}"], ["kept"], Window(first)
+        window, line, answer = Window(first), f"window {first}", []
         for _ in range(400):
             number = near(window, drawn)
-            lines.append(f"take {number}")
-            answers.append(window.take(number))
-        yield f"order, from {first}", lines, answers
+            order = window.take(number)
+            line += f" {number}"
+            answer += [order, str(order == "Next").lower(), str(order not in ("Repeat", "Old")).lower()]
+        yield f"order, from {first}", [line], [" ".join(answer)]
+
+
+def unprepared(drawn):
+    """Tokens of sides that are made for one token each, of texts of many lengths."""
+    for etype, key in KEYS:
+        lines, answers, it = [], [], Sender(etype, key, "initiator", False)
+        for size in (*range(33), 1000):
+            text, confounder, number = drawn.randbytes(size), drawn.randbytes(16), drawn.getrandbits(31)
+            tokens = (it.mic(number, text), it.seal(number + 1, confounder, text, rotation=28),
+                      it.plain(number + 2, text))
+            lines.append(f"sides {etype} {key.hex()} {number} {confounder.hex()} {hexed(text)}")
+            mic, sealed, plain, text = map(shown, (*tokens, text))
+            answers.append(f"{mic} Next {sealed} {text} {plain} {text}")
+        yield f"sides that aren't prepared, type {etype}", lines, answers
 
 
 def near(window, drawn):
@@ -260,8 +285,8 @@ def sending(it, drawn):
     lines, answers = it.lines(), ["kept", "kept"]
     for size, is_sealed in itertools.product((0, 1, 17, 200), (True, False)):
         text, confounder, word = drawn.randbytes(size), drawn.randbytes(16), str(is_sealed).lower()
-        for call, make in ((("send", f"{word} {confounder.hex()} {hexed(text)}"), it.wrap),
-                           (("send-mic", hexed(text)), lambda *_: it.sent.mic(it.number, text))):
+        for call, make in ((f"send {{}} {word} {confounder.hex()} {hexed(text)}", it.wrap),
+                           (f"send-mic {{}} {hexed(text)}", lambda *_: it.sent.mic(it.number, text))):
             more, right = written(call, make(is_sealed, confounder, text))
             # First the slice that is too short: it uses up no number.
             lines, answers, it.number = lines + more[::-1], answers + right[::-1], it.number + 1
@@ -358,11 +383,10 @@ def drawn(seed=1):
     for it in senders():
         for make in (lengths, kinds, faults):
             yield PROGRAM, f"{make.__name__}, {it.line()}", *make(it, source)
-    for name, lines, answers in order(source):
-        yield PROGRAM, name, lines, answers
+    for name, lines, answers in (*order(source), *unprepared(source)):
+        yield WIRE, name, lines, answers
     for it in sides(source):
         for make in (sending, receiving):
             yield PROGRAM, f"{make.__name__}, {' '.join(it.lines())}", *make(it, source)
     yield from from_libraries()
     yield from bent_of_libraries(source)
-    yield PROGRAM, "sides", ["peer initiator", "peer acceptor"], ["Acceptor", "Initiator"]

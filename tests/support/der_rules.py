@@ -31,6 +31,7 @@ from support.der import sequence
 PROGRAM = "krb_calls_wire"
 # How many bytes a message has at most.
 LIMIT = 1_048_576
+TOO_LONG = f"the message would be longer than {LIMIT} bytes"
 
 
 class Refused(Exception):
@@ -151,6 +152,7 @@ SHAPES = {kind: kind for kind in TAGS} | {
     "options": [("may", (0xA0, "int32")), ("may", (0xA1, "octets")), ("may", (0xA2, "flags"))],
     "mixed": (0x6E, [("must", (0xA0, "five")), ("may", (0xA1, "time")), ("must", (0xA2, "uint32")),
                      ("may", (0xA3, "octets"))]),
+    "numbers": [("each", "int32")],
     "texts": [("each", "string")],
     "name": [("must", (0xA0, "int32")), ("must", (0xA1, [("each", "string")]))],
 }
@@ -352,12 +354,14 @@ def sizes():
             whole = packed(element(TAGS[kind], content))
             yield f"{size} bytes of {kind}", [f"der encoded {kind} {word}", f"der read {kind} {whole}"], [whole, word]
         both = element(TAGS["octets"], content) + element(TAGS["string"], content)
-        lines = f"der write octets {word} string {word} wrap 30 0 len"
         whole = sequence(both)
-        yield f"{size} bytes, call by call", [lines], [f"{len(whole)} {packed(whole)}"]
+        yield f"{size} bytes, call by call", [f"der written {word}"], [
+            f"true {len(both) // 2} {len(both)} {len(whole)} false {packed(whole)}"]
     for size in (LIMIT - 4, LIMIT, LIMIT + 1, 3_000_000):
         yield f"{size} bytes are too many", [f"der encoded octets 07*{size}",
-                                             f"der encoded string 07*{size}"], ["TooLong"] * 2
+                                             f"der encoded string 07*{size}"], [TOO_LONG] * 2
+    # A list of many elements, each of which has room.
+    yield "too many elements", [" ".join(["der encoded texts", *["07*1024"] * 1024])], [f"{TOO_LONG} {TOO_LONG}"]
 
 
 def lists():
@@ -365,8 +369,8 @@ def lists():
     for many in range(301):
         numbers = [str(it) for it in range(many)]
         whole = sequence(*(element(0x02, it.to_bytes(it.bit_length() // 8 + 1, "big")) for it in range(many)))
-        lines = [" ".join(["der encoded numbers", *numbers]), f"der cursor {packed(whole)} list-int32 finish"]
-        yield f"a list of {many}", lines, [packed(whole), " ".join(["[", *numbers, "] end"])]
+        lines = [" ".join(["der encoded numbers", *numbers]), f"der read numbers {packed(whole)}"]
+        yield f"a list of {many}", lines, [packed(whole), " ".join(["[", *numbers, "]"])]
 
 
 def drawn():

@@ -9,6 +9,9 @@ import struct
 
 from support.stealing import stolen
 
+# The programs that make the calls: into new memory, and into slices.
+WIRE, IN_C = "krb_calls_wire", "wire_in_c"
+SHORT, WRONG = "the sealed text is too short", "the tag is wrong"
 TYPES = {19: ("sha256", 16, 16), 20: ("sha384", 32, 24)}
 BASE = {
     19: bytes.fromhex("3705d96080c17728a0e800eab6e0d23c"),
@@ -66,61 +69,53 @@ def check():
 
 
 def usages():
-    """The keys of usages with each bit."""
+    """The keys of usages with each bit, each derived in two ways."""
     for usage in (0, 0xFFFFFFFF, *(1 << bit for bit in range(32))):
-        lines, answers = [], []
-        for etype, purpose, call in (
-            (19, 0x99, "derive-19 {} {} kc"), (19, 0xAA, "derive-19 {} {} ke"), (19, 0x55, "derive-19 {} {} ki"),
-            (20, 0x99, "derive-20 {} {} kc"), (20, 0xAA, "derive-20-ke {} {}"), (20, 0x55, "derive-20 {} {} ki"),
-        ):
-            lines.append("kdf " + call.format(BASE[etype].hex(), usage))
-            answers.append(derived(etype, BASE[etype], usage, purpose).hex())
-        yield f"the keys of usage {usage}", lines, answers
+        found = [" ".join([derived(it, BASE[it], usage, purpose).hex() for purpose in (0x99, 0xAA, 0x55)] * 2)
+                 for it in BASE]
+        yield WIRE, f"the keys of usage {usage}", [f"derive {key.hex()} {usage}" for key in BASE.values()], found
 
 
-def into_slices(call, arguments, written):
+def hexed(text):
+    return text.hex() or "-"
+
+
+def into_slices(call, key, usage, arguments, written):
     """What is written into slices of bytes a5: of 3 bytes more, of its length, and of a byte less if there is one."""
-    size = len(written) // 2
-    lines = [f"{call} {size + 3} {arguments}", f"{call} {size} {arguments}"]
-    answers = [f"{size} {written}a5a5a5", f"{size} {written or '-'}"]
+    size = len(written)
+    yield f"enc {call} {key} {usage} {size + 3} {arguments}", f"{size} {written.hex()}a5a5a5"
+    yield f"enc {call} {key} {usage} {size} {arguments}", f"{size} {hexed(written)}"
     if size > 0:
-        lines.append(f"{call} {size - 1} {arguments}")
-        answers.append(f"ShortSlice {{ needed: {size} }} {'a5' * (size - 1) or '-'}")
-    return lines, answers
+        fault = f"the slice has fewer than {size} bytes"
+        yield f"enc {call} {key} {usage} {size - 1} {arguments}", f"{fault} {hexed(bytes([0xA5] * (size - 1)))}"
 
 
 def lengths(usage, confounder, step):
-    """Texts of each length to 64 are sealed and opened."""
+    """Texts of each length to 64 are sealed and opened: into new memory, and into slices."""
     for etype, key in BASE.items():
-        lines, answers = [f"enc key {etype} {key.hex()}", f"enc usage {usage}"], [f"Key({etype})", "kept"]
+        made, slices, shown = [], [], f"{etype} {key.hex()}"
         for size in range(65):
             plain = bytes(step * i % 256 for i in range(size))
-            text = sealed(etype, key, usage, confounder, plain).hex()
-            lines += [f"enc seal {usage} {confounder.hex()} {plain.hex() or '-'}", f"enc open {usage} {text}",
-                      f"enc usage-open {text}"]
-            answers += [text, plain.hex() or "-", plain.hex() or "-"]
-            for call, arguments, written in (("seal", f"{confounder.hex()} {plain.hex() or '-'}", text),
-                                             ("open", text, plain.hex())):
-                into, as_written = into_slices(f"enc usage-{call}-to", arguments, written)
-                lines, answers = lines + into, answers + as_written
-        yield f"each length to 64, type {etype}, usage {usage}", lines, answers
+            text = sealed(etype, key, usage, confounder, plain)
+            made.append((f"enc seal {shown} {usage} {confounder.hex()} {hexed(plain)}",
+                         f"{text.hex()} {text.hex()} {hexed(plain)} {WRONG}"))
+            made.append((f"enc open {shown} {usage} {text.hex()}", f"{hexed(plain)} {hexed(plain)}"))
+            slices += into_slices("seal", shown, usage, f"{confounder.hex()} {hexed(plain)}", text)
+            slices += into_slices("open", shown, usage, text.hex(), plain)
+        for program, both in ((WIRE, made), (IN_C, slices)):
+            yield program, f"each length to 64, type {etype}, usage {usage}", *zip(*both)
 
 
 def changed(etype, key, confounder, plain=b""):
     """Each byte of a sealed text counts, and so does its length."""
     text = sealed(etype, key, 2, confounder, plain)
-    lines = [f"enc key {etype} {key.hex()}", "enc usage 2", f"enc open 2 {text.hex()}"]
-    answers = [f"Key({etype})", "kept", plain.hex() or "-"]
-    for at in range(len(text)):
-        bent = f"{text[:at].hex()}{text[at] ^ 1:02x}{text[at + 1:].hex()}"
-        lines += [f"enc open 2 {bent}", f"enc usage-open-to 3 {bent}"]
-        answers += ["Integrity", "Integrity a5a5a5"]
+    bent = [(text[:at] + bytes([text[at] ^ 1]) + text[at + 1 :], WRONG) for at in range(len(text))]
     least = 16 + TYPES[etype][2]
-    for size in range(len(text)):
-        fault = "Short" if size < least else "Integrity"
-        lines += [f"enc open 2 {text[:size].hex() or '-'}", f"enc usage-open-to 3 {text[:size].hex() or '-'}"]
-        answers += [fault, f"{fault} a5a5a5"]
-    return f"each byte of {len(text)} changed, type {etype}", lines, answers
+    bent += [(text[:size], SHORT if size < least else WRONG) for size in range(len(text))]
+    made = [(f"enc open {etype} {key.hex()} 2 {hexed(it)}", f"{fault} {fault}") for it, fault in bent]
+    slices = [(f"enc open {etype} {key.hex()} 2 3 {hexed(it)}", f"{fault} a5a5a5") for it, fault in bent]
+    for program, both in ((WIRE, made), (IN_C, slices)):
+        yield program, f"each byte of {len(text)} changed, type {etype}", *zip(*both)
 
 
 def drawn():
@@ -128,10 +123,11 @@ def drawn():
     check()
     counted = bytes(range(16))
     first, other = bytes.fromhex("7e5895eaf2672435bad817f545a37148"), bytes(range(32))
-    broken = (changed(19, BASE[19], first), changed(20, other, bytes(16)), changed(19, BASE[19], first, b"plain"),
-              changed(20, other, first, bytes(20)))
-    for name, lines, answers in (*usages(), *lengths(11, counted, 7), *lengths(2, first, 5), *broken):
-        yield "krb_calls_wire", f"sealing: {name}", lines, answers
+    yield from usages()
+    for it in (lengths(11, counted, 7), lengths(2, first, 5), changed(19, BASE[19], first),
+               changed(20, other, bytes(16)), changed(19, BASE[19], first, b"plain"),
+               changed(20, other, first, bytes(20))):
+        yield from ((program, f"sealing: {name}", list(lines), list(answers)) for program, name, lines, answers in it)
 
 
 def long_texts():

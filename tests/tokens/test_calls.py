@@ -3,6 +3,8 @@ import pytest
 
 from support import calls, gss_rules
 
+pytestmark = pytest.mark.usefixtures("in_c")
+
 
 @pytest.mark.parametrize("case", calls.stored("tokens"), ids=calls.title)
 def test_call(case, checks):

@@ -1,40 +1,46 @@
 //! The block cipher, and its chaining with stealing.
 
-ghost use Rattle.std.specs.Prelude.{◌≤◌, length};
-
 use hex::FromHex;
 use krb_aes::{KeySchedule, plain};
 use krb_words::{Answer, Words};
-use std::alloc::Global;
 
 /// ```text
-/// aes encrypt|decrypt|plain-encrypt|plain-decrypt KEY BLOCK     the block
-/// aes decrypt-two KEY BLOCK BLOCK                               both blocks
-/// aes decrypt-four KEY BLOCK BLOCK BLOCK BLOCK                  all four blocks
+/// aes KEY PLAIN CIPHER        the block PLAIN encrypted by both bodies, and the block CIPHER decrypted by both
 /// ```
 pub(crate) fn answer_aes(words: &mut Words, out: &mut Answer) -> Option<()> {
-    let call = words.next()?;
     let schedule = schedule(words.next()?)?;
-    let mut block = words.block()?;
-    match call {
-        "encrypt" => schedule.encrypt_block(&mut block),
-        "decrypt" => schedule.decrypt_block(&mut block),
-        "plain-encrypt" => plain::encrypt_block(&schedule, &mut block),
-        "plain-decrypt" => plain::decrypt_block(&schedule, &mut block),
-        "decrypt-two" => {
-            let mut other = words.block()?;
-            schedule.decrypt_two_blocks(&mut block, &mut other);
-            out.bytes(&block)?;
-            return out.bytes(&other);
-        }
-        "decrypt-four" => {
-            let mut blocks = [block, words.block()?, words.block()?, words.block()?];
-            schedule.decrypt_four_blocks(&mut blocks);
-            return blocks.iter().try_for_each(|block| out.bytes(block));
-        }
-        _ => return None,
-    }
+    let (text, cipher) = (words.block()?, words.block()?);
+    let mut block = text;
+    schedule.encrypt_block(&mut block);
+    out.bytes(&block)?;
+    block = text;
+    plain::encrypt_block(&schedule, &mut block);
+    out.bytes(&block)?;
+    block = cipher;
+    schedule.decrypt_block(&mut block);
+    out.bytes(&block)?;
+    block = cipher;
+    plain::decrypt_block(&schedule, &mut block);
     out.bytes(&block)
+}
+
+/// ```text
+/// blocks KEY A B C D          the blocks A and B decrypted together, and then all four
+/// ```
+pub(crate) fn answer_blocks(words: &mut Words, out: &mut Answer) -> Option<()> {
+    let schedule = schedule(words.next()?)?;
+    let mut blocks = [
+        words.block()?,
+        words.block()?,
+        words.block()?,
+        words.block()?,
+    ];
+    let [mut one, mut other, _, _] = blocks;
+    schedule.decrypt_two_blocks(&mut one, &mut other);
+    out.bytes(&one)?;
+    out.bytes(&other)?;
+    schedule.decrypt_four_blocks(&mut blocks);
+    blocks.iter().try_for_each(|block| out.bytes(block))
 }
 
 /// Of a key of 16 or 32 bytes.
@@ -47,29 +53,21 @@ fn schedule(word: &str) -> Option<KeySchedule> {
 }
 
 /// ```text
-/// cts encrypt|decrypt KEY TEXT                                  the text, which has at least 16 bytes
-/// cts after-first KEY TEXT                                      what it decrypts to without the first 16 bytes
+/// cts KEY PLAIN CIPHER        PLAIN encrypted, CIPHER decrypted, and CIPHER decrypted without the first 16 bytes; each has 16 bytes
+///                             or more
 /// ```
 pub(crate) fn answer_cts(words: &mut Words, out: &mut Answer) -> Option<()> {
-    let call = words.next()?;
     let schedule = schedule(words.next()?)?;
     let mut text = words.bytes()?;
-    if text.len() < 16 {
+    let mut cipher = words.bytes()?;
+    if text.len() < 16 || cipher.len() < 16 {
         return None;
     }
-    match call {
-        "encrypt" => krb_cts::encrypt(&schedule, &mut text),
-        "decrypt" => krb_cts::decrypt(&schedule, &mut text),
-        "after-first" => text = after_first(words.alloc, &schedule, &text)?,
-        _ => return None,
-    }
-    out.bytes(&text)
-}
-
-fn after_first(alloc: Global, schedule: &KeySchedule, text: &[u8]) -> Option<Vec<u8>>
-    requires { 16 ≤ length text.now }
-{
-    let mut plain = vec![in alloc; 0xa5u8; text.len() - 16].ok()?;
-    krb_cts::decrypt_after_first(schedule, text, &mut plain);
-    Some(plain)
+    krb_cts::encrypt(&schedule, &mut text);
+    out.bytes(&text)?;
+    let mut rest = vec![in words.alloc; 0xa5u8; cipher.len() - 16].ok()?;
+    krb_cts::decrypt_after_first(&schedule, &cipher, &mut rest);
+    krb_cts::decrypt(&schedule, &mut cipher);
+    out.bytes(&cipher)?;
+    out.bytes(&rest)
 }

@@ -1,7 +1,0 @@
-use Rattle.krb_der.specs.Kind.{leaf, int32}
-use Rattle.krb_der.specs.Computed.Listed.{AreListed}
-use Rattle.krb_calls_wire.proofs.cursors.list.Given as goal
-
--- All that is left are numbers.
-abbrev pub invariant-loop : goal.invariant-loop
-invariant-loop l = AreListed (leaf int32) l.content
