@@ -196,7 +196,8 @@ def test_a_long_name_has_no_session(made, over):
     assert (answer.status, answer.one("Set-Cookie")) == (200, None)
 
 
-@pytest.mark.parametrize("terms", [{"hours": 0}, {"hours": -1}, {"hours": float("nan")}, {"logout": "logout"}])
+@pytest.mark.parametrize("terms", [{"hours": 0}, {"hours": -1}, {"hours": 10_000}, {"hours": float("nan")},
+                                   {"logout": "logout"}])
 def test_terms(terms):
     with pytest.raises(ValueError):
         Sessions(**terms)

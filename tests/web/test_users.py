@@ -6,7 +6,7 @@ import pytest
 
 from fevstunik import tls_server_end_point
 from fevstunik._tokens import bindings_of
-from fevstunik.web import NotAllowed, Users
+from fevstunik.web import NotAllowed, Users, _users
 from support import web
 from support.web import negotiate, token
 
@@ -60,6 +60,11 @@ def test_rules_that_make_one_user_of_two(terms):
 def test_wrong_kinds(terms):
     with pytest.raises(TypeError):
         Users(realms={}, **terms)
+
+
+def test_the_realm_of_a_name():
+    """A separator with a backslash before it belongs to a component or to the realm."""
+    assert _users.realm_of(r"a\@b/\\@E\@X\/Y@Z") == "E@X/Y@Z"
 
 
 ANYBODY = {"realms": {}, "others": "{user}@{realm}"}

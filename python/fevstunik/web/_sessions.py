@@ -76,9 +76,9 @@ class Cookies:
         """A process begins."""
         self._lock = threading.Lock()
 
-    def of(self, user: User, now: float | None = None) -> str | None:
+    def of(self, user: User) -> str | None:
         """The header Set-Cookie for a user who has logged in, or None if the cookie would be too long."""
-        end = min(int(time.time() if now is None else now) + self._seconds, user.end)
+        end = min(int(time.time()) + self._seconds, user.end)
         held = [_VERSION, self._service, end, user.name, user.client, user.realm, *user.components]
         sealed = self._current().seal(USAGE, json.dumps(held, ensure_ascii=False).encode())
         value = base64.urlsafe_b64encode(sealed).decode().rstrip("=")
@@ -88,13 +88,13 @@ class Cookies:
         """The header Set-Cookie that ends a session."""
         return f"{self.name}={self._terms}; Max-Age=0"
 
-    def user(self, cookies: Iterable[bytes], now: float | None = None) -> User | None:
+    def user(self, cookies: Iterable[bytes]) -> User | None:
         """The user of a session that hasn't ended, by the headers Cookie."""
         found = [value for name, value in _pairs(cookies) if name == self.name.encode()]
         if not found:
             return None
-        key, moment = self._current(), time.time() if now is None else now
-        users = (self._opened(key, value, moment) for value in found[:_TRIED])
+        key, now = self._current(), time.time()
+        users = (self._opened(key, value, now) for value in found[:_TRIED])
         return next((it for it in users if it is not None), None)
 
     def _opened(self, key: Key, value: bytes, now: float) -> User | None:
