@@ -135,4 +135,5 @@ def test_refused_memory(tmp_path, memory, count):
         met |= {LINES[place][0] for place, it in enumerate(found) if REFUSED in it}
         most = max(most, *(it.count(REFUSED) for it in found), 0)
     assert (status, found) == (0, right)
-    assert met == {"accept", "serve", "remember"} and most == count
+    # (If what follows a refused call is refused memory too, a line of one call can't be shown.)
+    assert most == count and met >= ({"accept", "serve", "remember"} if count == 1 else {"serve"})
