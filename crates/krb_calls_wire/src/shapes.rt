@@ -50,7 +50,11 @@ fn parts<'a>(cursor: &mut Cursor<'a>, kind: &str, out: &mut Answer) -> Result<Op
         "options" => Ok(show_options(cursor.sequence()?, out)),
         "mixed" => mixed(cursor, out),
         "maybe" => maybe(cursor, out),
-        "numbers" => Ok(show_numbers(cursor.list::<i32>()?, out)),
+        "numbers" => match numbers(cursor, out) {
+            Some(Ok(())) => Ok(Some(())),
+            Some(Err(fault)) => Err(fault),
+            None => Ok(None),
+        },
         "texts" => Ok(show_texts(texts(cursor)?, out)),
         "name" => Ok(show_name(name(cursor)?, out)),
         _ => Ok(None),
@@ -123,15 +127,21 @@ fn maybe(cursor: &mut Cursor, out: &mut Answer) -> Result<Option<()>, Fault> {
     Ok(out.bytes(octets))
 }
 
-fn show_numbers(mut list: Cursor, out: &mut Answer) -> Option<()> {
-    out.word("[")?;
-    for _ in 0..u32::MAX {
-        match list.next::<i32>() {
-            Some(number) => out.shown(number)?,
-            None => break,
+fn numbers(cursor: &mut Cursor, out: &mut Answer) -> Option<Result<(), Fault>> {
+    match cursor.list::<i32>() {
+        Ok(mut content) => {
+            out.word("[")?;
+            for _ in 0..u32::MAX {
+                match content.next::<i32>() {
+                    Some(number) => out.shown(number)?,
+                    None => break,
+                }
+            }
+            out.word("]")?;
+            Some(Ok(()))
         }
+        Err(fault) => Some(Err(fault)),
     }
-    out.word("]")
 }
 
 /// The content of a list of texts, all of which were checked.
