@@ -6,7 +6,6 @@ import random
 import struct
 
 from support import calls
-from support.exchange_made import shown
 from support.sealing import TYPES, checksum, sealed
 
 PROGRAM, WIRE = "wire_in_c", "krb_calls_wire"
@@ -250,20 +249,6 @@ def order(drawn):
         yield f"order, from {first}", [line], [" ".join(answer)]
 
 
-def unprepared(drawn):
-    """Tokens of sides that are made for one token each, of texts of many lengths."""
-    for etype, key in KEYS:
-        lines, answers, it = [], [], Sender(etype, key, "initiator", False)
-        for size in (*range(33), 1000):
-            text, confounder, number = drawn.randbytes(size), drawn.randbytes(16), drawn.getrandbits(31)
-            tokens = (it.mic(number, text), it.seal(number + 1, confounder, text, rotation=28),
-                      it.plain(number + 2, text))
-            lines.append(f"sides {etype} {key.hex()} {number} {confounder.hex()} {hexed(text)}")
-            mic, sealed, plain, text = map(shown, (*tokens, text))
-            answers.append(f"{mic} Next {sealed} {text} {plain} {text}")
-        yield f"sides that aren't prepared, type {etype}", lines, answers
-
-
 def near(window, drawn):
     following = window.following()
     number = drawn.choice([following, following + drawn.randrange(70), following - drawn.randrange(1, 140)])
@@ -383,7 +368,7 @@ def drawn(seed=1):
     for it in senders():
         for make in (lengths, kinds, faults):
             yield PROGRAM, f"{make.__name__}, {it.line()}", *make(it, source)
-    for name, lines, answers in (*order(source), *unprepared(source)):
+    for name, lines, answers in order(source):
         yield WIRE, name, lines, answers
     for it in sides(source):
         for make in (sending, receiving):

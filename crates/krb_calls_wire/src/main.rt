@@ -13,9 +13,9 @@ mod codes;
 mod elements;
 mod field_words;
 mod messages;
+mod order;
 mod sealing;
 mod shapes;
-mod sides;
 mod tokens;
 mod types;
 mod views;
@@ -47,8 +47,7 @@ impl Calls for Nothing {
             "enc" => sealing::answer(words, out),
             "types" => sealing::show_types(out),
             "faults" => sealing::show_faults(out),
-            "sides" => sides::answer(words, out),
-            "window" => sides::answer_window(words, out),
+            "window" => order::answer(words, out),
             "der" => elements::answer(words, out),
             "msg" => messages::answer(words, out),
             "gss" => tokens::answer(words, out),
