@@ -43,6 +43,12 @@ def test_other_forms(ask, form):
     assert (answer.status, answer.body) == (200, b"alice@EX") and answer.token
 
 
+def test_a_bare_request_without_a_reply(ask):
+    """There is nothing to send back, not even the name of the scheme."""
+    answer = ask(headers=authorized(negotiate(web.request(mutual=False))))
+    assert (answer.status, answer.body, answer.token) == (200, b"alice@EX", None)
+
+
 @pytest.mark.parametrize("path, status", [("/", 200), ("/204", 204), ("/302", 302), ("/404", 404), ("/500", 500),
                                           ("/raises", 500), ("/raises-late", 500)])
 def test_the_token_comes_with_each_status(ask, path, status):
@@ -209,6 +215,42 @@ def test_usage_while_threads_log_in(made):
         it.join()
     assert [statuses.get() for _ in tokens] == [200] * 40 and gate.usage.remembered == 40
     assert seen == sorted(seen)
+
+
+class Counting:
+    """A lock that counts who has come to it."""
+
+    def __init__(self):
+        self.lock, self.came = threading.Lock(), threading.Semaphore(0)
+
+    def __enter__(self):
+        self.came.release()
+        self.lock.acquire()
+
+    def __exit__(self, *_):
+        self.lock.release()
+
+
+def test_many_first_requests(made, monkeypatch):
+    """All that come before there is a service get the one that the first of them makes, so it has seen all of them."""
+    gate, statuses, services = made(), queue.Queue(), []
+    ask, tokens = web.by_wsgi(gate), [negotiate(token()) for _ in range(4)]
+    make, lock = gate._gate._make, Counting()
+
+    def make_late():
+        if not services:
+            for _ in tokens:
+                lock.came.acquire()
+        services.append(make())
+        return services[-1]
+    monkeypatch.setattr(gate._gate, "_make", make_late)
+    monkeypatch.setattr(gate._gate, "_lock", lock)
+    threads = [threading.Thread(target=lambda it=it: statuses.put(ask(headers=authorized(it)).status)) for it in tokens]
+    for it in threads:
+        it.start()
+    for it in threads:
+        it.join()
+    assert [statuses.get() for _ in tokens] == [200] * 4 and len(services) == 1 and gate.usage.remembered == 4
 
 
 def test_two_rounds(made, over):

@@ -44,6 +44,13 @@ def test_a_session(made, over):
     assert gate.counts == {"LOGIN": 1, "SESSION": 2}
 
 
+def test_a_session_in_the_log(made, over, caplog):
+    caplog.set_level("DEBUG")
+    ask = over(made(sessions=Sessions()))
+    assert with_cookie(ask, cookie_of(logged_in(ask))) == "alice@EX"
+    assert [it for it in caplog.messages if "SESSION" in it] == ["let in: alice@EX (alice@EX, SESSION)"]
+
+
 def test_sessions_are_off_at_first(ask):
     assert logged_in(ask).one("Set-Cookie") is None
 
