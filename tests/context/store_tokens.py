@@ -1,7 +1,6 @@
-#!/usr/bin/env python3
 """Writes tests/context/LIBRARY.toml: tokens that MIT krb5's or Heimdal's library makes, with their keys.
 
-    tests/context/store_tokens.py LIBRARY     MIT or Heimdal
+    (cd tests && python3 -m context.store_tokens LIBRARY)     MIT or Heimdal
 
 tests/context/tokens.c is both sides of a context of the library. The tickets are of a KDC of MIT krb5, which runs while
 they are made. For each type and with and without a reply (the acceptor asserts a subkey only in a reply), each side
@@ -13,10 +12,8 @@ import sys
 import tempfile
 from pathlib import Path
 
-TESTS = Path(__file__).resolve().parent.parent
-sys.path.insert(0, str(TESTS))
-
-from support.kdc import PASSWORD, MitRealm, done, ran  # noqa: E402  (the tests are no package that is installed)
+from support import TESTS
+from support.kdc import PASSWORD, MitRealm, done, ran
 
 CONFIG = {"MIT": ("krb5-config.mit", []), "Heimdal": ("krb5-config.heimdal", ["-DHEIMDAL"])}
 TYPES = {20: "aes256-cts-hmac-sha384-192", 19: "aes128-cts-hmac-sha256-128"}
