@@ -49,65 +49,60 @@ def tower_tables():
     return same([(name, numbers(it)) for name, it in found], [(name, numbers(it)) for name, it in made])
 
 
-# The calls of the ciphers and of the codes, as the second implementation computes them from the call's bytes.
+# What lines answer of the ciphers, codes and keys first, as the second implementation computes it from their words.
 COMPUTED = {
-    "aes encrypt": aes.encrypted,
-    "aes decrypt": aes.decrypted,
-    "aes plain-encrypt": aes.encrypted,
-    "aes plain-decrypt": aes.decrypted,
-    "cts encrypt": stealing.stolen,
-    "kdf sha256": lambda key, *parts: codes.code("sha256", key, *parts),
-    "kdf sha384": lambda key, *parts: codes.code("sha384", key, *parts),
+    "aes": lambda key, plain, cipher: [aes.encrypted(key, plain)] * 2 + [aes.decrypted(key, cipher)] * 2,
+    "blocks": lambda key, *blocks: [aes.decrypted(key, it) for it in (*blocks[:2], *blocks)],
+    "cts": lambda key, plain, cipher: [stealing.stolen(key, plain)] if len(plain) > 15 and len(cipher) > 15 else [],
+    "hmac sha256": lambda key, *parts: [codes.code("sha256", key, *parts)] * 3,
+    "hmac sha384": lambda key, *parts: [codes.code("sha384", key, *parts)] * 3,
 }
-PURPOSES = {"kc": 0x99, "ke": 0xAA, "ki": 0x55}
+PURPOSES = KC, KE, KI = 0x99, 0xAA, 0x55
+TYPES = {16: 19, 32: 20}
 # Longer texts take the second implementation minutes.
 LONG = 10_000
 
 
+# The same of lines of a key, by how many words they have. (Of the library for C those of `seal` have one more.)
+OF_KEYS = {
+    ("seal", 6): lambda *words: [sealing.sealed(*words)] * 2,
+    ("tag", 5): lambda etype, key, usage, text: [
+        sealing.mac(etype, sealing.derived(etype, key, usage, KI), bytes(16) + text),
+        sealing.checksum(etype, key, usage, text)],
+    ("checksum", 5): lambda *words: [sealing.checksum(*words)],
+}
+
+
+def of_key(etype, key, usage, *texts, compute):
+    key, texts = calls.bytes_of(key), [calls.bytes_of(it) for it in texts]
+    is_short = TYPES.get(len(key)) == int(etype) and sum(map(len, texts)) < LONG
+    return compute(int(etype), key, int(usage), *texts) if is_short else []
+
+
 def computed(line):
-    """What a call answers, in hexadecimal digits, or None where it isn't computed here."""
-    layer, call, *words = line.split(" ")
-    if call in ("derive-19", "derive-20", "derive-20-ke"):
-        key, usage, purpose = *words, *["ke"] * (3 - len(words))
-        return sealing.derived(int(call[7:9]), bytes.fromhex(key), int(usage), PURPOSES[purpose]).hex()
-    compute = COMPUTED.get(f"{layer} {call}")
-    texts = [calls.bytes_of(it) for it in words]
-    if compute is None or (layer == "cts" and len(texts[1]) < 16):
-        return None
-    return compute(*texts).hex()
-
-
-def computed_by_key(etype, key, line):
-    """The same of a call of a key."""
-    _, call, *words = line.split(" ")
-    if call == "seal" and len(calls.bytes_of(words[2])) < LONG:
-        usage, *texts = words
-        return sealing.sealed(etype, key, int(usage), *map(calls.bytes_of, texts)).hex()
-    if call == "checksum":
-        return sealing.checksum(etype, key, int(words[0]), calls.bytes_of(words[1])).hex()
-    return None
-
-
-def wrong_answers(lines, answers):
-    """The lines of a case whose answers aren't what the second implementation computes, and how many it computes."""
-    etype, key, count, wrong = 0, b"", 0, []
-    for line, answer in zip(lines, answers):
-        if line.startswith("enc key ") and answer.startswith("Key("):
-            etype, key = int(line.split(" ")[2]), calls.bytes_of(line.split(" ")[3])
-        found = computed_by_key(etype, key, line) if line.startswith("enc ") else computed(line)
-        count += found is not None
-        if found is not None and calls.wanted(found) != answer:
-            wrong.append(f"{line[:80]}: {found[:80]}")
-    return wrong, count
+    """The first words of a line's answer, as far as they are computed here."""
+    first, *words = line.split(" ")
+    if first == "derive":
+        key, usage = calls.bytes_of(words[0]), int(words[1])
+        return [sealing.derived(TYPES[len(key)], key, usage, it) for it in PURPOSES] * 2 if len(key) in TYPES else []
+    if first == "enc":
+        compute = OF_KEYS.get((words[0], len(words)))
+        return of_key(*words[1:], compute=compute) if compute else []
+    if first == "hmac":
+        return COMPUTED[f"hmac {words[0]}"](*map(calls.bytes_of, words[1:]))
+    return COMPUTED[first](*map(calls.bytes_of, words)) if first in COMPUTED else []
 
 
 def stored_answers():
     sealing.check()
     count, wrong = 0, []
     for _, name, lines, answers in calls.stored("crypto"):
-        found, several = wrong_answers(lines, answers)
-        wrong, count = wrong + found, count + several
-    return (None if count > 300 else f"of only {count} answers") if not wrong else f"wrong: {wrong}"
+        for line, answer in zip(lines, answers):
+            found = [calls.wanted(it.hex() or "-") for it in computed(line)]
+            count += len(found)
+            if found != [calls.wanted(it) for it in answer.split(" ")[: len(found)]]:
+                wrong.append(f"{name}: {line[:80]}: {found[0][:80]}")
+    return (None if count > 480 else f"of only {count} words") if not wrong else f"wrong: {wrong}"
 
 
 def messages_of_fixture():
