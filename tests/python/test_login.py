@@ -11,7 +11,7 @@ from hypothesis import HealthCheck, given, settings, strategies as draw
 
 from fevstunik import (
     Asked, Client, Code, Connection, CredentialCache, Fault, GoOn, Key, Keytab, KrbError, Login, Moment, Refused,
-    Service, TicketFlags, TypedData, _interface, _library, open_answer, wrap_request)
+    Service, TicketFlags, TypedData, _interface, _library, make_request, open_answer, wrap_request)
 from fevstunik._tokens import bindings_of
 
 from support import c_cases, der, fixture, gss_rules
@@ -105,6 +105,17 @@ def test_a_refusal(service, form):
     assert refused.asked == Asked(NAME, 19, 5, True)
     refused = service.answer(wrap(asking(kvno=5)), NOW)
     assert (refused.reply, refused.asked) == (rejected, Asked(NAME, 19, 5, False))
+
+
+def test_messages_without_first_numbers(service, cache):
+    """A side that has sent no sequence number begins with 0."""
+    request, pending = make_request(cache, NAME, now=NOW)
+    login = service.answer(request, NOW)
+    with login.messages() as ours, pending.finish(login.reply).messages() as theirs:
+        assert login.seq is None
+        for sender, taker in ((ours, theirs), (theirs, ours)):
+            opened = taker.unwrap(sender.wrap(b"text"))
+            assert (opened.text, opened.number, opened.order.name) == (b"text", 0, "NEXT")
 
 
 def test_all_that_is_known(service):
@@ -356,6 +367,7 @@ def test_a_long_reply_is_decided_once(service):
 
 def test_asked_without_a_key():
     assert Asked.read(asking(kvno=5, options=MUTUAL)) == Asked(NAME, 19, 5, True)
+    assert Asked.read(asking(kvno=None)) == Asked(NAME, 19, None, False)
     assert str(Asked("HTTP/www@EX", 20, None, False)) == "ticket for HTTP/www@EX, etype 20"
     for size in range(len(asking())):
         assert Asked.read(asking()[:size]) is None

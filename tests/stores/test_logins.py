@@ -96,6 +96,14 @@ def test_a_new_stamp(cache, form):
     assert login.reply and login.addresses == ()
 
 
+@pytest.mark.parametrize("skew", [300, 100, 60])
+def test_a_stamp_of_a_smaller_skew(cache, skew):
+    """It is kept as long as that of the service with the largest skew of the store."""
+    store = Asked(True)
+    assert serving(store, skew=skew).answer(request(cache), NOW)
+    assert [until for _, until in store.asked] == [Moment(NOW + 600)]
+
+
 def test_a_real_client(tmp_path):
     """By the machine's clock, over a file."""
     cache = CredentialCache(c_programs.current_cache(int(time.time()) - 60))
