@@ -5,7 +5,7 @@ import threading
 
 import pytest
 
-from fevstunik import Client, CredentialCache, Moment, Usage
+from fevstunik import Client, CredentialCache, Fault, Moment, Usage
 from fevstunik.stores import StoreFailed
 from fevstunik.web import _gate, _negotiate
 from support import gss_rules, web
@@ -16,6 +16,36 @@ BROWSER = ("Accept", "text/html,application/xhtml+xml,*/*;q=0.8")
 
 def authorized(value):
     return [("Authorization", value)]
+
+
+WRONG_TERMS = {
+    "no token": ({"token_limit": 0}, ValueError, "token_limit is a whole number from 1 on, not 0"),
+    "a text for a number": ({"token_limit": "9"}, ValueError, "token_limit is a whole number from 1 on, not '9'"),
+    "before now": ({"retry_after": -1}, ValueError, "retry_after is a whole number from 0 on, not -1"),
+    "other users": ({"users": {"EX": "{user}"}}, TypeError, "users is a Users of fevstunik.web, not a dict"),
+    "other sessions": ({"sessions": True}, TypeError, "sessions is a Sessions of fevstunik.web, not a bool"),
+    "one certificate": ({"certificates": "web.pem"}, TypeError, "`certificates` is a list"),
+    "one proxy": ({"proxies": "192.0.2.7"}, TypeError, "`proxies` is a list"),
+    "one path": ({"exempt": "/health"}, TypeError, "`exempt` is a list"),
+    "another rule": ({"bindings": "always"}, ValueError, "bindings are .*, not 'always'"),
+    "no certificate": ({"bindings": "require"}, ValueError, "to require bindings, name the certificates"),
+    "another service": ({"service": "HTTP/web@EX"}, ValueError, "no key of type 19 or 20 for HTTP/web@EX; it has"),
+    "a cache": ({"keytab": "examples/client.ccache"}, Fault, "this is a credential cache"),
+    "no name": ({"service": None}, ValueError, "name the service, as host/web@EX; or pass any_name=True"),
+}
+
+
+@pytest.mark.parametrize("terms, fault, text", WRONG_TERMS.values(), ids=WRONG_TERMS)
+def test_wrong_terms(made, terms, fault, text):
+    """They are found before there is a request."""
+    with pytest.raises(fault, match=text):
+        made(**terms)
+
+
+def test_any_name_of_a_keytab_without_keys(made, tmp_path):
+    (tmp_path / "empty").write_bytes(b"\5\2")
+    with pytest.raises(ValueError, match="the keytab has no key"):
+        made(keytab=tmp_path / "empty", service=None, any_name=True)
 
 
 @pytest.mark.parametrize("path", ["/", "/404", "/raises"])
