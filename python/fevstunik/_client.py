@@ -269,11 +269,12 @@ class Client(Secret):
         return request if self._context is None else wrap_request(request, negotiated=self._negotiated)
 
     def _type_at(self, moment: Moment) -> int:
-        """The type of the ticket's session key, which the KDC chose as one that the service has."""
-        usable = [it for it in self._cache.credentials
-                  if it.server == self._service and it.key.kind in KEY_SIZES and it.endtime > moment.seconds
-                  and not it.is_skey]
-        return max(usable, key=lambda it: it.endtime).key.kind if usable else max(KEY_SIZES)
+        """The type of the session key of the ticket that make_request takes. (The KDC chose it as one that the service
+        has.)"""
+        kinds = (it.key.kind for it in self._cache.credentials
+                 if it.client == self._cache.owner.name and it.server == self._service
+                 and len(it.key.data) == KEY_SIZES.get(it.key.kind) and it.endtime > moment.seconds)
+        return next(kinds, max(KEY_SIZES))
 
     def finish(self, answer: Bytes) -> Agreed:
         """Read the service's answer: a token or a message without one. Only after this, the client knows that it talks

@@ -49,6 +49,30 @@ def test_a_login(cache, service, words):
         client.finish(b"")
 
 
+LONG_KEY = bytes(range(32))
+OF_TYPE_20 = c_cases.ticket(der.enc_ticket_part(0, der.key(20, LONG_KEY), b"EX", fixture.ALICE, fixture.AUTHTIME,
+                                                fixture.ENDTIME))
+
+
+def credential(kind, end=fixture.ENDTIME, client=b"alice"):
+    """A ticket in a cache, with a session key of a type."""
+    key, ticket = {19: (fixture.SESSION_KEY, fixture.ticket()), 20: (LONG_KEY, OF_TYPE_20)}[kind]
+    names = fixture.principal(1, b"EX", client), fixture.principal(3, b"EX", b"host", b"web")
+    return fixture.credential(*names, kind, key, (fixture.AUTHTIME, 0, end, 0), ticket)
+
+
+@pytest.mark.parametrize("held, kind", [
+    ([credential(20, NOW + 1), credential(19)], 20), ([credential(19), credential(20)], 19),
+    ([credential(20, NOW), credential(19)], 19), ([credential(20, client=b"bob"), credential(19)], 19)],
+    ids=["the first", "the first, which is shorter", "one that hasn't ended", "the owner's"])
+def test_the_type_of_the_subkey(service, held, kind):
+    """It is that of the session key of the ticket that is used."""
+    head = b"\x05\x04\0\0" + fixture.principal(1, b"EX", b"alice")
+    request, _, _ = opened(Client(CredentialCache(head + b"".join(held)), NAME).first(now=NOW))
+    accepted = service.accept(request, NOW)
+    assert (accepted.session_key.kind, accepted.subkey.kind) == (kind, kind)
+
+
 @pytest.mark.parametrize("answered", FORMS.values(), ids=FORMS)
 @forms
 def test_each_form_of_an_answer_is_read(cache, service, words, answered):
@@ -184,6 +208,19 @@ def test_login_by_each_form(cache, service, words):
             return error(refused.error(NAME, now=NOW))
     assert login(cache, NAME, send, now=NOW + 400, adjust_clock=True, **words).client == "alice@EX"
     assert len(sent) == 2
+
+
+def test_login_with_a_wrong_clock(cache, service):
+    """Another request is made only if the caller says so."""
+    sent = []
+
+    def send(token):
+        sent.append(token)
+        _, _, error = opened(token)
+        return error(Refused(Code.SKEW).error(NAME, now=NOW))
+    with pytest.raises(ServiceError) as raised:
+        login(cache, NAME, send, now=NOW + 400)
+    assert len(sent) == 1 and raised.value.clock_offset == -400
 
 
 def test_a_client_of_another_thread_of_its_cache(cache, service):

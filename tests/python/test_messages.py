@@ -211,6 +211,14 @@ def test_no_layer_has_no_size():
         server.step(client._open_messages().wrap(bytes([Layer.NONE, 0, 0, 1]), sealed=False))
 
 
+@pytest.mark.parametrize("size", [b"\1\0\0", b"\0\0\1"])
+def test_an_offer_of_no_layer_has_no_size(size):
+    server, client = begun()
+    client.step(server.step(client.step(b"", now=NOW), now=NOW))
+    with pytest.raises(SaslError, match="names a size"):
+        client.step(server._open_messages().wrap(bytes([Layer.NONE]) + size, sealed=False))
+
+
 def test_a_subkey_of_another_type():
     """A client whose subkey isn't of the two types, at a service that has none, ends by SaslError."""
     server, client = begun()
