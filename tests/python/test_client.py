@@ -223,6 +223,13 @@ def test_login_with_a_wrong_clock(cache, service):
     assert len(sent) == 1 and raised.value.clock_offset == -400
 
 
+def test_login_that_is_refused_without_an_error(cache):
+    """There is no clock to learn then."""
+    with pytest.raises(ServiceError) as raised:
+        login(cache, NAME, lambda token: bytes.fromhex("a1073005a0030a0102"), now=NOW, adjust_clock=True)
+    assert raised.value.error is None
+
+
 def test_a_client_of_another_thread_of_its_cache(cache, service):
     """Two clients over one cache don't meet."""
     clients = [Client(cache, NAME, context=ContextFlags(0)) for _ in range(20)]
