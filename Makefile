@@ -35,7 +35,8 @@ BUILD := build
 NEWER := x86-64-v2 x86-64-v3
 # krbtool has the proved code in these builds, and picks one when it starts.
 PROGRAMS := $(BUILD)/x86-64/krbtool.o $(BUILD)/x86-64-v2/krbtool.o
-SOURCES := $(shell find crates -path '*/out' -prune -o -type f \( -name '*.rt' -o -name '*.antt' \) -print) crates.txt
+# (the tests' programs are no part of what is built)
+SOURCES := $(shell find crates \( -path '*/out' -o -path 'crates/krb_calls_*' \) -prune -o -type f \( -name '*.rt' -o -name '*.antt' \) -print) crates.txt
 # What overwrites keys, around the proved code.
 WIPING := $(wildcard packaging/wiping/*)
 LIBRARIES := $(BUILD)/x86-64/libfevstunik.a $(NEWER:%=$(BUILD)/%/libfevstunik.a)
@@ -50,12 +51,12 @@ all: $(BUILD)/krbtool $(LIBRARIES) $(BUILD)/NOTICES
 generate:
 	python3 -m tools.generate
 
-# The program and the library are proved and built side by side. (A run that comes to a crate that another one proves waits for it.)
+# The program and the library are built side by side. What both stand on is proved in one run.
 MAKEFLAGS += --jobs=2
 
-$(BUILD)/proved-krbtool $(BUILD)/proved-krb_c: $(BUILD)/proved-%: $(SOURCES) packaging/prove
-	packaging/prove --below $*
-	mkdir -p $(BUILD) && touch $@
+$(BUILD)/proved-krbtool $(BUILD)/proved-krb_c &: $(SOURCES) packaging/prove
+	packaging/prove --below krbtool krb_c
+	mkdir -p $(BUILD) && touch $(BUILD)/proved-krbtool $(BUILD)/proved-krb_c
 
 # (a crate's out/ has what was proved for one kind, and the next goes on from that)
 $(PROGRAMS): $(BUILD)/%/krbtool.o: $(BUILD)/proved-krbtool packaging/program.py packaging/archive.py
