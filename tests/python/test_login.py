@@ -118,6 +118,12 @@ def test_messages_without_first_numbers(service, cache):
             assert (opened.text, opened.number, opened.order.name) == (b"text", 0, "NEXT")
 
 
+def test_a_checksum_of_another_type(service):
+    """It says nothing of a context."""
+    login = service.answer(asking(checksum=der.key(16, bytes(20))), NOW)
+    assert (login.checksum, login.context) == (TypedData(16, bytes(20)), None)
+
+
 def test_all_that_is_known(service):
     login = service.answer(fixture.made()["mutual request with a subkey and a number"], NOW)
     assert (login.client, login.service, login.time) == ("alice@EX", NAME, Moment(NOW, 5))
