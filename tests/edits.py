@@ -395,9 +395,12 @@ def run(words, folder):
     with tempfile.TemporaryFile("w+", errors="replace") as said:
         how = {"cwd": folder, "stdin": subprocess.DEVNULL, "stdout": said, "stderr": subprocess.STDOUT}
         started, has_ended = subprocess.Popen(words, **how), threading.Event()
-        threading.Thread(target=end_past_limits, args=(started.pid, has_ended), daemon=True).start()
+        watch = threading.Thread(target=end_past_limits, args=(started.pid, has_ended), daemon=True)
+        watch.start()
         _, status, used = os.wait4(started.pid, 0)
         has_ended.set()
+        # (what it started is ended after it)
+        watch.join()
         started.returncode = os.waitstatus_to_exitcode(status)
         said.seek(0)
         return started.returncode, said.read(), used.ru_utime + used.ru_stime, used.ru_maxrss * 1024

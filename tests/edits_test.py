@@ -6,6 +6,7 @@ import re
 import subprocess
 import sys
 import tempfile
+import time
 from unittest import mock
 
 import edits
@@ -434,11 +435,19 @@ subprocess.run([sys.executable, "-c", "import os, time; print(os.getpid(), flush
 """
 
 
+def ends(process):
+    """Whether a process that was killed ends: the system may be slow to take its memory back."""
+    began = time.monotonic()
+    while edits.memory_of(process) and time.monotonic() - began < 60:
+        time.sleep(0.1)
+    return edits.memory_of(process) == 0
+
+
 def check_limits(hold):
     with mock.patch.object(edits, "MOST_MEMORY", 200_000_000):
         status, said, *_ = edits.run([sys.executable, "-c", GREEDY], "/")
     hold("a check that takes too much memory is ended", status < 0)
-    hold("and so is what it started", edits.memory_of(int(said)) == 0)
+    hold("and so is what it started", ends(int(said)))
     status, said, *_ = edits.run([sys.executable, "-c", "print(1)"], "/")
     hold("one that doesn't isn't", (status, said) == (0, "1\n"))
     ended, runner, edit = edits.Said(None, -9, ""), edits.Runner("/", None, None), mock.Mock(by_terms=True, is_outside=False)
