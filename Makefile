@@ -58,7 +58,11 @@ $(BUILD)/proved-krbtool $(BUILD)/proved-krb_c &: $(SOURCES) packaging/prove
 	packaging/prove --below krbtool krb_c
 	mkdir -p $(BUILD) && touch $(BUILD)/proved-krbtool $(BUILD)/proved-krb_c
 
-# (a crate's out/ has what was proved for one kind, and the next goes on from that)
+# (A crate's out/ has what was proved for one kind, and the next goes on from that: so kinds are built one after another, and the program beside the
+# library.)
+$(BUILD)/x86-64-v2/krbtool.o: | $(BUILD)/x86-64/krbtool.o
+$(BUILD)/x86-64/libkrb_c.a: | $(BUILD)/x86-64-v2/libkrb_c.a
+$(BUILD)/x86-64-v3/libkrb_c.a: | $(BUILD)/x86-64/libkrb_c.a
 $(PROGRAMS): $(BUILD)/%/krbtool.o: $(BUILD)/proved-krbtool packaging/program.py packaging/archive.py
 	flock $(BUILD)/.building-krbtool packaging/program.py $* $@
 
