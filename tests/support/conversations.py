@@ -84,12 +84,13 @@ PAIRS = [(client, service, etype) for client, service in (("MIT's", "our"), ("ou
 def check(folder, realm, client, service, etype, **more):
     """Two conversations of programs in the folder: the realm's has good.keytab and bent.keytab, and alice.ccache with
     the tickets."""
+    asked = f", ticket for {SERVICES[etype]}@{REALM}" if service == "our" else ""
     lines, told = conversation(folder, realm, etype, client, service, "good", more)
-    assert lines == [f"alice@{realm.name}: a text", f"refused {REPEAT[service]}"]
+    assert lines == [f"alice@{realm.name}: a text", f"refused {REPEAT[service]}{asked}"]
     agreed, last = told
     assert (agreed, last) == (f"agreed as alice@{realm.name}", "refused 34"), told
     lines, told = conversation(folder, realm, etype, client, service, "bent", more)
-    assert lines == [f"refused {BENT_KEY[service]}"] * 2
+    assert lines == [f"refused {BENT_KEY[service]}{asked}"] * 2
     assert told == ["refused 31"] * 2
 
 
