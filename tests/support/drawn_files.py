@@ -44,7 +44,7 @@ def truth(value):
 
 
 def credential_shown(it):
-    """What the library for C tells of a credential."""
+    """What the library for C says of a credential."""
     names = f"{name_shown(it['client'])} {name_shown(it['server'])}"
     times = " ".join(str(it[word]) for word in ("authtime", "starttime", "endtime", "renew_till"))
     key, ticket = shown(it["key"]), shown(it["ticket"])

@@ -85,7 +85,7 @@ def name_read(*words):
 
 def name_text(word):
     entry = {**name_of(word), "timestamp": 0, "kvno": 0, "etype": 0, "key": b""}
-    _, (found,) = items("keytab", EMPTY + reference.record_of(entry), entry_told)
+    _, (found,) = items("keytab", EMPTY + reference.record_of(entry), entry_at)
     text = found[0].name.text(found[1])
     return f"={text}" if len(text) <= SHOWN else text_shown(text)
 
@@ -93,27 +93,27 @@ def name_text(word):
 # Files.
 
 
-def items(kind, file, told):
-    """A handle of a file that is read, and its items. Whoever only checks the file is told the same."""
+def items(kind, file, item_at):
+    """A handle of a file that is read, and its items. The check of the file alone returns the same."""
     handle = Handle(kind)
     checked = library().call(f"{kind}_check", file, len(file))
     answer = handle.call(f"{kind}_new", file, len(file))
     if (answer.code, answer.at, answer.size) != (checked.code, checked.at, checked.size):
         raise ValueError(f"{Code(answer.code).name} at {answer.at}, but the check says {Code(checked.code).name}")
-    return handle, [told(handle, index) for index in range(done(answer).size)]
+    return handle, [item_at(handle, index) for index in range(done(answer).size)]
 
 
-def entry_told(handle, index):
+def entry_at(handle, index):
     return read(KeyEntry, handle.call, "keytab_entry", index)
 
 
-def entry_shown(told):
-    it, data = told
+def entry_shown(found):
+    it, data = found
     return f"{name_shown(it.name_type, it.name, data)} {it.timestamp} {it.kvno} {it.key_type} {shown(it.key.of(data))}"
 
 
 def keytab_shown(file):
-    _, entries = items("keytab", file, entry_told)
+    _, entries = items("keytab", file, entry_at)
     return " ".join(["ok", str(len(entries)), *map(entry_shown, entries)])
 
 
@@ -167,7 +167,7 @@ def edited(edit, file, *words):
 
 
 def turned(file):
-    for index, (it, data) in enumerate(items("keytab", file, entry_told)[1]):
+    for index, (it, data) in enumerate(items("keytab", file, entry_at)[1]):
         parts = KeyParts(it.timestamp, it.kvno, it.name_type, it.key_type)
         if added(removed(file, index), it.name.of(data), it.key.of(data), parts) != file:
             return f"differs at {index}"
@@ -180,7 +180,7 @@ def made(*words):
         file = added(EMPTY, *entry_of(words))
     except Error as fault:
         return "none" if fault.code == Code.TOO_LONG else fault_shown("keytab", fault)
-    return f"entry {entry_shown(items('keytab', file, entry_told)[1][0])}"
+    return f"entry {entry_shown(items('keytab', file, entry_at)[1][0])}"
 
 
 # The calls, by their first two words; each takes the others.

@@ -1,5 +1,5 @@
-//! Makes calls of lists, names, sources, keytabs and credential caches that the library for C doesn't make, or of which it doesn't show
-//! all, for tests that stand as data (tests/support/calls.py): one call for each line of standard input, and one line of standard output
+//! Makes calls of lists, names, sources, keytabs and credential caches that the library for C doesn't make, or doesn't show in full,
+//! for tests that stand as data (tests/support/calls.py): one call for each line of standard input, and one line of standard output
 //! for each. (What the library for C shows is tested through it: tests/support/files_in_c.py.)
 //!
 //! Single spaces stand between words. Bytes are written as `krb_words` says, a name as `TYPE/TEXT`, and a fault as `Debug` shows it. A

@@ -8,7 +8,7 @@ use krb_enc::{
 use krb_words::{Answer, Words};
 use std::fmt::Display;
 
-/// A line of a key that is none is answered by the fault.
+/// If a line's key is invalid, the answer is the fault.
 ///
 /// ```text
 /// enc usable ETYPE BYTES                             whether they make a key
