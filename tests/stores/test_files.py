@@ -188,6 +188,20 @@ def test_another_machines_files(kind, path, monkeypatch):
     assert _folder._file_system(Path("/proc/self")) == "proc" and _folder._file_system(Path("/sys")) == "sysfs"
 
 
+@pytest.mark.parametrize("shown, folder", [
+    ("/srv/données", "/srv/données/web"), ("/srv/two\\040words", "/srv/two words"), ("/srv/a\\134b", "/srv/a\\b"),
+    ("/srv/line\x85\u2028\x0b\r", "/srv/line\x85\u2028\x0b\r/web"), ("/srv/\udce9", "/srv/\udce9"),
+], ids=["umlauts", "space", "backslash", "ends of lines", "no UTF-8"])
+def test_where_another_machines_files_are(kind, path, monkeypatch, tmp_path, shown, folder):
+    """Paths have any bytes. One that isn't UTF-8 hinders no store in another place."""
+    mounted = tmp_path / "mounted"
+    mounted.write_bytes(os.fsencode(f"22 1 8:1 / / rw shared:1 - ext4 /dev/sda1 rw\n"
+                                    f"23 22 0:45 / {shown} rw,relatime shared:2 - nfs4 host:/srv rw\n"))
+    monkeypatch.setattr(_folder, "_MOUNTED", mounted)
+    assert _folder._file_system(Path(folder)) == "nfs4"
+    assert kind(path).add(b"a", LATER)
+
+
 # ---------------------------------------------------------------- in time
 
 

@@ -4,6 +4,7 @@ from __future__ import annotations
 import contextlib
 import fcntl
 import os
+import re
 import stat
 import time
 from collections.abc import Callable, Iterator
@@ -14,6 +15,7 @@ from .._errors import UnsafeStore
 # What a process has written to a file of these stays if the process is killed, and locks are seen by all processes.
 _LOCAL = {"tmpfs", "ramfs", "ext2", "ext3", "ext4", "xfs", "btrfs", "f2fs", "zfs", "bcachefs", "jfs", "overlay"}
 _OTHERS_WRITE = stat.S_IWGRP | stat.S_IWOTH
+_MOUNTED, _OCTAL = Path("/proc/self/mountinfo"), re.compile(rb"\\([0-7]{3})")
 
 
 def check_folder(folder: Path) -> None:
@@ -40,12 +42,13 @@ def check_file(path: Path) -> None:
 def _file_system(folder: Path) -> str:
     """The type of the file system that a folder is on (proc(5), mountinfo)."""
     best, kind = -1, "an unknown file system"
-    for line in Path("/proc/self/mountinfo").read_text().splitlines():
-        front, _, back = line.partition(" - ")
-        point = Path(front.split()[4].encode().decode("unicode_escape"))
+    # (a path has any bytes; the file has spaces, tabs, ends of lines and backslashes in octal)
+    for line in _MOUNTED.read_bytes().rstrip(b"\n").split(b"\n"):
+        front, _, back = line.partition(b" - ")
+        point = Path(os.fsdecode(_OCTAL.sub(lambda it: bytes([int(it[1], 8)]), front.split(b" ")[4])))
         # (of two at one place, the later one covers the other)
         if (folder == point or point in folder.parents) and len(point.parts) >= best:
-            best, kind = len(point.parts), back.split()[0]
+            best, kind = len(point.parts), back.split(b" ")[0].decode("ascii", "replace")
     return kind
 
 
