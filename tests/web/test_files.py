@@ -1,4 +1,5 @@
 """A keytab that changes while the service runs, the moment at which the service is made, and what is logged."""
+import errno
 import logging
 import os
 from types import SimpleNamespace
@@ -81,6 +82,29 @@ def test_a_file_that_is_no_use_keeps_the_old_keys(made, keytab, monkeypatch, cap
     assert caplog.text.count("the old keys are kept") == 1
     replace(keytab, fixture.keytab(NEW_KEYS))
     assert [asked(ask), asked(ask, kvno=4)] == [200, 200]
+
+
+@pytest.mark.parametrize("place, fault, said", [
+    ("fevstunik.web._files.content", OSError(errno.EMFILE, "Too many open files"), "Too many open files"),
+    ("fevstunik.web._serving.Service.replace_keytab", MemoryError(), "memory ran out"),
+])
+def test_new_keys_that_cannot_be_read_now(made, keytab, monkeypatch, caplog, place, fault, said):
+    """As when too many files are open. They are taken later, though the file doesn't change again."""
+    monkeypatch.setattr("fevstunik.web._files._PAUSE", 0)
+    ask = web.by_wsgi(made())
+    assert asked(ask) == 200
+    replace(keytab, fixture.keytab(NEW_KEYS))
+    with monkeypatch.context() as refusing:
+        refusing.setattr(place, raising(fault))
+        assert [asked(ask), asked(ask, kvno=4), asked(ask)] == [200, 401, 200]
+    assert said in caplog.text
+    assert asked(ask, kvno=4) == 200
+
+
+def raising(fault):
+    def call(*words):
+        raise fault
+    return call
 
 
 @pytest.mark.parametrize("service", ["HTTP/web@EX", "host/web@OTHER", "host/web", ""])

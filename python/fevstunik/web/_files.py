@@ -32,29 +32,33 @@ class Watched:
     def __init__(self, path: Path) -> None:
         self.path = os.fspath(path)
         self._seen: tuple[int, ...] | None = None
-        self._looked = -_PAUSE
+        self._looked, self._is_readable = -_PAUSE, True
 
     def is_due(self) -> bool:
         """Whether it is a second since the file was looked at."""
         return time.monotonic() >= self._looked + _PAUSE
 
     def changed(self, at_once: bool = False) -> bytes | None:
-        """The file's bytes, if it isn't the one that was read last. A file that can't be read raises OSError, once."""
+        """The file's bytes, if it isn't the one that was read last. A file that can't be read raises OSError, once; the
+        next looks try again."""
         if not at_once and not self.is_due():
             return None
         self._looked = time.monotonic()
         try:
             it = os.stat(self.path)
+            seen = (it.st_dev, it.st_ino, it.st_size, it.st_mtime_ns, it.st_ctime_ns)
+            data = None if seen == self._seen else content(self.path)
         except OSError:
-            if self._seen == ():
-                return None
-            self._seen = ()
-            raise
-        seen = (it.st_dev, it.st_ino, it.st_size, it.st_mtime_ns, it.st_ctime_ns)
-        if seen == self._seen:
+            was_readable, self._is_readable = self._is_readable, False
+            if was_readable:
+                raise
             return None
-        self._seen = seen
-        return content(self.path)
+        self._seen, self._is_readable = seen, True
+        return data
+
+    def read_again(self) -> None:
+        """Have the next look read the file: memory ran out for what was made of it."""
+        self._seen = None
 
 
 def content(path: str) -> bytes:

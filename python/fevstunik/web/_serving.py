@@ -91,5 +91,9 @@ class Serving:
             except (OSError, ValueError, Fault) as error:
                 _log.error("the old keys are kept, since %s can't be used: %s", self._file.path, error)
                 return False
+            except MemoryError:
+                self._file.read_again()
+                _log.error("the old keys are kept for now, since memory ran out for those of %s", self._file.path)
+                return False
         _log.info("new keys were read from %s", self._file.path)
         return True
