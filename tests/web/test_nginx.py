@@ -260,7 +260,10 @@ def test_the_socket_of_systemd(folder, tmp_path):
 
 WRONG = {
     'service = "host/web@EX"\nkeytabs = 1': "there is no term `keytabs`",
-    'service = "host/web@EX"\nstore = { memory = 1 }': "memory",
+    'service = "host/web@EX"\nstore = { memory = 1 }': "{ sqlite = .. }, not memory",
+    'service = "host/web@EX"\nstore = { redis = "a", sqlite = "b" }': "one of { redis = .. }",
+    'service = "host/web@EX"\nstore = {}': "`store` is a path",
+    'service = "host/web@EX"\nskew = -1': "-1 doesn't fit",
     'service = "host/web@EX"\nexempt = ["/"]': "`exempt` isn't taken",
     'service = "HTTP/web@EX"': "no key of type 19 or 20 for HTTP/web@EX",
     'service = "host/web@EX"\n[users]\nrealms = 1': "int",
@@ -276,6 +279,14 @@ def test_a_file_in_the_place_of_the_socket_stays(tmp_path, keytab):
     command = [sys.executable, "-m", "fevstunik.web", "--config", "web.toml", "--socket", "socket"]
     ran = subprocess.run(command, capture_output=True, text=True, timeout=web_servers.SECONDS, cwd=tmp_path)
     assert ran.returncode == 1 and "in use" in ran.stderr and (tmp_path / "socket").read_text() == "kept"
+
+
+def test_a_socket_in_a_folder_that_is_not_there(tmp_path, keytab):
+    """As after a boot, below /run. The text names the socket, and not the configuration."""
+    (tmp_path / "web.toml").write_text('keytab = "web.keytab"\nservice = "host/web@EX"\n')
+    command = [sys.executable, "-m", "fevstunik.web", "--config", "web.toml", "--socket", "run/socket"]
+    ran = subprocess.run(command, capture_output=True, text=True, timeout=web_servers.SECONDS, cwd=tmp_path)
+    assert (ran.returncode, ran.stderr) == (1, "fevstunik.web: run/socket: [Errno 2] No such file or directory\n")
 
 
 @pytest.mark.parametrize("lines, said", WRONG.items(), ids=str)

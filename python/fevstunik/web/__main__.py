@@ -40,9 +40,14 @@ def main() -> None:
     given = words.parse_args()
     log(logging.DEBUG if given.verbose else logging.INFO)
     try:
-        serve(app(given.config), listener_at(given.socket))
+        login = app(given.config)
     except (OSError, ValueError, Fault, StoreFailed, ImportError) as error:
         sys.exit(f"fevstunik.web: {given.config}: {error}")
+    try:
+        listener = listener_at(given.socket)
+    except OSError as error:
+        sys.exit(f"fevstunik.web: {given.socket or 'the socket of systemd'}: {error}")
+    serve(login, listener)
 
 
 if __name__ == "__main__":

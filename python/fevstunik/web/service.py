@@ -69,13 +69,20 @@ def negotiate_of(config: dict[str, Any]) -> Negotiate:
         if "sessions" in given:
             given["sessions"] = Sessions(**given["sessions"])
         if isinstance(given.get("store"), dict):
-            (kind, where), = given["store"].items()
-            given["store"] = _STORES[kind](where)
+            given["store"] = _store_of(given["store"])
         return Negotiate(**given)
-    except (TypeError, KeyError, AttributeError) as error:
+    except (TypeError, AttributeError, OverflowError) as error:
         unknown = re.search(r"unexpected keyword argument '(.*)'", str(error))
         trouble = f"there is no term `{unknown[1]}`" if unknown else error
         raise ValueError(f"the configuration is wrong: {trouble}") from None
+
+
+def _store_of(named: dict[str, Any]) -> Store:
+    if len(named) != 1 or not named.keys() <= _STORES.keys():
+        raise ValueError(f"`store` is a path, or one of {', '.join(f'{{ {it} = .. }}' for it in _STORES)}, "
+                         f"not {', '.join(named) or 'empty'}")
+    (kind, where), = named.items()
+    return _STORES[kind](where)
 
 
 def _answer(environ: dict[str, Any], start_response: Callable[..., Any]) -> Iterable[bytes]:
