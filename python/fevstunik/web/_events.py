@@ -129,4 +129,6 @@ def _is_of(address: str, trusted: Networks) -> bool:
         it = ipaddress.ip_address(address)
     except ValueError:
         return not address
+    # (a server that listens over IPv6 for both may name a peer over IPv4 so)
+    it = getattr(it, "ipv4_mapped", None) or it
     return any(it in network for network in trusted)
