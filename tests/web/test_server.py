@@ -162,6 +162,14 @@ def test_long_tokens(port):
     assert answers(sent(port, asks("GET / HTTP/1.1", f"X-Name: {value}"))) == [(200, f"GET,/,,,{value}")]
 
 
+def test_many_spaces(port):
+    """A client can't keep the server busy by them. (In a second, it reads all of these many times.)"""
+    value = "a" + " \t" * 50_000 + "b"
+    head, before = asks("GET / HTTP/1.1", f"X-Name: \t {value}\t ", f"X-Other:{' ' * 100_000}"), time.process_time()
+    assert answers(sent(port, head)) == [(200, f"GET,/,,,{value}")]
+    assert time.process_time() - before < 20
+
+
 def test_many_slow_clients(port):
     """500 connections that send a byte and wait: others are answered meanwhile, and these in the end."""
     slow = [socket.create_connection(("127.0.0.1", port), timeout=SECONDS) for _ in range(500)]

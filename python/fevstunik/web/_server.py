@@ -25,7 +25,8 @@ from ._wsgi import App
 # and for how many seconds one may be silent, and may take for a request.
 _HEAD, _BODY, _FIELDS, _CONNECTIONS, _PATIENCE = 262_144, 1_048_576, 200, 1000, 30.0
 _REQUEST_LINE = re.compile(rb"([!#$%&'*+.^_`|~0-9A-Za-z-]+) ([!-~]+) HTTP/1\.([01])\Z")
-_FIELD = re.compile(rb"([!#$%&'*+.^_`|~0-9A-Za-z-]+):[ \t]*([^\0\r\n]*?)[ \t]*\Z")
+# (what is around the value is stripped apart from it: here, each space in it would be looked at again and again)
+_FIELD = re.compile(rb"([!#$%&'*+.^_`|~0-9A-Za-z-]+):([^\0\r\n]*)\Z")
 _ABSOLUTE = re.compile(rb"https?://[^/?#]+", re.I)
 _log = logging.getLogger("fevstunik.web")
 
@@ -72,7 +73,7 @@ def _head_of(data: bytes) -> _Head:
     if found is None or None in fields:
         raise _Bad("400 Bad Request")
     head = _Head(found[1].decode(), _target(found[2]), int(found[3]),
-                 [(it[1].lower(), it[2]) for it in fields if it is not None])
+                 [(it[1].lower(), it[2].strip(b" \t")) for it in fields if it is not None])
     if not head.target.startswith(b"/") and (head.method, head.target) != ("OPTIONS", b"*"):
         raise _Bad("400 Bad Request")
     if len(head.values(b"host")) != 1 and (head.minor or head.values(b"host")):
