@@ -12,7 +12,7 @@ import requests
 
 import fevstunik.clients
 from fevstunik import CacheError, Fault, ServiceError
-from fevstunik.clients import LoginError, LoginTrouble
+from fevstunik.clients import LoginError, LoginTrouble, _logins
 from fevstunik.clients import httpx as for_httpx
 from fevstunik.clients import requests as for_requests
 
@@ -149,6 +149,15 @@ def test_cookies_and_history(made, service):
 
 def test_a_page_that_is_missing_is_handed_on(made, service):
     assert made().ask(f"{service.url}/missing").status_code == 404
+
+
+@pytest.mark.parametrize("field", ['"' + '\\"' * 30_000, '"' * 60_001, 'Basic realm="\\', 'Basic realm="a, Negotiate'],
+                         ids=["escapes", "quotation marks", "a backslash", "no end"])
+def test_a_quotation_without_an_end(field):
+    """It offers nothing, and keeps no client busy. (In a second, it reads such a field many times.)"""
+    before = time.process_time()
+    assert _logins._challenge([field]) == (False, None)
+    assert time.process_time() - before < 20
 
 
 @pytest.mark.parametrize("words, tokens", [({}, 1), ({"preemptive": True}, 3)], ids=str)

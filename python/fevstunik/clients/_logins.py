@@ -277,7 +277,8 @@ class HttpLogin:
 def _challenge(challenges: Iterable[str]) -> tuple[bool, str | None]:
     """Whether the service offers Negotiate, and the text of its token."""
     for field in challenges:
-        unquoted = re.sub(r'"(?:[^"\\]|\\.)*"', '""', field)
+        # (a quotation without an end takes the rest of the field, so that each byte is looked at once)
+        unquoted = re.sub(r'"(?:[^"\\]|\\.|\\\Z)*(?:"|\Z)', '""', field, flags=re.S)
         found = re.search(r"(?:^|,)\s*negotiate(?:\s+([A-Za-z0-9+/]+=*))?\s*(?=,|$)", unquoted, re.I)
         if found:
             return True, found[1]
