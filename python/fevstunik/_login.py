@@ -105,8 +105,8 @@ class Login(Known):
     service_type    the type of the service's name, as the ticket has it
 
     It is a context manager. At the end of the block, or by close(), the library frees what it holds. Then stamp raises
-    the Fault EMPTY_HANDLE, and so do addresses, authorization, authenticator_authorization, checksum and context,
-    unless they were read before.
+    the Fault EMPTY_HANDLE, and so do addresses, authorization, authenticator_authorization, checksum, transited and
+    context, unless they were read before.
 
     >>> from fevstunik import Client, CredentialCache, Keytab, Service
     >>> service = Service(Keytab.read("examples/service.keytab"), "host/web@EX", first_life=True)
