@@ -157,6 +157,12 @@ def test_a_folder_in_one_of_others(kind, tmp_path):
     refused(kind, inner / "stamps", "folder")
 
 
+def test_a_folder_that_is_not_there(kind, tmp_path):
+    for unchecked in (False, True):
+        with pytest.raises(StoreFailed, match=f"{tmp_path}/run/stamps.boot-.*: .*No such file or directory"):
+            kind(tmp_path / "run/stamps", unchecked=unchecked)
+
+
 @pytest.mark.root
 def test_a_folder_of_another_user(kind, path):
     os.chown(path.parent, 1, -1)
