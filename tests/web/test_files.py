@@ -71,7 +71,8 @@ def test_the_file_is_looked_at_once_a_second(made, keytab, monkeypatch):
     lambda path: replace(path, fixture.keytab()[:-3]),
     lambda path: replace(path, b"\x05\x02"),
     lambda path: replace(path, fixture.keytab(((3, 18, bytes(32)),))),
-], ids=["gone", "text", "half", "empty", "other types"])
+    lambda path: path.unlink() or os.mkfifo(path),
+], ids=["gone", "text", "half", "empty", "other types", "a pipe"])
 @pytest.mark.parametrize("before", [200, None], ids=["running", "at the first request"])
 def test_a_file_that_is_no_use_keeps_the_old_keys(made, keytab, monkeypatch, caplog, spoil, before):
     ask = web.by_wsgi(made())

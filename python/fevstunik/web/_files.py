@@ -1,6 +1,7 @@
 """Files that may change while the service runs: the keytab, certificates, and the key of sessions."""
 from __future__ import annotations
 
+import errno
 import os
 import ssl
 import stat
@@ -47,6 +48,9 @@ class Watched:
         try:
             it = os.stat(self.path)
             seen = (it.st_dev, it.st_ino, it.st_size, it.st_mtime_ns, it.st_ctime_ns)
+            # (to open a pipe may take for ever)
+            if not stat.S_ISREG(it.st_mode):
+                raise OSError(errno.EINVAL, "it isn't a regular file")
             data = None if seen == self._seen else content(self.path)
         except OSError:
             was_readable, self._is_readable = self._is_readable, False
