@@ -39,8 +39,8 @@ mod cause_list;
 mod memories;
 mod names;
 mod services;
-mod tallies;
 mod talks;
+mod tallies;
 mod texts;
 
 use krb_words::{Answer, Calls, Words, answer_lines};
