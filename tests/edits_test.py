@@ -7,6 +7,7 @@ import subprocess
 import sys
 import tempfile
 import time
+from concurrent.futures import ThreadPoolExecutor
 from unittest import mock
 
 import edits
@@ -459,43 +460,50 @@ def check_limits(hold):
     hold("one whose check alone was ended fails", edit.end.call_args.args[0].startswith("wasn't checked to the end"))
 
 
-def main():
-    passed, failed = 0, []
-
-    def hold(name, holds):
-        nonlocal passed
-        passed += bool(holds)
-        failed.extend([] if holds else [name])
-
+def check_runs(hold):
+    """What the runner says of each edit, as it is called by hand and after `rt ci`."""
     with tempfile.TemporaryDirectory(prefix="edits-test-") as room:
         status, said = run_of(room, EDITS)
         for name, _, _, fault in EDITS:
             lines = [it for it in said.split("\n") if it.startswith(f"edits: sample/{name}.edit ")]
-            hold(name, not lines if fault is None else len(lines) == 1 and f".edit {fault}" in lines[0])
+            hold(name, not lines if fault is None else len(lines) == 1 and f".edit {fault}" in lines[0], said)
         refused = sum(fault is None for *_, fault in EDITS)
-        hold("the last line", said.endswith(f"\n{refused} passed, {len(EDITS) - refused} failed\n") and status == 1)
+        hold("the last line", said.endswith(f"\n{refused} passed, {len(EDITS) - refused} failed\n") and status == 1, said)
         # one check for most: each edit alone would be a check of its own
         checks = re.search(r"refused, by (\d+) checks", said)
-        hold("a goal is named of each", "show less" not in said)
-        hold("few checks", checks and int(checks[1]) < len(EDITS))
+        hold("a goal is named of each", "show less" not in said, said)
+        hold("few checks", checks and int(checks[1]) < len(EDITS), said)
         # after rt ci
         after = run_of(room, EDITS, "--after-ci", "--all")[1]
         told = lambda text: sorted(it for it in text.split("\n") if it.startswith("edits: sample/"))
-        hold("the same after rt ci", told(after) == told(said) and after.split("\n")[-2] == said.split("\n")[-2])
+        hold("the same after rt ci", told(after) == told(said) and after.split("\n")[-2] == said.split("\n")[-2], after)
         with open(f"{room}/crates/sample/src/lib.rt", "w", encoding="utf-8") as it:
             it.write(SOURCE.replace("    n + 1", "    n"))
         status, unproved = run_of(room, [], "--after-ci", "--all", "--few", "0")
         tried = [it for it in told(unproved) if " wasn't tried" not in it and " doesn't apply" not in it]
-        hold("nothing where the crate isn't proved", status == 1 and not tried and f"\n0 passed, {len(EDITS)} failed\n" in unproved)
-    check_lock(hold)
-    check_imports(hold)
-    check_definitions(hold)
-    check_items(hold)
-    check_limits(hold)
-    if failed:
-        print(said)
-        print(f"edits' own test: FAILED: {', '.join(failed)}")
-    print(f"{passed} passed, {len(failed)} failed")
+        is_named = f"\n0 passed, {len(EDITS)} failed\n" in unproved
+        hold("nothing where the crate isn't proved", status == 1 and not tried and is_named, unproved)
+
+
+CHECKS = [check_runs, check_lock, check_imports, check_definitions, check_items, check_limits]
+
+
+def main():
+    passed, failed = [], {}
+
+    def hold(name, holds, said=""):
+        if holds:
+            passed.append(name)
+        else:
+            failed[name] = said
+
+    # (each but the small ones waits for checks, which run side by side)
+    with ThreadPoolExecutor() as pool:
+        for it in [pool.submit(check, hold) for check in CHECKS]:
+            it.result()
+    for name, said in failed.items():
+        print(f"{said}\nedits' own test: FAILED: {name}")
+    print(f"{len(passed)} passed, {len(failed)} failed")
     return 1 if failed else 0
 
 

@@ -29,6 +29,8 @@
 //! skew SECONDS                          its microseconds, or `none`
 //! text cause|breach INDEX               place, code, name and text of a cause or a breach, counted from 0
 //! text request|finish|reply INDEX       the text of why there is no request, no agreement or no error
+//! tally [CALL ..]                       calls of an empty tally of times: `add N`, `remove N`, `pop`, `has N`, `since N`, `first`, `last`, `len`
+//! times N [CALL ..]                     calls of the times of one owner, of which N is the first: `add N`, `remove N`, `since N`, `len`
 //! laws                                  calls the laws, which do nothing
 //! ```
 #![tactic(auto)]
@@ -38,6 +40,7 @@ mod memories;
 mod names;
 mod services;
 mod talks;
+mod tallies;
 mod texts;
 
 use krb_words::{Answer, Calls, Words, answer_lines};
@@ -77,6 +80,8 @@ impl Calls for Kept {
                 services::answer(self.served.as_mut()?, first, words, out)
             }
             "text" => texts::answer(words, out),
+            "tally" => tallies::tally(words, out),
+            "times" => tallies::times(words, out),
             "laws" => laws(out),
             _ => memories::answer(&mut self.memory, first, words, out),
         }

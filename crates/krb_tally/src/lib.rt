@@ -19,8 +19,6 @@
 mod bucket;
 mod search;
 mod tally;
-#[cfg(test)]
-mod tests;
 mod timed;
 mod times;
 
