@@ -31,7 +31,9 @@ def over_proved(folder, cpu, out, *more):
     """Builds a crate over the libraries below it, which are proved and built."""
     words = edits.crates_of(str(ROOT))[folder.name].words("out/incremental")
     words[words.index("check")] = "build"
-    words[words.index("--jobs") + 1] = str(len(os.sched_getaffinity(0)))
+    # (each job loads what the others load: four take twice the processor time of two, and library and program are
+    # built side by side)
+    words[words.index("--jobs") + 1] = str(min(2, len(os.sched_getaffinity(0))))
     return run(*words, *more, "--toolchain", f"{edits.KIT}/toolchain", "--backend", "llvm", f"--cpu={cpu}", "-o", out,
                at=folder)
 
