@@ -6,6 +6,7 @@ ghost use Rattle.krb_keytab.specs.Inner.KeyHash.{key_hash};
 ghost use Rattle.krb_keytab.specs.Size.{name_size};
 ghost use Rattle.krb_keytab.specs.Written.{record_length};
 
+use crate::key::Key;
 use crate::part::Part;
 use crate::step::SIZE_LENGTH;
 use krb_name::{Components, Named, Principal};
@@ -24,7 +25,7 @@ pub struct Entry {
     timestamp: u32,
     kvno: u32,
     etype: i16,
-    key: Vec<u8>,
+    key: Key,
 }
 
 impl Model for Entry {
@@ -35,10 +36,10 @@ impl Model for Entry {
       timestamp = e.timestamp;
       kvno = e.kvno;
       etype = e.etype;
-      key = e.key.items;
+      key = e.key;
     } };
 
-    ghost invariant = { λ e. LengthsFit e.principal e.key.items };
+    ghost invariant = { λ e. LengthsFit e.principal e.key };
 }
 
 // The greatest count, and the greatest length in bytes, of a field of 16 bits.
@@ -68,7 +69,7 @@ impl Entry {
         if !lengths_fit(&principal, &key) {
             return None;
         }
-        Some(Entry::from_parts(principal, timestamp, kvno, etype, key))
+        Some(Entry::from_parts(principal, timestamp, kvno, etype, Key::from(key)))
     }
 
     // Makes an entry of parts whose lengths fit.
@@ -77,15 +78,15 @@ impl Entry {
         timestamp: u32,
         kvno: u32,
         etype: i16,
-        key: Vec<u8>,
+        key: Key,
     ) -> Entry
-        requires { LengthsFit principal key.items }
+        requires { LengthsFit principal key }
         ensures { result ≡ record {
           principal = principal;
           timestamp = timestamp;
           kvno = kvno;
           etype = etype;
-          key = key.items;
+          key = key;
         } }
     {
         Entry {
