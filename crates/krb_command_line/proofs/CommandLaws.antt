@@ -1,25 +1,29 @@
--- What clap's definition of a simple command asks of krbtool, what an argument is that needs or excludes another, and how the rows of a
+-- What clap's definition of a simple command says of krbtool's words, what an argument is that needs or excludes another, and how the rows of a
 -- table are taken one by one.
-use Rattle.std.proofs.Common.{◌≡◌, ◌&&◌, ◌<◌, ◌+◌, ℕ, Bool, true, false, not, List, [], ◌∷◌, ◌++◌, Result, Ok, Err, drop, fold, get_or, length, map, refl, ap, sym, ◌∙◌, arith}
+use Rattle.std.proofs.Common.{◌≡◌, ◌&&◌, ◌<◌, ◌+◌, ℕ, Bool, true, false, not, List, [], ◌∷◌, ◌++◌, Result, Ok, Err, drop, fold, get_or, length, map, refl, ap, subst, sym, ◌∙◌, arith}
 use Rattle.std.specs.Prelude.{IfOk}
 use Rattle.std.specs.Borrow.{Bor}
 use Rattle.std.proofs.lemmas.Bool.{ne_eqb}
 use Rattle.std.proofs.lemmas.List.{at_drop_more, length-append}
-use Rattle.std.proofs.lemmas.List.Folds.{list_any-append}
 use Rattle.clap.specs.Adds.{AddsConflicts, AddsRequirements}
 use Rattle.clap.specs.Walk.{is_empty}
-use Rattle.clap.specs.Words.{is_simple, rule_of}
+use Rattle.clap.specs.Words.{App, HasMatchesOf, Text, is_simple, rule_of, subcommand_of, subcommand_rows_of}
 use Rattle.clap.specs.declared.builder.arg.Arg.{Arg}
 use Rattle.clap.specs.declared.builder.arg.ArgPredicate.{ArgPredicate}
+use Rattle.clap.specs.declared.parser.matches.ArgMatches.{ArgMatches}
 use Rattle.krb_command_line.specs.Arguments.{excluding_another, needing_another}
 use Rattle.krb_command_line.specs.CommandLine.{krbtool, with_file_commands, with_message_commands}
 
--- a name among the commands of files or among those of messages
-pub ruleset of_both = (list_any-append)
-
-pub krbtool_is_simple : is_simple krbtool ≡ true
+krbtool_is_simple : is_simple krbtool ≡ true
 unfolding krbtool with_file_commands with_message_commands
 krbtool_is_simple = refl
+
+-- the matches of krbtool are those of clap's definition
+pub matches_of_krbtool : {E : Type 0} (result : Result ArgMatches E) (app : App) (words : List Text) → app ≡ krbtool
+    → IfOk result (HasMatchesOf app words) → IfOk result (λ m. subcommand_rows_of m ≡ subcommand_of krbtool words)
+matches_of_krbtool (Ok m) app words is has =
+    (subst (λ (a : App). HasMatchesOf a words m) is has krbtool_is_simple).1
+matches_of_krbtool (Err e) app words is has = tt
 
 not_empty : {X : Type 0} (xs : List X) (x : X) → is_empty (xs ++ x ∷ []) ≡ false
 not_empty xs x = ne_eqb (length (xs ++ x ∷ [])) 0 (λ is. absurd (omega (arith, is, length-append xs (x ∷ []))))

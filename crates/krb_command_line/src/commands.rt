@@ -42,7 +42,8 @@ fn with_message_commands<'a>(alloc: Global, command: Command<'a>) -> Result<Comm
     with_rows(alloc, command, &MESSAGE_COMMANDS)
 }
 
-fn bare_command<'a>(alloc: Global) -> Command<'a>
+/// Builds `krbtool` without commands.
+pub(crate) fn bare_command<'a>(alloc: Global) -> Command<'a>
     ensures { app_of result ≡ bare }
 {
     Command::new(alloc, "krbtool")
