@@ -15,7 +15,7 @@ PLACES = [
 # The folders that stay: any system has them.
 STAY = {"bin", "include", "lib", "lib64", "x86_64-linux-gnu", "share", "man"}
 # The libraries of the toolchain that are linked, and have notices.
-NOTICED = ["arrayvec", "base64", "byteorder", "clap", "hex", "jiff_core", "md5", "memchr", "sha2", "smallvec", "strsim", "thiserror"]
+NOTICED = ["arrayvec", "base64", "byteorder", "clap", "hex", "itoa", "jiff_core", "md5", "memchr", "sha2", "smallvec", "strsim", "thiserror"]
 
 
 @pytest.mark.parametrize("words, libraries, prefix", PLACES, ids=["debian", "local", "opt", "without DESTDIR"])

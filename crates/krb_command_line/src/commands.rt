@@ -42,7 +42,8 @@ fn with_message_commands<'a>(alloc: Global, command: Command<'a>) -> Result<Comm
     with_rows(alloc, command, &MESSAGE_COMMANDS)
 }
 
-fn bare_command<'a>(alloc: Global) -> Command<'a>
+/// Builds `krbtool` without commands.
+pub(crate) fn bare_command<'a>(alloc: Global) -> Command<'a>
     ensures { app_of result ≡ bare }
 {
     Command::new(alloc, "krbtool")
@@ -60,9 +61,20 @@ fn with_rows<'a>(
     ensures { IfOk result (λ c. app_of c ≡ fold with_command (app_of command.entry) (map app_for rows.now)) }
 {
     for row in rows {
-        command = command.subcommand(command_of(alloc, row)?)?;
+        command = with_row(alloc, command, row)?;
     }
     Ok(command)
+}
+
+fn with_row<'a>(
+    alloc: Global,
+    command: Command<'a>,
+    row: &'a Row<'a>,
+) -> Result<Command<'a>, AllocError>
+    ensures { IfOk result (λ c. app_of c ≡ with_command (app_of command.entry) (app_for row.now)) }
+{
+    let added = command_of(alloc, row)?;
+    command.subcommand(added)
 }
 
 fn command_of<'a>(alloc: Global, row: &'a Row<'a>) -> Result<Command<'a>, AllocError>
@@ -86,7 +98,20 @@ fn with_arguments<'a>(
     ensures local { IfOk result (λ c. (out-Command c).has_globals ≡ false) }
 {
     for argument in arguments {
-        command = command.arg(arg_of(alloc, argument)?)?;
+        command = with_argument(alloc, command, argument)?;
     }
     Ok(command)
+}
+
+fn with_argument<'a>(
+    alloc: Global,
+    command: Command<'a>,
+    argument: &Argument<'a>,
+) -> Result<Command<'a>, AllocError>
+    requires local { (out-Command command).has_globals ≡ false }
+    ensures app { IfOk result (λ c. app_of c ≡ with_rule (app_of command.entry) (rule_for argument.now)) }
+    ensures local { IfOk result (λ c. (out-Command c).has_globals ≡ false) }
+{
+    let added = arg_of(alloc, argument)?;
+    command.arg(added)
 }

@@ -197,6 +197,14 @@ pub(crate) fn command_named<'a>(name: &str, matches: &ArgMatches<'a>) -> Option<
         "pick-key" => pick_key_of(matches),
         "remove-key" => remove_key_of(matches),
         "add-keys" => add_keys_of(matches),
+        _ => message_command_named(name, matches),
+    }
+}
+
+fn message_command_named<'a>(name: &str, matches: &ArgMatches<'a>) -> Option<Command<'a>>
+    ensures { IfSome result (λ command. IsCommand command (Some (name.now, rows_of (found_of matches.now)))) }
+{
+    match name {
         "request" => request_of(matches),
         "accept" => accept_of(matches),
         "finish" => finish_of(matches),

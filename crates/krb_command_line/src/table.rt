@@ -305,3 +305,20 @@ pub(crate) static MESSAGE_COMMANDS: [Row<'static>; 4] = [
         end: "Prints a page, also of bytes that are no message: its lines say which token, request, reply or error they are, and what it has that isn't encrypted: names, options, encryption types, version numbers, sizes, times, an error's code and text. Without --keytab, the message isn't checked, and no key is used.\nWith --keytab, more lines say which entry of the keytab is picked, or why none is; what the ticket and the authenticator say, as far as they open; and the first cause for which a service refuses the request that has seen nothing before, and those that would follow, each with what to look at. --skew is by how much clocks may differ, and --only is the name of a service that takes no other. Without --keytab, neither is used. A service that takes no tokens refuses one as 'MessageType': the request inside is looked at.\n\nExit status: 0 success; 1 the text doesn't spell bytes, or it is too long; or the keytab is faulty; 2 the command line is wrong; 3 a file or standard stream can't be opened, read or written, or memory ran out",
     },
 ];
+
+/// The names of all commands.
+pub(crate) static NAMES: [&str; 13] = [
+    "list-keytab",
+    "list-ccache",
+    "check-keytab",
+    "check-ccache",
+    "convert-keytab",
+    "convert-ccache",
+    "pick-key",
+    "remove-key",
+    "add-keys",
+    "request",
+    "accept",
+    "finish",
+    "explain",
+];

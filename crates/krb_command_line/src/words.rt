@@ -5,12 +5,12 @@ ghost use Rattle.std.specs.List.{list_any};
 ghost use Rattle.std.specs.Str.{bytes_eq};
 ghost use Rattle.clap.specs.Words.{subcommand_of, subcommand_rows_of};
 ghost use Rattle.krb_command_line.specs.CommandLine.{krbtool, IsCommand};
-ghost use Rattle.krb_command_line.specs.Commands.{commands, file_commands, message_commands};
+ghost use Rattle.krb_command_line.specs.Commands.{commands};
 
 use crate::command_line::Command;
-use crate::commands::{Row, krbtool_command};
+use crate::commands::{bare_command, krbtool_command};
 use crate::reading::command_named;
-use crate::table::{FILE_COMMANDS, MESSAGE_COMMANDS};
+use crate::table::NAMES;
 use clap::error::ErrorKind;
 use clap::{ArgMatches, Error};
 use std::alloc::{AllocError, Global};
@@ -24,7 +24,6 @@ fn command_of<'a>(matches: &ArgMatches<'a>) -> Option<Command<'a>>
 }
 
 // What clap matches of the words.
-#[tactic(auto, using(crate::proofs::CommandLaws::krbtool_is_simple))]
 fn matches_of<'a>(alloc: Global, words: &'a [&'a str]) -> Result<ArgMatches<'a>, Error>
     ensures { IfOk result (λ m. subcommand_rows_of m ≡ subcommand_of krbtool (map (λ w. w.now) words.entry.now)) }
 {
@@ -47,32 +46,18 @@ pub fn read_words<'a>(alloc: Global, words: &'a [&'a str]) -> Result<Command<'a>
 
 // clap refuses words without a command, so this is never said.
 fn no_command(alloc: Global) -> Result<Error, AllocError> {
-    krbtool_command(alloc)?.error(ErrorKind::InvalidSubcommand, "no such command")
+    bare_command(alloc).error(ErrorKind::InvalidSubcommand, "no such command")
 }
 
 /// Returns whether a command of krbtool has this name.
-#[tactic(auto, using(crate::proofs::CommandLaws::of_both))]
 pub fn is_command(word: &str) -> bool
     ensures { result ≡ list_any (λ entry. bytes_eq entry.name word.now) commands }
 {
-    is_file_command(word) | is_message_command(word)
+    is_among(&NAMES, word)
 }
 
-fn is_file_command(word: &str) -> bool
-    ensures { result ≡ list_any (λ entry. bytes_eq entry.name word.now) file_commands }
+fn is_among(names: &[&str], word: &str) -> bool
+    ensures { result ≡ list_any (λ name. bytes_eq name.now word.now) names.now }
 {
-    has_name(&FILE_COMMANDS, word)
-}
-
-fn is_message_command(word: &str) -> bool
-    ensures { result ≡ list_any (λ entry. bytes_eq entry.name word.now) message_commands }
-{
-    has_name(&MESSAGE_COMMANDS, word)
-}
-
-// Whether one of the rows has this name.
-fn has_name(rows: &[Row<'_>], word: &str) -> bool
-    ensures { result ≡ list_any (λ row. bytes_eq row.name.now word.now) rows.now }
-{
-    rows.iter().any(|row| row.name == word)
+    names.iter().any(|name| *name == word)
 }

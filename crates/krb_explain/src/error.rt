@@ -7,7 +7,7 @@ ghost use Rattle.krb_explain.specs.Message.{AreErrorLines, AreTimes, MayHaveTime
 
 use crate::date::{date_line, write_shown};
 use crate::error_codes::error_name;
-use crate::line::listed;
+use crate::line::{joined, listed};
 use crate::parts::{head_line, name_line, with_name};
 use krb_msg::{KrbErrorRef, NameRef, Seconds};
 use krb_readable::Text;
@@ -23,20 +23,18 @@ pub(crate) fn error_lines(
 {
     let head = head_line(alloc, "KRB-ERROR", size)?;
     let code = code_line(alloc, error.error_code)?;
-    let mut lines = listed(alloc, [head, code])?;
-    lines.append(&mut error_body(alloc, error)?)?;
-    lines.append(&mut times(alloc, error.ctime, error.stime)?)?;
-    Ok(lines)
+    let begun = listed(alloc, [head, code])?;
+    let untimed = joined(begun, error_body(alloc, error)?)?;
+    Ok(joined(untimed, times(alloc, error.ctime, error.stime)?)?)
 }
 
 // The lines between the code and the times.
 fn error_body(alloc: Global, error: &KrbErrorRef) -> Result<Vec<Text>, AllocError>
     ensures { IfOk result (λ lines. lines.items ≡ error_body (error_values (krb_error_of error.now))) }
 {
-    let mut lines = text_lines(alloc, error.e_text)?;
-    lines.append(&mut error_names(alloc, error)?)?;
-    lines.append(&mut data_lines(alloc, error.e_data)?)?;
-    Ok(lines)
+    let text = text_lines(alloc, error.e_text)?;
+    let named = joined(text, error_names(alloc, error)?)?;
+    Ok(joined(named, data_lines(alloc, error.e_data)?)?)
 }
 
 fn code_line(alloc: Global, code: i32) -> Result<Text, AllocError>
@@ -62,9 +60,8 @@ fn error_names(alloc: Global, error: &KrbErrorRef) -> Result<Vec<Text>, AllocErr
     ensures { IfOk result (λ lines. lines.items ≡ error_names (error_values (krb_error_of error.now))) }
 {
     let service = name_line(alloc, "service", error.realm, &error.sname)?;
-    let mut lines = listed(alloc, [service])?;
-    lines.append(&mut client_lines(alloc, error.crealm, &error.cname)?)?;
-    Ok(lines)
+    let lines = listed(alloc, [service])?;
+    Ok(joined(lines, client_lines(alloc, error.crealm, &error.cname)?)?)
 }
 
 fn client_lines(
@@ -95,9 +92,8 @@ fn times(alloc: Global, ctime: Option<Seconds>, stime: Seconds) -> Result<Vec<Te
     ensures { IfOk result (λ lines. AreTimes ctime stime lines.items) }
 {
     let line = date_line(alloc, "service's time: ", stime)?;
-    let mut lines = listed(alloc, [line])?;
-    lines.append(&mut client_times(alloc, ctime, stime)?)?;
-    Ok(lines)
+    let lines = listed(alloc, [line])?;
+    Ok(joined(lines, client_times(alloc, ctime, stime)?)?)
 }
 
 fn client_times(

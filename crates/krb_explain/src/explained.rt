@@ -8,7 +8,7 @@ ghost use Rattle.krb_explain.specs.Inner.Borrowed.{message_in};
 use crate::form::Form;
 use crate::layer::Layer;
 use crate::layer_lines::layer_lines;
-use crate::line::{listed, page};
+use crate::line::{joined, listed, page};
 use crate::message::message_lines;
 use krb_readable::Text;
 use std::alloc::{AllocError, Global};
@@ -47,9 +47,9 @@ pub fn explain_lines<'a>(alloc: Global, bytes: &'a [u8]) -> Result<Explained<'a>
     ensures { IfOk result (λ e. Explains bytes.entry.now e.lines.items (option_map (λ x. x.now) e.request)) }
 {
     let layer = Layer::of(bytes);
-    let mut lines = listed(alloc, [size_line(alloc, bytes.len())?])?;
-    lines.append(&mut layer_lines(alloc, &layer)?)?;
-    lines.append(&mut carried_lines(alloc, layer.carried())?)?;
+    let size = listed(alloc, [size_line(alloc, bytes.len())?])?;
+    let outer = joined(size, layer_lines(alloc, &layer)?)?;
+    let lines = joined(outer, carried_lines(alloc, layer.carried())?)?;
     let request = layer.judged(bytes);
     Ok(Explained { lines, request })
 }

@@ -37,5 +37,5 @@ pub use explained::{Explained, explain, explain_lines};
 pub use flags::ticket_flags_text;
 pub use form::Form;
 pub use input::{InputFault, message_bytes};
-pub use line::{listed, page};
+pub use line::{joined, listed, page};
 pub use parts::{name_line, type_text, with_name};

@@ -83,12 +83,43 @@ fn add_each(
         ⊎ ((fault ≡ KeytabFault.TooLong) × PassesLimit file.items others.now)) }
 {
     let mut adder = adder_of(alloc, file)?;
+    add_all(alloc, &mut adder, held, others)?;
+    Ok(adder.into_bytes())
+}
+
+fn add_all(
+    alloc: Global,
+    adder: &mut EntryAdder,
+    held: &Keytab,
+    others: &Keytab,
+) -> Result<(), KeytabFault>
+    requires { IsKeytab adder.old held.now }
+    ensures added { OnOk result (IsExtended adder.old others.now adder.new) }
+    ensures fault { IfErr result (λ fault. (fault ≡ KeytabFault.OutOfMemory)
+        ⊎ ((fault ≡ KeytabFault.TooLong) × PassesLimit adder.old others.now)) }
+{
     let held_keys = KeyIndex::new(alloc, held.entries())?;
     let other_keys = KeyIndex::new(alloc, others.entries())?;
-    for (at, entry) in others.entries().iter().enumerate() {
-        add_lacking(&mut adder, &held_keys, &other_keys, at, entry)?;
+    add_in_order(adder, &held_keys, &other_keys, others.entries())
+}
+
+// Adds those of the entries, whose keys are `keys`, that a file lacks, which has the keys `held`.
+fn add_in_order(
+    adder: &mut EntryAdder,
+    held: &KeyIndex,
+    keys: &KeyIndex,
+    entries: &[Entry],
+) -> Result<(), KeytabFault>
+    requires held { IsKeytab adder.old held.now }
+    requires keys { keys.now ≡ entries.now }
+    ensures added { OnOk result (IsExtended adder.old entries.now adder.new) }
+    ensures fault { IfErr result (λ fault. (fault ≡ KeytabFault.OutOfMemory)
+        ⊎ ((fault ≡ KeytabFault.TooLong) × PassesLimit adder.old entries.now)) }
+{
+    for (at, entry) in entries.iter().enumerate() {
+        add_lacking(adder, held, keys, at, entry)?;
     }
-    Ok(adder.into_bytes())
+    Ok(())
 }
 
 fn adder_of(alloc: Global, file: Vec<u8>) -> Result<EntryAdder, KeytabFault>

@@ -1,15 +1,18 @@
 //! The lines of a keytab and of a cache, for programs.
 
 ghost use Rattle.std.specs.Prelude.{◌≡◌, ◌++◌, ◌∷◌, [], OnOk, string_bytes};
+ghost use Rattle.std.specs.Int.{w32};
+ghost use Rattle.hex.specs.Hex.{encode_lower};
+ghost use Rattle.krb_file.specs.Cursor.{number_bytes};
 ghost use Rattle.krb_file_commands.specs.Lines.{keytab_line, keytab_lines, cache_lines, credential_line, config_line, ticket_line, times_of, names_of};
 
 use crate::walk::{FromCredentials, FromEntries};
+use itoa::{Buffer, Integer};
 use krb_ccache::{CCache, CacheFault, Credential, CredentialReader};
 use krb_file::Source;
 use krb_keytab::{Entry, EntryReader, KeytabFault};
 use krb_readable::head_lines;
 use std::alloc::{AllocError, Global};
-use std::fmt::Write;
 
 /// Makes the lines.
 pub(crate) struct Lines;
@@ -35,12 +38,20 @@ impl FromEntries for Lines {
 pub(crate) fn write_entry(entry: &Entry, text: &mut String) -> Result<(), AllocError>
     ensures { OnOk result (string_bytes text.new ≡ string_bytes text.old ++ keytab_line entry.now) }
 {
-    let kvno = entry.kvno();
-    let etype = entry.etype();
-    let timestamp = entry.timestamp();
-    write!(text, "{kvno} {etype} {timestamp} ")?;
+    write_column(entry.kvno(), text)?;
+    write_column(entry.etype(), text)?;
+    write_column(entry.timestamp(), text)?;
     entry.principal().write_text(text)?;
     text.push('\n')
+}
+
+// Writes a number in decimal, and a space.
+fn write_column<N: Integer>(number: N, text: &mut String) -> Result<(), AllocError>
+    ensures { OnOk result (string_bytes text.new ≡ string_bytes text.old ++ (N.text number ++ 32 ∷ [])) }
+{
+    let mut digits = Buffer::new();
+    text.push_str(digits.format(number))?;
+    text.push(' ')
 }
 
 impl FromCredentials for Lines {
@@ -85,22 +96,29 @@ fn write_config(credential: &Credential, text: &mut String) -> Result<(), AllocE
 fn write_ticket(alloc: Global, credential: &Credential, text: &mut String) -> Result<(), AllocError>
     ensures { OnOk result (string_bytes text.new ≡ string_bytes text.old ++ ticket_line credential.now) }
 {
-    let etype = credential.etype;
-    let flags = hex::encode(alloc, credential.ticket_flags.to_be_bytes())?;
-    write!(text, "ticket {etype} ")?;
+    text.push_str("ticket ")?;
+    write_column(credential.etype, text)?;
     write_times(credential, text)?;
-    write!(text, " {flags} ")?;
+    write_flags(alloc, credential, text)?;
     write_names(credential, text)
 }
 
 fn write_times(credential: &Credential, text: &mut String) -> Result<(), AllocError>
-    ensures { OnOk result (string_bytes text.new ≡ string_bytes text.old ++ times_of credential.now) }
+    ensures { OnOk result (string_bytes text.new ≡ string_bytes text.old ++ (times_of credential.now ++ 32 ∷ [])) }
 {
-    let authtime = credential.authtime;
-    let starttime = credential.starttime;
-    let endtime = credential.endtime;
-    let renew_till = credential.renew_till;
-    write!(text, "{authtime} {starttime} {endtime} {renew_till}")
+    write_column(credential.authtime, text)?;
+    write_column(credential.starttime, text)?;
+    write_column(credential.endtime, text)?;
+    write_column(credential.renew_till, text)
+}
+
+fn write_flags(alloc: Global, credential: &Credential, text: &mut String) -> Result<(), AllocError>
+    ensures { OnOk result (string_bytes text.new
+        ≡ string_bytes text.old ++ (encode_lower (number_bytes w32 credential.now.ticket_flags) ++ 32 ∷ [])) }
+{
+    let flags = hex::encode(alloc, credential.ticket_flags.to_be_bytes())?;
+    text.push_str(&flags)?;
+    text.push(' ')
 }
 
 fn write_names(credential: &Credential, text: &mut String) -> Result<(), AllocError>

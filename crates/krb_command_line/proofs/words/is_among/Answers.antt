@@ -1,0 +1,10 @@
+use Rattle.std.proofs.Common.{ℕ, List, rules}
+use Rattle.std.proofs.lemmas.Iterator.{YieldsList-from_slice}
+use Rattle.std.proofs.lemmas.Iterator.Search.{any_from_yields_List}
+use Rattle.std.specs.Borrow.{Bor}
+use Rattle.std.specs.Str.{bytes_eq}
+use Rattle.krb_command_line.proofs.words.is_among.Goals as goal
+
+pub returns : goal.returns
+returns c = any_from_yields_List (λ (name : Bor (List ℕ)). bytes_eq name.now c.args.word.now) _ _ _ c.any.ensures.ran
+    (YieldsList-from_slice c.args.names.now cc) (λ x b q k. search rules)
