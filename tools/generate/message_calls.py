@@ -54,7 +54,7 @@ class Calls:
         self.word = self.name.replace("_", "-")
 
     def shows(self):
-        rows = "?;".join(self.shown(it) for it in self.of.fields)
+        rows = ";".join(self.shown(it) for it in self.of.fields)
         head = f"pub(crate) fn show_{self.name}(view: &{self.of.view}, out: &mut Answer) -> Option<()>"
         return f"{head} {{\n{rows}\n}}\n"
 
@@ -64,7 +64,7 @@ class Calls:
 
     def parses(self):
         copied = "show(view.to_owned(alloc).ok()?.encode(alloc), out)"
-        arms = f"Ok(view) => {{ show_{self.name}(&view, out)?; {copied} }} Err(fault) => out.shown(fault),"
+        arms = f"Ok(view) => {{ show_{self.name}(&view, out); {copied} }} Err(fault) => out.shown(fault),"
         head = f"fn {self.name}(bytes: &[u8], alloc: Global, out: &mut Answer) -> Option<()>"
         return f"{head} {{\nmatch {self.of.view}::parse(bytes) {{ {arms} }}\n}}\n"
 

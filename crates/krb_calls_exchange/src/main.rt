@@ -71,11 +71,7 @@ impl Calls for Kept {
     fn call(&mut self, words: &mut Words, out: &mut Answer) -> Option<()> {
         let first = words.next()?;
         match first {
-            "service" => {
-                self.served = None;
-                self.served = Some(services::start(words)?);
-                out.word("service")
-            }
+            "service" => services::renew(&mut self.served, words, out),
             "accept" | "serve" | "keytab" | "held" | "share" | "talk" => {
                 services::answer(self.served.as_mut()?, first, words, out)
             }

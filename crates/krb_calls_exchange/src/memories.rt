@@ -22,22 +22,42 @@ pub(crate) fn answer(
     out: &mut Answer,
 ) -> Option<()> {
     match first {
-        "memory" => {
-            *memory = None;
-            *memory = Some(new_memory(words)?);
-            out.word("memory")
-        }
+        "memory" => renew(memory, words, out),
         "tuple" => of_tuple(words, out),
         "skew" => out.shown_or_none(Skew::new(words.uint32()?).map(Skew::micros)),
-        _ => match memory.as_mut()? {
-            Memory::List(memory) => call(memory, first, words, out),
-            Memory::Timed(memory) => match first {
-                "taken" => out.shown(memory.held()),
-                "bytes" => out.shown(memory.bytes()),
-                _ => call(memory, first, words, out),
-            },
-            Memory::Limited(memory) => call_limited(memory, first, words, out),
-        },
+        _ => call_either(memory.as_mut()?, first, words, out),
+    }
+}
+
+fn renew(memory: &mut Option<Memory>, words: &mut Words, out: &mut Answer) -> Option<()> {
+    *memory = new_memory(words);
+    memory.as_ref()?;
+    out.word("memory")
+}
+
+fn call_either(
+    memory: &mut Memory,
+    first: &str,
+    words: &mut Words,
+    out: &mut Answer,
+) -> Option<()> {
+    match memory {
+        Memory::List(memory) => call(memory, first, words, out),
+        Memory::Timed(memory) => call_timed(memory, first, words, out),
+        Memory::Limited(memory) => call_limited(memory, first, words, out),
+    }
+}
+
+fn call_timed(
+    memory: &mut TimedMemory,
+    first: &str,
+    words: &mut Words,
+    out: &mut Answer,
+) -> Option<()> {
+    match first {
+        "taken" => out.shown(memory.held()),
+        "bytes" => out.shown(memory.bytes()),
+        _ => call(memory, first, words, out),
     }
 }
 
@@ -63,7 +83,7 @@ fn call_limited(
 ) -> Option<()> {
     match first {
         "limits" => {
-            out.shown(memory.limit())?;
+            out.shown(memory.limit());
             out.shown(memory.limit_for_client())
         }
         "refused" => out.shown(memory.refused()),
@@ -80,38 +100,51 @@ fn call<M: ReplayMemory>(
     out: &mut Answer,
 ) -> Option<()> {
     match first {
-        "remember" => match memory.remember(tuple(words)?) {
-            Ok(()) => out.word("ok"),
-            Err(_) => out.word("OutOfMemory"),
-        },
+        "remember" => remember(memory, tuple(words)?, out),
         "contains" => out.truth(memory.contains(&tuple(words)?)),
-        "advance" => {
-            let moment = moment(words)?;
-            memory.advance(moment, Skew::new(words.uint32()?)?);
-            out.word("ok")
-        }
-        "expect" => {
-            let moment = moment(words)?;
-            memory.expect(moment, Skew::new(words.uint32()?)?);
-            out.word("ok")
-        }
-        "at-least" => out.truth(memory.has_at_least(
-            None,
-            words.uint32()? as usize,
-            micros(words)?,
-        )),
-        "at-least-of" => {
-            let (count, oldest) = (words.uint32()? as usize, micros(words)?);
-            out.truth(memory.has_at_least(Some(&tuple(words)?), count, oldest))
-        }
+        "at-least" | "at-least-of" => count(memory, first == "at-least-of", words, out),
+        "advance" | "expect" => go_on(memory, first == "advance", words, out),
         "len" => out.shown(memory.len()),
         "latest" => show_latest(memory.latest(), out),
         _ => None,
     }
 }
 
-fn micros(words: &mut Words) -> Option<i64> {
-    Some(moment(words)?.micros())
+fn remember<M: ReplayMemory>(memory: &mut M, tuple: Tuple, out: &mut Answer) -> Option<()> {
+    match memory.remember(tuple) {
+        Ok(()) => out.word("ok"),
+        Err(_) => out.word("OutOfMemory"),
+    }
+}
+
+fn go_on<M: ReplayMemory>(
+    memory: &mut M,
+    advances: bool,
+    words: &mut Words,
+    out: &mut Answer,
+) -> Option<()> {
+    let moment = moment(words)?;
+    let skew = Skew::new(words.uint32()?)?;
+    if advances {
+        memory.advance(moment, skew);
+    } else {
+        memory.expect(moment, skew);
+    }
+    out.word("ok")
+}
+
+fn count<M: ReplayMemory>(
+    memory: &M,
+    of_client: bool,
+    words: &mut Words,
+    out: &mut Answer,
+) -> Option<()> {
+    let least = words.uint32()? as usize;
+    let oldest = moment(words)?.micros();
+    if of_client {
+        return out.truth(memory.has_at_least(Some(&tuple(words)?), least, oldest));
+    }
+    out.truth(memory.has_at_least(None, least, oldest))
 }
 
 fn show_latest(latest: Option<Moment>, out: &mut Answer) -> Option<()> {
@@ -123,13 +156,13 @@ fn show_latest(latest: Option<Moment>, out: &mut Answer) -> Option<()> {
 
 fn show_moment(moment: Moment, out: &mut Answer) -> Option<()> {
     let (seconds, micros) = moment.parts();
-    out.shown(seconds.get())?;
+    out.shown(seconds.get());
     out.shown(micros.get())
 }
 
 /// Shows how many tuples a memory has, and its latest moment.
 pub(crate) fn show_memory<M: ReplayMemory>(memory: &M, out: &mut Answer) -> Option<()> {
-    out.shown(memory.len())?;
+    out.shown(memory.len());
     show_latest(memory.latest(), out)
 }
 
@@ -140,21 +173,24 @@ fn tuple(words: &mut Words) -> Option<Tuple> {
     Tuple::new(words.alloc, server, client, seconds, micros).ok()
 }
 
+fn compare(one: &Tuple, other: &Tuple, out: &mut Answer) -> Option<()> {
+    out.named(one.cmp(other));
+    out.named(one.partial_cmp(other));
+    out.truth(one == other)
+}
+
 fn of_tuple(words: &mut Words, out: &mut Answer) -> Option<()> {
-    match words.next()? {
-        "time" => show_moment(tuple(words)?.time(), out),
-        "compare" => {
-            let one = tuple(words)?;
-            let other = tuple(words)?;
-            out.named(one.cmp(&other))?;
-            out.named(one.partial_cmp(&other))?;
-            out.truth(one == other)
-        }
-        "bytes" => out.bytes(&tuple(words)?.to_bytes(words.alloc).ok()?),
-        "until" => {
-            let tuple = tuple(words)?;
-            show_latest(tuple.keep_until(Skew::new(words.uint32()?)?), out)
-        }
+    let what = words.next()?;
+    let tuple = tuple(words)?;
+    show_tuple(&tuple, what, words, out)
+}
+
+fn show_tuple(one: &Tuple, what: &str, words: &mut Words, out: &mut Answer) -> Option<()> {
+    match what {
+        "time" => show_moment(one.time(), out),
+        "compare" => compare(one, &tuple(words)?, out),
+        "bytes" => out.bytes(&one.to_bytes(words.alloc).ok()?),
+        "until" => show_latest(one.keep_until(Skew::new(words.uint32()?)?), out),
         _ => None,
     }
 }

@@ -5,7 +5,7 @@ ghost use Rattle.std.specs.Prelude.{◌≡◌};
 use crate::memories::show_memory;
 use crate::names::moment;
 use crate::talks::talk;
-use krb_ap::{Acceptor, Call, Outcome, Refusal, ReplyOptions};
+use krb_ap::{Accepted, Acceptor, Call, Outcome, Refusal, ReplyOptions};
 use krb_gss::Negotiation;
 use krb_keytab::Keytab;
 use krb_login::{Bindings, Decision, Given, Realms, Service, Store, StoreSays, Terms};
@@ -21,21 +21,34 @@ pub(crate) enum Served {
     Timed(Service<TimedMemory>),
 }
 
-/// Makes a service.
-pub(crate) fn start(words: &mut Words) -> Option<Served> {
+/// Makes a service in place of an earlier one.
+pub(crate) fn renew(
+    served: &mut Option<Served>,
+    words: &mut Words,
+    out: &mut Answer,
+) -> Option<()> {
+    *served = start(words);
+    served.as_ref()?;
+    out.word("service")
+}
+
+fn start(words: &mut Words) -> Option<Served> {
     let kind = words.next()?;
     let skew = Skew::new(words.uint32()?)?;
     let keytab = keytab(words)?;
-    let start = if words.is_at_end() {
-        None
-    } else {
-        Some(moment(words)?)
-    };
+    let start = moment_or_none(words)?;
     match kind {
         "list" => Some(Served::List(open_to_all(listed(words.alloc, keytab, skew, start)))),
         "timed" => Some(Served::Timed(open_to_all(timed(words.alloc, keytab, skew, start)))),
         _ => None,
     }
+}
+
+fn moment_or_none(words: &mut Words) -> Option<Option<Moment>> {
+    if words.is_at_end() {
+        return Some(None);
+    }
+    Some(Some(moment(words)?))
 }
 
 fn keytab(words: &mut Words) -> Option<Keytab> {
@@ -98,20 +111,9 @@ fn call<M: ReplayMemory>(
     out: &mut Answer,
 ) -> Option<()> {
     match first {
-        "accept" => {
-            let now = moment(words)?;
-            let bytes = words.bytes()?;
-            show(
-                &service.acceptor.accept(words.alloc, &bytes, now),
-                words.alloc,
-                out,
-            )
-        }
+        "accept" => accept(&mut service.acceptor, words, out),
         "serve" => serve(&mut service.acceptor, words, out),
-        "keytab" => {
-            let _old = service.acceptor.replace_keytab(keytab(words)?);
-            out.word("keytab")
-        }
+        "keytab" => replace(&mut service.acceptor, keytab(words)?, out),
         "held" => show_memory(service.acceptor.memory(), out),
         "share" => share(service, words, out),
         "talk" => talk(service, words, out),
@@ -119,24 +121,36 @@ fn call<M: ReplayMemory>(
     }
 }
 
+fn accept<M: ReplayMemory>(
+    acceptor: &mut Acceptor<M>,
+    words: &mut Words,
+    out: &mut Answer,
+) -> Option<()> {
+    let now = moment(words)?;
+    let bytes = words.bytes()?;
+    show(&acceptor.accept(words.alloc, &bytes, now), words.alloc, out)
+}
+
+fn replace<M: ReplayMemory>(
+    acceptor: &mut Acceptor<M>,
+    keytab: Keytab,
+    out: &mut Answer,
+) -> Option<()> {
+    let _old = acceptor.replace_keytab(keytab);
+    out.word("keytab")
+}
+
 fn serve<M: ReplayMemory>(
     acceptor: &mut Acceptor<M>,
     words: &mut Words,
     out: &mut Answer,
 ) -> Option<()> {
-    let alloc = words.alloc;
     let given = all_given(words)?;
-    let calls: Vec<Call> = given.iter().map(call_of).collect(alloc).ok()?;
-    let outcomes = match acceptor.serve(alloc, &calls) {
-        Ok(outcomes) => outcomes,
-        Err(AllocError) => return out.word("OutOfMemory"),
-    };
-    out.shown(outcomes.len())?;
-    for outcome in &outcomes {
-        out.word("|")?;
-        show(outcome, alloc, out)?;
+    let calls = calls_of(words.alloc, &given)?;
+    match acceptor.serve(words.alloc, &calls) {
+        Ok(outcomes) => show_all(&outcomes, words.alloc, out),
+        Err(AllocError) => out.word("OutOfMemory"),
     }
-    Some(())
 }
 
 pub(crate) fn all_given(words: &mut Words) -> Option<Vec<(Moment, Vec<u8>)>> {
@@ -145,10 +159,18 @@ pub(crate) fn all_given(words: &mut Words) -> Option<Vec<(Moment, Vec<u8>)>> {
         if words.is_at_end() {
             break;
         }
-        let now = moment(words)?;
-        given.push((now, words.bytes()?)).ok()?;
+        given.push(one_given(words)?).ok()?;
     }
     Some(given)
+}
+
+fn one_given(words: &mut Words) -> Option<(Moment, Vec<u8>)> {
+    let now = moment(words)?;
+    Some((now, words.bytes()?))
+}
+
+fn calls_of<'a>(alloc: Global, given: &'a [(Moment, Vec<u8>)]) -> Option<Vec<Call<'a>>> {
+    given.iter().map(call_of).collect(alloc).ok()
 }
 
 fn call_of(given: &(Moment, Vec<u8>)) -> Call<'_> {
@@ -158,22 +180,35 @@ fn call_of(given: &(Moment, Vec<u8>)) -> Call<'_> {
     }
 }
 
+fn show_all(outcomes: &[Outcome], alloc: Global, out: &mut Answer) -> Option<()> {
+    out.shown(outcomes.len());
+    for outcome in outcomes {
+        out.word("|");
+        show(outcome, alloc, out)?;
+    }
+    Some(())
+}
+
 fn show(outcome: &Outcome, alloc: Global, out: &mut Answer) -> Option<()> {
     match outcome {
         Ok(accepted) => {
-            out.word("accepted")?;
-            let stamp = accepted.tuple(alloc).ok()?;
-            out.bytes(&stamp.to_bytes(alloc).ok()?)
+            out.word("accepted");
+            out.bytes(&stamp_of(accepted, alloc)?)
         }
         Err(Refusal::Malformed(fault)) => {
-            out.word("refused Malformed")?;
+            out.word("refused Malformed");
             out.shown(*fault)
         }
         Err(refusal) => {
-            out.word("refused")?;
+            out.word("refused");
             out.named(*refusal)
         }
     }
+}
+
+fn stamp_of(accepted: &Accepted, alloc: Global) -> Option<Vec<u8>> {
+    let tuple = accepted.tuple(alloc).ok()?;
+    tuple.to_bytes(alloc).ok()
 }
 
 /// A store and a clock that answer what a line says.
@@ -195,6 +230,13 @@ impl Store for Told {
     fn now(&mut self) -> Moment {
         self.now
     }
+}
+
+fn store_of(words: &mut Words) -> Option<Told> {
+    Some(Told {
+        said: said(words)?,
+        now: moment(words)?,
+    })
 }
 
 fn said(words: &mut Words) -> Option<StoreSays> {
@@ -228,31 +270,29 @@ fn share<M: ReplayMemory>(
     words: &mut Words,
     out: &mut Answer,
 ) -> Option<()> {
-    let mut store = Told {
-        said: said(words)?,
-        now: moment(words)?,
-    };
-    let now = moment(words)?;
-    let bytes = words.bytes()?;
+    let mut store = store_of(words)?;
+    let (now, bytes) = one_given(words)?;
     let mut negotiation = Negotiation::Begun;
     let given = given_of(now, &bytes);
-    let decision = service.answer_shared(words.alloc, &mut negotiation, &mut store, given);
-    show_decision(&decision, out)
+    show_decision(
+        &service.answer_shared(words.alloc, &mut negotiation, &mut store, given),
+        out,
+    )
 }
 
 fn show_decision(decision: &Decision, out: &mut Answer) -> Option<()> {
     match decision {
         Decision::LetIn(login) => {
-            out.word("in")?;
+            out.word("in");
             show_sent(&login.answer, out)
         }
         Decision::GoOn(bytes) => {
-            out.word("on")?;
+            out.word("on");
             out.bytes(bytes)
         }
         Decision::Refused(refused) => {
-            out.word("refused")?;
-            out.shown(refused.cause)?;
+            out.word("refused");
+            out.shown(refused.cause);
             show_sent(&refused.answer, out)
         }
     }

@@ -20,35 +20,37 @@ pub(crate) fn talk<M: ReplayMemory>(
     words: &mut Words,
     out: &mut Answer,
 ) -> Option<()> {
-    let mut talk = Talk::new(OPTIONS);
     let messages = all_given(words)?;
-    for message in &messages {
-        let given = given_of(message.0, &message.1);
-        show(talk.answer(words.alloc, service, given), out)?;
+    let mut talk = Talk::new(OPTIONS);
+    for (now, bytes) in &messages {
+        show(
+            &talk.answer(words.alloc, service, given_of(*now, bytes)),
+            out,
+        );
     }
     Some(())
 }
 
-fn show(decision: Decision, out: &mut Answer) -> Option<()> {
+fn show(decision: &Decision, out: &mut Answer) -> Option<()> {
     match decision {
         Decision::LetIn(login) => {
-            out.word("in")?;
+            out.word("in");
             show_sent(&login.answer, out)
         }
         Decision::Shown(login) => {
-            out.word("shown")?;
+            out.word("shown");
             show_sent(&login.answer, out)
         }
         Decision::GoOn(bytes) => {
-            out.word("on")?;
-            out.bytes(&bytes)
+            out.word("on");
+            out.bytes(bytes)
         }
         Decision::Refused(refused) => {
-            out.word("refused")?;
+            out.word("refused");
             show_sent(&refused.answer, out)
         }
         Decision::Unshown(unshown) => {
-            out.word("unshown")?;
+            out.word("unshown");
             show_sent(&unshown.answer, out)
         }
     }

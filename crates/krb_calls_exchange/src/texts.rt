@@ -1,8 +1,8 @@
 //! The texts of causes and faults.
 
 use crate::cause_list::{BREACHES, CAUSES, CUT};
-use krb_ap::{FinishFault, ReplyFault, RequestFault};
-use krb_login::Cause;
+use krb_ap::{FinishFault, Refusal, ReplyFault, RequestFault};
+use krb_login::{Breach, Cause};
 use krb_words::{Answer, Words};
 
 static REQUEST: [RequestFault; 6] = [
@@ -33,14 +33,8 @@ pub(crate) fn answer(words: &mut Words, out: &mut Answer) -> Option<()> {
     let list = words.next()?;
     let index = words.size()?;
     match list {
-        "cause" => {
-            let cause = *CAUSES.get(index)?;
-            told(cause.place(), cause.name(), Cause::Request(cause), out)
-        }
-        "breach" => {
-            let breach = *BREACHES.get(index)?;
-            told(breach.place(), breach.name(), Cause::Breached(breach), out)
-        }
+        "cause" => show_cause(*CAUSES.get(index)?, out),
+        "breach" => show_breach(*BREACHES.get(index)?, out),
         "request" => out.shown(*REQUEST.get(index)?),
         "finish" => out.shown(*FINISH.get(index)?),
         "reply" => out.shown(*REPLY.get(index)?),
@@ -48,9 +42,17 @@ pub(crate) fn answer(words: &mut Words, out: &mut Answer) -> Option<()> {
     }
 }
 
+fn show_cause(cause: Refusal, out: &mut Answer) -> Option<()> {
+    told(cause.place(), cause.name(), Cause::Request(cause), out)
+}
+
+fn show_breach(breach: Breach, out: &mut Answer) -> Option<()> {
+    told(breach.place(), breach.name(), Cause::Breached(breach), out)
+}
+
 fn told(place: u32, name: &str, cause: Cause, out: &mut Answer) -> Option<()> {
-    out.shown(place)?;
-    out.shown_or_none(cause.code())?;
-    out.word(name)?;
+    out.shown(place);
+    out.shown_or_none(cause.code());
+    out.word(name);
     out.shown(cause)
 }

@@ -43,18 +43,20 @@ pub(crate) fn fault(words: &mut Words, out: &mut Answer) -> Option<()> {
         "flow" if index == 0 => out.shown(Short),
         "flow" if index == 1 => out.shown(SinkFailed),
         "flow" if index == 2 => out.shown(SourceFailed),
-        "keytab" => {
-            let fault = *KEYTAB.get(index)?;
-            out.shown(fault)?;
-            out.shown_or_none(fault.at())
-        }
-        "cache" => {
-            let fault = *CACHE.get(index)?;
-            out.shown(fault)?;
-            out.shown_or_none(fault.at())
-        }
+        "keytab" => keytab(*KEYTAB.get(index)?, out),
+        "cache" => cache(*CACHE.get(index)?, out),
         _ => None,
     }
+}
+
+fn keytab(fault: KeytabFault, out: &mut Answer) -> Option<()> {
+    out.shown(fault);
+    out.shown_or_none(fault.at())
+}
+
+fn cache(fault: CacheFault, out: &mut Answer) -> Option<()> {
+    out.shown(fault);
+    out.shown_or_none(fault.at())
 }
 
 /// Calls each law.

@@ -59,15 +59,26 @@ fn over<S: Source + Drop>(
     words: &mut Words,
     out: &mut Answer,
 ) -> Option<()> {
+    match what {
+        "made" => made(source, words, out),
+        "window" => window(Window::new(words.alloc, source), words, out),
+        "entries" => entries(source, words, out),
+        "credentials" => credentials(source, words, out),
+        _ => lent(source, what, words, out),
+    }
+}
+
+fn lent<S: Source + Drop>(
+    source: S,
+    what: &str,
+    words: &mut Words,
+    out: &mut Answer,
+) -> Option<()> {
     let mut source = source;
     match what {
         "source" => read_from(&mut source, words, out)?,
         "keytab" => keytab(&mut source, words, out)?,
         "cache" => cache(&mut source, words, out)?,
-        "made" => return made(source, words, out),
-        "window" => return window(Window::new(words.alloc, source), words, out),
-        "entries" => return entries(source, words, out),
-        "credentials" => return credentials(source, words, out),
         _ => return None,
     }
     give_back(source, out)
@@ -77,8 +88,13 @@ fn over<S: Source + Drop>(
 /// once at most.
 pub(crate) fn give_back<S: Source + Drop>(source: S, out: &mut Answer) -> Option<()> {
     let mut source = source;
-    out.word("failures")?;
-    out.shown(source.failures())?;
+    out.word("failures");
+    out.shown(source.failures());
+    out.word("left");
+    out.shown(left_of(&mut source))
+}
+
+fn left_of<S: Source>(source: &mut S) -> u64 {
     let mut buffer = [0u8; 4_096];
     let mut left = 0u64;
     for _ in 0..u64::MAX {
@@ -88,8 +104,7 @@ pub(crate) fn give_back<S: Source + Drop>(source: S, out: &mut Answer) -> Option
             Err(_) => {}
         }
     }
-    out.word("left")?;
-    out.shown(left)
+    left
 }
 
 // Reads so many bytes at a time of a source, which is lent.
@@ -99,13 +114,17 @@ fn read_from<S: Source + Drop>(source: S, words: &mut Words, out: &mut Answer) -
         if words.is_at_end() {
             break;
         }
-        let mut buffer = vec![in words.alloc; 0u8; words.size()?].ok()?;
-        match source.read(&mut buffer) {
-            Ok(count) => out.bytes(buffer.get(..count)?)?,
-            Err(fault) => out.named(fault)?,
-        }
+        read_once(&mut source, words, out)?;
     }
     Some(())
+}
+
+fn read_once<S: Source>(source: &mut S, words: &mut Words, out: &mut Answer) -> Option<()> {
+    let mut buffer = vec![in words.alloc; 0u8; words.size()?].ok()?;
+    match source.read(&mut buffer) {
+        Ok(count) => out.bytes(buffer.get(..count)?),
+        Err(fault) => out.named(fault),
+    }
 }
 
 fn window<S: Source + Drop>(window: Window<S>, words: &mut Words, out: &mut Answer) -> Option<()> {
@@ -114,25 +133,44 @@ fn window<S: Source + Drop>(window: Window<S>, words: &mut Words, out: &mut Answ
         if words.is_at_end() {
             break;
         }
-        match words.next()? {
-            "fill" => {
-                let count = words.uint32()? as usize;
-                window.given().checked_add(count)?;
-                show(window.fill(count), out)?
-            }
-            "skip" => {
-                let count = words.uint32()? as usize;
-                window.given().checked_add(count)?;
-                show(window.skip(count), out)?
-            }
-            "run-out" => show(window.run_out(words.uint32()? as usize), out)?,
-            "clear" => window.clear(),
-            "bytes" => out.bytes(window.bytes())?,
-            "held" => out.shown(window.held())?,
-            "given" => out.shown(window.given())?,
-            "failures" => out.shown(window.source().failures())?,
-            _ => return None,
-        }
+        call_window(&mut window, words, out)?;
     }
     give_back(window.into_source(), out)
+}
+
+fn call_window<S: Source>(
+    window: &mut Window<S>,
+    words: &mut Words,
+    out: &mut Answer,
+) -> Option<()> {
+    match words.next()? {
+        "fill" => fill(window, words.uint32()? as usize, out),
+        "skip" => skip(window, words.uint32()? as usize, out),
+        "run-out" => show(window.run_out(words.uint32()? as usize), out),
+        "clear" => {
+            window.clear();
+            Some(())
+        }
+        what => show_window(window, what, out),
+    }
+}
+
+fn fill<S: Source>(window: &mut Window<S>, count: usize, out: &mut Answer) -> Option<()> {
+    window.given().checked_add(count)?;
+    show(window.fill(count), out)
+}
+
+fn skip<S: Source>(window: &mut Window<S>, count: usize, out: &mut Answer) -> Option<()> {
+    window.given().checked_add(count)?;
+    show(window.skip(count), out)
+}
+
+fn show_window<S: Source>(window: &Window<S>, what: &str, out: &mut Answer) -> Option<()> {
+    match what {
+        "bytes" => out.bytes(window.bytes()),
+        "held" => out.shown(window.held()),
+        "given" => out.shown(window.given()),
+        "failures" => out.shown(window.source().failures()),
+        _ => None,
+    }
 }

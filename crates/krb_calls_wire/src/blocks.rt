@@ -12,13 +12,13 @@ pub(crate) fn answer_aes(words: &mut Words, out: &mut Answer) -> Option<()> {
     let (text, cipher) = (words.block()?, words.block()?);
     let mut block = text;
     schedule.encrypt_block(&mut block);
-    out.bytes(&block)?;
+    out.bytes(&block);
     block = text;
     plain::encrypt_block(&schedule, &mut block);
-    out.bytes(&block)?;
+    out.bytes(&block);
     block = cipher;
     schedule.decrypt_block(&mut block);
-    out.bytes(&block)?;
+    out.bytes(&block);
     block = cipher;
     plain::decrypt_block(&schedule, &mut block);
     out.bytes(&block)
@@ -37,8 +37,8 @@ pub(crate) fn answer_blocks(words: &mut Words, out: &mut Answer) -> Option<()> {
     ];
     let [mut one, mut other, _, _] = blocks;
     schedule.decrypt_two_blocks(&mut one, &mut other);
-    out.bytes(&one)?;
-    out.bytes(&other)?;
+    out.bytes(&one);
+    out.bytes(&other);
     schedule.decrypt_four_blocks(&mut blocks);
     blocks.iter().try_for_each(|block| out.bytes(block))
 }
@@ -64,10 +64,10 @@ pub(crate) fn answer_cts(words: &mut Words, out: &mut Answer) -> Option<()> {
         return None;
     }
     krb_cts::encrypt(&schedule, &mut text);
-    out.bytes(&text)?;
+    out.bytes(&text);
     let mut rest = vec![in words.alloc; 0xa5u8; cipher.len() - 16].ok()?;
     krb_cts::decrypt_after_first(&schedule, &cipher, &mut rest);
     krb_cts::decrypt(&schedule, &mut cipher);
-    out.bytes(&cipher)?;
+    out.bytes(&cipher);
     out.bytes(&rest)
 }

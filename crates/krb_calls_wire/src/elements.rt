@@ -36,6 +36,13 @@ fn encoded_value(words: &mut Words, out: &mut Answer) -> Option<()> {
         "string" => show(encoded(alloc, &Text(&words.bytes()?)), out),
         "numbers" => show(encoded(alloc, &numbers(words)?), out),
         "texts" => texts(words, out),
+        kind => encoded_number(kind, words, out),
+    }
+}
+
+fn encoded_number(kind: &str, words: &mut Words, out: &mut Answer) -> Option<()> {
+    let alloc = words.alloc;
+    match kind {
         "int32" => show(encoded(alloc, &words.int32()?), out),
         "uint32" => show(encoded(alloc, &words.uint32()?), out),
         "seq_number" => show(encoded(alloc, &SeqNumber(words.uint32()?)), out),
@@ -67,27 +74,27 @@ fn texts(words: &mut Words, out: &mut Answer) -> Option<()> {
     for item in &items {
         texts.push(Text(item.as_slice())).ok()?;
     }
-    show(encoded(words.alloc, &texts.as_slice()), out)?;
+    show(encoded(words.alloc, &texts.as_slice()), out);
     show(encoded(words.alloc, &TextList(&items)), out)
 }
 
 fn written(words: &mut Words, out: &mut Answer) -> Option<()> {
     let bytes = words.bytes()?;
     let mut writer = Writer::new(words.alloc);
-    out.truth(writer.is_empty())?;
+    out.truth(writer.is_empty());
     if bytes.len() > 1_048_576 {
         return None;
     }
     writer.octets(&bytes).ok()?;
-    out.shown(writer.len())?;
+    out.shown(writer.len());
     writer.string(&bytes).ok()?;
-    out.shown(writer.len())?;
+    out.shown(writer.len());
     if writer.len() > 4_194_304 {
         return None;
     }
     writer.wrap(0x30, 0).ok()?;
-    out.shown(writer.len())?;
-    out.truth(writer.is_empty())?;
+    out.shown(writer.len());
+    out.truth(writer.is_empty());
     out.bytes(&writer.into_bytes())
 }
 
@@ -97,24 +104,24 @@ fn flags(words: &mut Words, out: &mut Answer) -> Option<()> {
     if bit > 31 {
         return None;
     }
-    out.shown(Flags::none().bits())?;
-    out.shown(Flags::only(bit).bits())?;
+    out.shown(Flags::none().bits());
+    out.shown(Flags::only(bit).bits());
     out.truth(flags.has(bit))
 }
 
 fn shown(words: &mut Words, out: &mut Answer) -> Option<()> {
     let bytes = words.bytes()?;
     let octets = Octets(&bytes);
-    out.named(octets)?;
+    out.named(octets);
     let field: Field<0xa1, Octets> = Field(octets);
-    out.named(field)?;
+    out.named(field);
     let maybe: Maybe<0xa1, Octets> = Maybe(Some(octets));
-    out.named(maybe)?;
+    out.named(maybe);
     let same = Some(octets);
     let lent: MaybeRef<0xa1, Octets> = MaybeRef(&same);
-    out.named(lent)?;
+    out.named(lent);
     let mut writer = Writer::new(words.alloc);
     writer.raw(&bytes).ok()?;
-    out.named(writer)?;
+    out.named(writer);
     out.shown(EncodeFault::OutOfMemory)
 }

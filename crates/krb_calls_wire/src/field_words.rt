@@ -5,10 +5,10 @@ use krb_words::Answer;
 
 /// Shows the type and the list of the components.
 pub(crate) fn show_name(view: &NameRef, out: &mut Answer) -> Option<()> {
-    out.shown(view.name_type)?;
-    out.word("[")?;
+    out.shown(view.name_type);
+    out.word("[");
     for component in view.components.iter() {
-        out.bytes(component)?;
+        out.bytes(component);
     }
     out.word("]")
 }
@@ -28,7 +28,7 @@ pub(crate) fn show_octets_or_none(octets: Option<&[u8]>, out: &mut Answer) -> Op
 }
 
 pub(crate) fn show_key(view: KeyRef, out: &mut Answer) -> Option<()> {
-    out.shown(view.etype)?;
+    out.shown(view.etype);
     out.bytes(view.bytes)
 }
 
@@ -40,7 +40,7 @@ pub(crate) fn show_key_or_none(view: Option<KeyRef>, out: &mut Answer) -> Option
 }
 
 pub(crate) fn show_typed(view: TypedRef, out: &mut Answer) -> Option<()> {
-    out.shown(view.kind)?;
+    out.shown(view.kind);
     out.bytes(view.bytes)
 }
 
@@ -54,9 +54,9 @@ pub(crate) fn show_typed_or_none(view: Option<TypedRef>, out: &mut Answer) -> Op
 pub(crate) fn show_list_or_none(view: &Option<TypedListRef>, out: &mut Answer) -> Option<()> {
     match view {
         Some(elements) => {
-            out.word("[")?;
+            out.word("[");
             for element in elements.iter() {
-                show_typed(element, out)?;
+                show_typed(element, out);
             }
             out.word("]")
         }

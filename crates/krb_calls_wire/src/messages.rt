@@ -35,21 +35,26 @@ pub(crate) fn answer(words: &mut Words, out: &mut Answer) -> Option<()> {
 fn write_over(words: &mut Words, out: &mut Answer) -> Option<()> {
     let options = Flags(words.uint32()?);
     let bytes = words.bytes()?;
-    let authenticator = Encrypted {
+    let authenticator = encrypted_of(words)?;
+    match SpelledTicket::parse(&bytes) {
+        Ok(ticket) => {
+            let request = ApReqOver {
+                options,
+                ticket,
+                authenticator,
+            };
+            show(request.encode(words.alloc), out)
+        }
+        Err(fault) => out.shown(fault),
+    }
+}
+
+fn encrypted_of(words: &mut Words) -> Option<Encrypted> {
+    Some(Encrypted {
         etype: words.int32()?,
         kvno: words.uint32_or_none()?,
         cipher: words.bytes()?,
-    };
-    let ticket = match SpelledTicket::parse(&bytes) {
-        Ok(ticket) => ticket,
-        Err(fault) => return out.shown(fault),
-    };
-    let request = ApReqOver {
-        options,
-        ticket,
-        authenticator,
-    };
-    show(request.encode(words.alloc), out)
+    })
 }
 
 const NAMED: [u32; 4] = [
@@ -64,8 +69,8 @@ fn show_flags(flags: Flags, out: &mut Answer) -> Option<()> {
         if bit > 31 {
             return None;
         }
-        out.shown(Flags::only(bit).bits())?;
-        out.truth(flags.has(bit))?;
+        out.shown(Flags::only(bit).bits());
+        out.truth(flags.has(bit));
     }
     Some(())
 }
@@ -73,19 +78,23 @@ fn show_flags(flags: Flags, out: &mut Answer) -> Option<()> {
 fn moments(words: &mut Words, out: &mut Answer) -> Option<()> {
     let one = Moment::new(words.int64()?, words.uint32()?);
     let other = Moment::new(words.int64()?, words.uint32()?);
-    let (Some(one), Some(other)) = (one, other) else {
-        return out.word("none");
-    };
+    match (one, other) {
+        (Some(one), Some(other)) => compare(one, other, out),
+        _ => out.word("none"),
+    }
+}
+
+fn compare(one: Moment, other: Moment, out: &mut Answer) -> Option<()> {
     let (second, micros) = one.parts();
-    out.shown(second.get())?;
-    out.shown(micros.get())?;
-    out.shown(one.micros())?;
-    out.truth(Moment::at(second, micros) == one)?;
+    out.shown(second.get());
+    out.shown(micros.get());
+    out.shown(one.micros());
+    out.truth(Moment::at(second, micros) == one);
     out.word(match one.cmp(&other) {
         Ordering::Less => "Less",
         Ordering::Equal => "Equal",
         Ordering::Greater => "Greater",
-    })?;
-    out.truth(one < other)?;
+    });
+    out.truth(one < other);
     out.truth(one == other)
 }

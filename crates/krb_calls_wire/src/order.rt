@@ -1,6 +1,6 @@
 //! The order of the numbers of per-message tokens. (The library for C makes and takes the tokens.)
 
-use krb_context::Window;
+use krb_context::{Order, Window};
 use krb_words::{Answer, Words};
 
 /// ```text
@@ -13,10 +13,14 @@ pub(crate) fn answer(words: &mut Words, out: &mut Answer) -> Option<()> {
         if words.is_at_end() {
             break;
         }
-        let order = window.take(words.next()?.parse::<u64>().ok()?);
-        out.named(order)?;
-        out.truth(order.is_next())?;
-        out.truth(order.is_new())?;
+        let number = words.next()?.parse::<u64>().ok()?;
+        show(window.take(number), out);
     }
     Some(())
+}
+
+fn show(order: Order, out: &mut Answer) -> Option<()> {
+    out.named(order);
+    out.truth(order.is_next());
+    out.truth(order.is_new())
 }

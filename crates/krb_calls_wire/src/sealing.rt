@@ -26,19 +26,28 @@ pub(crate) fn answer(words: &mut Words, out: &mut Answer) -> Option<()> {
     if call == "usable" {
         return out.truth(Key::is_usable(etype, &bytes));
     }
-    let key = match Key::new(etype, &bytes) {
-        Ok(key) => key,
-        Err(fault) => return out.shown(fault),
-    };
+    match Key::new(etype, &bytes) {
+        Ok(key) => answer_of_key(call, &key, &bytes, words, out),
+        Err(fault) => out.shown(fault),
+    }
+}
+
+fn answer_of_key(
+    call: &str,
+    key: &Key,
+    bytes: &[u8],
+    words: &mut Words,
+    out: &mut Answer,
+) -> Option<()> {
     if call == "key" {
-        out.named(&key)?;
-        out.shown(key.etype())?;
+        out.named(key);
+        out.shown(key.etype());
         return out.bytes(key.bytes());
     }
     let usage = words.uint32()?;
-    match (etype, bytes.len()) {
-        (19, 16) => answer_of_type::<Sha256Aes128>(call, &key, &bytes, usage, words, out),
-        (20, 32) => answer_of_type::<Sha384Aes256>(call, &key, &bytes, usage, words, out),
+    match (key.etype(), bytes.len()) {
+        (19, 16) => answer_of_type::<Sha256Aes128>(call, key, bytes, usage, words, out),
+        (20, 32) => answer_of_type::<Sha384Aes256>(call, key, bytes, usage, words, out),
         _ => None,
     }
 }
@@ -53,34 +62,46 @@ fn answer_of_type<T: Enctype>(
 ) -> Option<()>
     requires { length bytes.now ≡ T.KEY_LEN }
 {
-    let alloc = words.alloc;
     match call {
-        "seal" => {
-            let confounder = words.block()?;
-            let plain = words.bytes()?;
-            let sealed = key.seal(alloc, usage, &confounder, &plain).ok()?;
-            out.bytes(&sealed)?;
-            show(T::seal(alloc, bytes, usage, &confounder, &plain), out)?;
-            show(key.open(alloc, usage, &sealed), out)?;
-            show(key.open(alloc, usage ^ 1, &sealed), out)
-        }
+        "seal" => seal::<T>(key, bytes, usage, words, out),
         "open" => {
             let text = words.bytes()?;
-            show(key.open(alloc, usage, &text), out)?;
-            show(T::open(alloc, bytes, usage, &text), out)
+            show(key.open(words.alloc, usage, &text), out);
+            show(T::open(words.alloc, bytes, usage, &text), out)
         }
         "tag" => {
             let text = words.bytes()?;
-            out.bytes(T::tag(bytes, usage, &text).as_slice())?;
+            out.bytes(T::tag(bytes, usage, &text).as_slice());
             out.bytes(T::checksum(bytes, usage, &text).as_slice())
         }
-        "usage-for" => {
-            let etype = words.int32()?;
-            let bytes = words.bytes()?;
-            out.truth(key.for_usage(usage).is_for(etype, &bytes, words.uint32()?))
-        }
+        "usage-for" => usage_for(key, usage, words, out),
         _ => None,
     }
+}
+
+fn seal<T: Enctype>(
+    key: &Key,
+    bytes: &[u8],
+    usage: u32,
+    words: &mut Words,
+    out: &mut Answer,
+) -> Option<()>
+    requires { length bytes.now ≡ T.KEY_LEN }
+{
+    let alloc = words.alloc;
+    let confounder = words.block()?;
+    let plain = words.bytes()?;
+    let sealed = key.seal(alloc, usage, &confounder, &plain).ok()?;
+    out.bytes(&sealed);
+    show(T::seal(alloc, bytes, usage, &confounder, &plain), out);
+    show(key.open(alloc, usage, &sealed), out);
+    show(key.open(alloc, usage ^ 1, &sealed), out)
+}
+
+fn usage_for(key: &Key, usage: u32, words: &mut Words, out: &mut Answer) -> Option<()> {
+    let etype = words.int32()?;
+    let bytes = words.bytes()?;
+    out.truth(key.for_usage(usage).is_for(etype, &bytes, words.uint32()?))
 }
 
 /// Shows the bytes, or the fault.
@@ -95,11 +116,11 @@ pub(crate) fn show<F: Display + Drop>(made: Result<Vec<u8>, F>, out: &mut Answer
 /// types                                              number, length of a key and length of a tag of both types
 /// ```
 pub(crate) fn show_types(out: &mut Answer) -> Option<()> {
-    out.shown(Sha256Aes128::ETYPE)?;
-    out.shown(Sha256Aes128::KEY_LEN)?;
-    out.shown(Sha256Aes128::TAG_LEN)?;
-    out.shown(Sha384Aes256::ETYPE)?;
-    out.shown(Sha384Aes256::KEY_LEN)?;
+    out.shown(Sha256Aes128::ETYPE);
+    out.shown(Sha256Aes128::KEY_LEN);
+    out.shown(Sha256Aes128::TAG_LEN);
+    out.shown(Sha384Aes256::ETYPE);
+    out.shown(Sha384Aes256::KEY_LEN);
     out.shown(Sha384Aes256::TAG_LEN)
 }
 
@@ -107,13 +128,13 @@ pub(crate) fn show_types(out: &mut Answer) -> Option<()> {
 /// faults                                             the texts of the faults of keys, of opening, and of slices
 /// ```
 pub(crate) fn show_faults(out: &mut Answer) -> Option<()> {
-    out.shown(KeyFault::UnknownEtype)?;
-    out.shown(KeyFault::WrongLength)?;
-    out.shown(OpenFault::Short)?;
-    out.shown(OpenFault::Integrity)?;
-    out.shown(OpenFault::OutOfMemory)?;
-    out.shown(OpenToFault::Short)?;
-    out.shown(OpenToFault::Integrity)?;
-    out.shown(OpenToFault::ShortSlice { needed: 7 })?;
+    out.shown(KeyFault::UnknownEtype);
+    out.shown(KeyFault::WrongLength);
+    out.shown(OpenFault::Short);
+    out.shown(OpenFault::Integrity);
+    out.shown(OpenFault::OutOfMemory);
+    out.shown(OpenToFault::Short);
+    out.shown(OpenToFault::Integrity);
+    out.shown(OpenToFault::ShortSlice { needed: 7 });
     out.shown(ShortSlice { needed: 56 })
 }

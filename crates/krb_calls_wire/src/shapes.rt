@@ -12,7 +12,7 @@ pub(crate) fn read(words: &mut Words, out: &mut Answer) -> Option<()> {
     match element(&bytes, kind, &mut shown) {
         Ok(made) => {
             made?;
-            out.word(shown.text())
+            out.word(shown.whole()?)
         }
         Err(fault) => out.shown(fault),
     }
@@ -21,20 +21,30 @@ pub(crate) fn read(words: &mut Words, out: &mut Answer) -> Option<()> {
 /// Shows the values of the element, unless it has a fault. None if there is no such kind.
 fn element(bytes: &[u8], kind: &str, out: &mut Answer) -> Result<Option<()>, Fault> {
     let mut cursor = Cursor::new(bytes)?;
-    let made = match kind {
-        "int32" => out.shown(cursor.read::<i32>()?),
-        "uint32" => out.shown(cursor.uint32()?),
-        "seq_number" => out.shown(cursor.seq_number()?),
-        "microseconds" => out.shown(cursor.microseconds()?.get()),
-        "flags" => out.shown(cursor.flags()?.bits()),
-        "time" => out.shown(cursor.time()?.get()),
-        "octets" => out.bytes(cursor.octets()?),
-        "string" => out.bytes(cursor.string()?),
-        "five" => five(&mut cursor, out)?,
-        _ => parts(&mut cursor, kind, out)?,
-    };
+    let made = whole(&mut cursor, kind, out)?;
     cursor.finish()?;
     Ok(made)
+}
+
+fn whole<'a>(cursor: &mut Cursor<'a>, kind: &str, out: &mut Answer) -> Result<Option<()>, Fault> {
+    match kind {
+        "int32" => Ok(out.shown(cursor.read::<i32>()?)),
+        "uint32" => Ok(out.shown(cursor.uint32()?)),
+        "seq_number" => Ok(out.shown(cursor.seq_number()?)),
+        "microseconds" => Ok(out.shown(cursor.microseconds()?.get())),
+        "five" => five(cursor, out),
+        _ => other(cursor, kind, out),
+    }
+}
+
+fn other<'a>(cursor: &mut Cursor<'a>, kind: &str, out: &mut Answer) -> Result<Option<()>, Fault> {
+    match kind {
+        "flags" => Ok(out.shown(cursor.flags()?.bits())),
+        "time" => Ok(out.shown(cursor.time()?.get())),
+        "octets" => Ok(out.bytes(cursor.octets()?)),
+        "string" => Ok(out.bytes(cursor.string()?)),
+        _ => parts(cursor, kind, out),
+    }
 }
 
 fn five(cursor: &mut Cursor, out: &mut Answer) -> Result<Option<()>, Fault> {
@@ -49,12 +59,14 @@ fn parts<'a>(cursor: &mut Cursor<'a>, kind: &str, out: &mut Answer) -> Result<Op
         "pair" => Ok(show_pair(cursor.sequence()?, out)),
         "options" => Ok(show_options(cursor.sequence()?, out)),
         "mixed" => mixed(cursor, out),
+        _ => lists(cursor, kind, out),
+    }
+}
+
+fn lists<'a>(cursor: &mut Cursor<'a>, kind: &str, out: &mut Answer) -> Result<Option<()>, Fault> {
+    match kind {
         "maybe" => maybe(cursor, out),
-        "numbers" => match numbers(cursor, out) {
-            Some(Ok(())) => Ok(Some(())),
-            Some(Err(fault)) => Err(fault),
-            None => Ok(None),
-        },
+        "numbers" => numbers(cursor, out),
         "texts" => Ok(show_texts(texts(cursor)?, out)),
         "name" => Ok(show_name(name(cursor)?, out)),
         _ => Ok(None),
@@ -65,7 +77,7 @@ type Pair<'a> = (Field<0xa0, i32>, (Field<0xa1, Text<'a>>, ()));
 
 fn show_pair(row: Pair, out: &mut Answer) -> Option<()> {
     let (number, (text, ())) = row;
-    out.shown(number.0)?;
+    out.shown(number.0);
     out.bytes(text.0.0)
 }
 
@@ -76,8 +88,8 @@ type Options<'a> = (
 
 fn show_options(row: Options, out: &mut Answer) -> Option<()> {
     let (number, (octets, (flags, ()))) = row;
-    out.shown_or_none(number.0)?;
-    show_octets(octets.0, out)?;
+    out.shown_or_none(number.0);
+    show_octets(octets.0, out);
     out.shown_or_none(flags.0.map(Flags::bits))
 }
 
@@ -113,8 +125,8 @@ fn show_mixed(
     octets: Option<Octets>,
     out: &mut Answer,
 ) -> Option<()> {
-    out.shown_or_none(time)?;
-    out.shown(number)?;
+    out.shown_or_none(time);
+    out.shown(number);
     show_octets(octets, out)
 }
 
@@ -127,20 +139,19 @@ fn maybe(cursor: &mut Cursor, out: &mut Answer) -> Result<Option<()>, Fault> {
     Ok(out.bytes(octets))
 }
 
-fn numbers(cursor: &mut Cursor, out: &mut Answer) -> Option<Result<(), Fault>> {
+fn numbers(cursor: &mut Cursor, out: &mut Answer) -> Result<Option<()>, Fault> {
     match cursor.list::<i32>() {
         Ok(mut content) => {
-            out.word("[")?;
+            out.word("[");
             for _ in 0..u32::MAX {
-                match content.next::<i32>() {
-                    Some(number) => out.shown(number)?,
-                    None => break,
-                }
+                let Some(number) = content.next::<i32>() else {
+                    break;
+                };
+                out.shown(number);
             }
-            out.word("]")?;
-            Some(Ok(()))
+            Ok(out.word("]"))
         }
-        Err(fault) => Some(Err(fault)),
+        Err(fault) => Err(fault),
     }
 }
 
@@ -152,12 +163,12 @@ fn texts<'a>(cursor: &mut Cursor<'a>) -> Result<Cursor<'a>, Fault> {
 }
 
 fn show_texts(mut list: Cursor, out: &mut Answer) -> Option<()> {
-    out.word("[")?;
+    out.word("[");
     for _ in 0..u32::MAX {
         if list.is_at_end() {
             break;
         }
-        out.bytes(list.string().ok()?)?;
+        out.bytes(list.string().ok()?);
     }
     out.word("]")
 }
@@ -176,6 +187,6 @@ fn name<'a>(cursor: &mut Cursor<'a>) -> Result<(i32, Cursor<'a>), Fault> {
 }
 
 fn show_name(name: (i32, Cursor), out: &mut Answer) -> Option<()> {
-    out.shown(name.0)?;
+    out.shown(name.0);
     show_texts(name.1, out)
 }

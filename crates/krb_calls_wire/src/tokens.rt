@@ -51,7 +51,7 @@ pub(crate) fn answer(words: &mut Words, out: &mut Answer) -> Option<()> {
 }
 
 fn refused<F: Display + Drop>(fault: F, out: &mut Answer) -> Option<()> {
-    out.word("refused")?;
+    out.word("refused");
     out.shown(fault)
 }
 
@@ -73,24 +73,24 @@ fn mechanism_of(name: &str) -> Option<Mechanism> {
 
 fn show_answered(opened: Answered, out: &mut Answer) -> Option<()> {
     match opened.wrapping {
-        Wrapping::Bare => out.word("bare")?,
+        Wrapping::Bare => out.word("bare"),
         Wrapping::Negotiated(first) => {
-            out.word("negotiated")?;
-            out.named(first)?;
+            out.word("negotiated");
+            out.named(first)
         }
-    }
-    out.named(opened.mechanism)?;
+    };
+    out.named(opened.mechanism);
     out.word(match opened.answer {
         ServiceAnswer::Reply(_) => "reply",
         ServiceAnswer::Error(_) => "error",
-    })?;
+    });
     out.bytes(opened.answer.bytes())
 }
 
 fn listing(words: &mut Words, out: &mut Answer) -> Option<()> {
     match open_listing(&words.bytes()?) {
         Some(listing) => {
-            out.named(listing.mechanism)?;
+            out.named(listing.mechanism);
             out.bytes(listing.list)
         }
         None => out.word("none"),
@@ -135,20 +135,27 @@ fn checked(words: &mut Words, out: &mut Answer) -> Option<()> {
 fn checksum(words: &mut Words, out: &mut Answer) -> Option<()> {
     let bytes = words.bytes()?;
     let bindings = words.block()?;
-    let read = match Checksum::parse(&bytes) {
-        Ok(read) => read,
-        Err(fault) => return refused(fault, out),
-    };
-    out.shown(read.flags.0)?;
-    out.bytes(&read.bindings)?;
-    show_or_none(read.delegation, out)?;
-    out.bytes(read.extensions)?;
+    match Checksum::parse(&bytes) {
+        Ok(read) => show_checksum(&read, &bindings, out),
+        Err(fault) => refused(fault, out),
+    }
+}
+
+fn show_checksum(read: &Checksum, bindings: &[u8; 16], out: &mut Answer) -> Option<()> {
+    out.shown(read.flags.0);
+    out.bytes(&read.bindings);
+    show_or_none(read.delegation, out);
+    out.bytes(read.extensions);
+    show_flags(read.flags, out);
+    out.truth(read.has_bindings(bindings))
+}
+
+fn show_flags(flags: ContextFlags, out: &mut Answer) {
     for flag in FLAGS {
-        if read.flags.has(flag) {
-            out.named(flag)?;
+        if flags.has(flag) {
+            out.named(flag);
         }
     }
-    out.truth(read.has_bindings(&bindings))
 }
 
 fn encode(words: &mut Words, out: &mut Answer) -> Option<()> {

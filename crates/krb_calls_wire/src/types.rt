@@ -29,7 +29,7 @@ pub(crate) fn parse(of: &str, bytes: &[u8], alloc: Global, out: &mut Answer) -> 
 fn ticket(bytes: &[u8], alloc: Global, out: &mut Answer) -> Option<()> {
     match TicketRef::parse(bytes) {
         Ok(view) => {
-            show_ticket(&view, out)?;
+            show_ticket(&view, out);
             show(view.to_owned(alloc).ok()?.encode(alloc), out)
         }
         Err(fault) => out.shown(fault),
@@ -39,7 +39,7 @@ fn ticket(bytes: &[u8], alloc: Global, out: &mut Answer) -> Option<()> {
 fn authenticator(bytes: &[u8], alloc: Global, out: &mut Answer) -> Option<()> {
     match AuthenticatorRef::parse(bytes) {
         Ok(view) => {
-            show_authenticator(&view, out)?;
+            show_authenticator(&view, out);
             show(view.to_owned(alloc).ok()?.encode(alloc), out)
         }
         Err(fault) => out.shown(fault),
@@ -49,7 +49,7 @@ fn authenticator(bytes: &[u8], alloc: Global, out: &mut Answer) -> Option<()> {
 fn enc_ticket(bytes: &[u8], alloc: Global, out: &mut Answer) -> Option<()> {
     match EncTicketRef::parse(bytes) {
         Ok(view) => {
-            show_enc_ticket(&view, out)?;
+            show_enc_ticket(&view, out);
             show(view.to_owned(alloc).ok()?.encode(alloc), out)
         }
         Err(fault) => out.shown(fault),
@@ -59,7 +59,7 @@ fn enc_ticket(bytes: &[u8], alloc: Global, out: &mut Answer) -> Option<()> {
 fn ap_req(bytes: &[u8], alloc: Global, out: &mut Answer) -> Option<()> {
     match ApReqRef::parse(bytes) {
         Ok(view) => {
-            show_ap_req(&view, out)?;
+            show_ap_req(&view, out);
             show(view.to_owned(alloc).ok()?.encode(alloc), out)
         }
         Err(fault) => out.shown(fault),
@@ -69,7 +69,7 @@ fn ap_req(bytes: &[u8], alloc: Global, out: &mut Answer) -> Option<()> {
 fn ap_rep(bytes: &[u8], alloc: Global, out: &mut Answer) -> Option<()> {
     match ApRepRef::parse(bytes) {
         Ok(view) => {
-            show_ap_rep(&view, out)?;
+            show_ap_rep(&view, out);
             show(view.to_owned(alloc).ok()?.encode(alloc), out)
         }
         Err(fault) => out.shown(fault),
@@ -79,7 +79,7 @@ fn ap_rep(bytes: &[u8], alloc: Global, out: &mut Answer) -> Option<()> {
 fn enc_ap_rep(bytes: &[u8], alloc: Global, out: &mut Answer) -> Option<()> {
     match EncApRepRef::parse(bytes) {
         Ok(view) => {
-            show_enc_ap_rep(&view, out)?;
+            show_enc_ap_rep(&view, out);
             show(view.to_owned(alloc).ok()?.encode(alloc), out)
         }
         Err(fault) => out.shown(fault),
@@ -89,7 +89,7 @@ fn enc_ap_rep(bytes: &[u8], alloc: Global, out: &mut Answer) -> Option<()> {
 fn krb_error(bytes: &[u8], alloc: Global, out: &mut Answer) -> Option<()> {
     match KrbErrorRef::parse(bytes) {
         Ok(view) => {
-            show_krb_error(&view, out)?;
+            show_krb_error(&view, out);
             show(view.to_owned(alloc).ok()?.encode(alloc), out)
         }
         Err(fault) => out.shown(fault),

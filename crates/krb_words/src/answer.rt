@@ -5,10 +5,14 @@ use std::alloc::Global;
 use std::fmt::{Debug, Display, Write};
 
 /// An answer, word by word, with single spaces between them.
+///
+/// Each call returns `None` if memory is refused, and the answer remembers that: whoever adds several
+/// words need not look at what each call returns, since [`Answer::whole`] says it in the end.
 #[derive(Drop)]
 pub struct Answer {
     alloc: Global,
     text: String,
+    is_whole: bool,
 }
 
 impl Answer {
@@ -17,6 +21,7 @@ impl Answer {
         Answer {
             alloc,
             text: String::new(alloc),
+            is_whole: true,
         }
     }
 
@@ -25,27 +30,52 @@ impl Answer {
         self.text.as_str()
     }
 
+    /// Returns the words so far, unless one of them isn't whole.
+    pub fn whole(&self) -> Option<&str> {
+        if self.is_whole {
+            Some(self.text())
+        } else {
+            None
+        }
+    }
+
+    /// Says that the answer isn't whole.
+    pub fn cut(&mut self) -> Option<()> {
+        self.is_whole = false;
+        None
+    }
+
+    fn note(&mut self, put: Option<()>) -> Option<()> {
+        match put {
+            Some(()) => Some(()),
+            None => self.cut(),
+        }
+    }
+
     /// Begins a word. What is put then belongs to it.
     pub fn begin(&mut self) -> Option<()> {
-        if !self.text.is_empty() {
-            self.text.push(' ').ok()?;
+        if self.text.is_empty() {
+            return Some(());
         }
-        Some(())
+        self.put(" ")
     }
 
     /// Puts a text into the word.
     pub fn put(&mut self, text: &str) -> Option<()> {
-        self.text.push_str(text).ok()
+        let put = self.text.push_str(text).ok();
+        self.note(put)
     }
 
     /// Puts what a value displays into the word.
     pub fn put_shown<T: Display + Drop>(&mut self, value: T) -> Option<()> {
-        write!(self.text, "{value}").ok()
+        let put = write!(self.text, "{value}").ok();
+        self.note(put)
     }
 
     /// Puts bytes into the word.
     pub fn put_bytes(&mut self, bytes: &[u8]) -> Option<()> {
-        show_bytes(self.alloc, &mut self.text, bytes)
+        let put = show_bytes(self.alloc, &mut self.text, bytes);
+        self.note(put)
     }
 
     /// Adds a word.
@@ -69,7 +99,8 @@ impl Answer {
     /// Adds the name of a value.
     pub fn named<T: Debug + Drop>(&mut self, value: T) -> Option<()> {
         self.begin()?;
-        write!(self.text, "{value:?}").ok()
+        let put = write!(self.text, "{value:?}").ok();
+        self.note(put)
     }
 
     /// Adds `true` or `false`.

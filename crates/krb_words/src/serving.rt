@@ -18,8 +18,8 @@ pub trait Calls: Sized + Drop {
 /// Answers each line of standard input with one line of standard output, and returns the exit status:
 /// 2 if a line couldn't be read or written.
 ///
-/// The line `new` drops what earlier lines made, and is answered `new`. A line that says no call is
-/// answered `bad line`.
+/// The line `new` drops what earlier lines made, and is answered `new`. A line that says no call, or
+/// whose answer isn't whole, is answered `bad line`.
 pub fn answer_lines<C: Calls>(rt: &HostRuntime) -> ExitCode {
     match answer_all::<C>(rt) {
         Ok(()) => ExitCode::from(0),
@@ -28,13 +28,18 @@ pub fn answer_lines<C: Calls>(rt: &HostRuntime) -> ExitCode {
 }
 
 fn answer_all<C: Calls>(rt: &HostRuntime) -> io::Result<()> {
+    let mut out = BufWriter::new(rt.alloc(), io::writer(rt))?;
+    answer_each::<C, _>(rt, &mut out)?;
+    out.flush()
+}
+
+fn answer_each<C: Calls, W: Write>(rt: &HostRuntime, out: &mut W) -> io::Result<()> {
     let alloc = rt.alloc();
     let mut calls = C::new(alloc);
-    let mut out = BufWriter::new(alloc, io::writer(rt))?;
     for line in BufReader::new(alloc, rt.reader())?.lines(alloc) {
-        answer_line(alloc, &mut calls, line?.as_str(), &mut out)?;
+        answer_line(alloc, &mut calls, line?.as_str(), out)?;
     }
-    out.flush()
+    Ok(())
 }
 
 fn answer_line<C: Calls, W: Write>(
@@ -57,5 +62,6 @@ fn answer_line<C: Calls, W: Write>(
 
 fn call<C: Calls>(calls: &mut C, words: &mut Words, out: &mut Answer) -> Option<()> {
     calls.call(words, out)?;
+    out.whole()?;
     if words.is_at_end() { Some(()) } else { None }
 }
