@@ -99,6 +99,17 @@ def test_an_application_that_writes(made):
     assert (answer.status, answer.body) == (200, b"written, andyielded") and answer.token
 
 
+def test_an_answer_of_no_parts(made):
+    """As Flask makes it of a page without a body: an iterator, and not a list."""
+    def app(environ, start_response):
+        start_response("204 No Content", [])
+        return iter(())
+    environ, started = {"REQUEST_METHOD": "GET", "PATH_INFO": "/", "HTTP_AUTHORIZATION": negotiate(token())}, []
+    assert not list(made().wsgi(app)(environ, lambda *words: started.append(words)))
+    (status, headers), = started
+    assert status == "204 No Content" and [name for name, _ in headers] == ["WWW-Authenticate"]
+
+
 def test_an_answer_that_breaks_off_is_the_servers(made):
     def app(environ, start_response):
         start_response("200 OK", [])
