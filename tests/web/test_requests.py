@@ -1,6 +1,7 @@
 """What each request is answered, over WSGI and ASGI, in this process."""
 import base64
 import queue
+import sys
 import threading
 
 import pytest
@@ -110,13 +111,54 @@ def test_an_answer_of_no_parts(made):
     assert status == "204 No Content" and [name for name, _ in headers] == ["WWW-Authenticate"]
 
 
+class Parts:
+    """An answer of two parts that counts how often it is closed."""
+    closed = 0
+
+    def __iter__(self):
+        return iter((b"one", b"two"))
+
+    def close(self):
+        self.closed += 1
+
+
+@pytest.mark.parametrize("read", [0, 1, 2])
+def test_an_answer_is_closed(made, read):
+    """Once, also if the server has read nothing of it. (Django gives its connections back then.)"""
+    def app(environ, start_response):
+        start_response("200 OK", [])
+        return given
+    environ, given = {"REQUEST_METHOD": "GET", "PATH_INFO": "/", "HTTP_AUTHORIZATION": negotiate(token())}, Parts()
+    answer = made().wsgi(app)(environ, lambda *_: None)
+    parts = iter(answer)
+    assert [next(parts) for _ in range(read)] == [b"one", b"two"][:read] and given.closed == 0
+    answer.close()
+    assert given.closed == 1
+
+
+def test_an_application_that_begins_again_too_late(made):
+    """The server has sent the status by then (PEP 3333)."""
+    def app(environ, start_response):
+        start_response("200 OK", [])
+        yield b"begun"
+        try:
+            raise KeyError
+        except KeyError:
+            start_response("500 Failed", [], sys.exc_info())
+    environ = {"REQUEST_METHOD": "GET", "PATH_INFO": "/", "HTTP_AUTHORIZATION": negotiate(token())}
+    parts = iter(made().wsgi(app)(environ, lambda *_: None))
+    assert next(parts) == b"begun"
+    with pytest.raises(KeyError):
+        next(parts)
+
+
 def test_an_answer_that_breaks_off_is_the_servers(made):
     def app(environ, start_response):
         start_response("200 OK", [])
         yield b"begun"
         raise KeyError
     environ = {"REQUEST_METHOD": "GET", "PATH_INFO": "/", "HTTP_AUTHORIZATION": negotiate(token())}
-    parts = made().wsgi(app)(environ, lambda *_: None)
+    parts = iter(made().wsgi(app)(environ, lambda *_: None))
     assert next(parts) == b"begun"
     with pytest.raises(KeyError):
         next(parts)
