@@ -383,6 +383,11 @@ def test_a_body_of_no_length(made, length):
     assert (answer.status, answer.unread) == (401, 1000)
 
 
+def test_no_more_than_the_body_is_read(made):
+    """What is after it is the next request's, or never comes."""
+    assert web.by_wsgi(made())("POST", body=bytes(200_000), CONTENT_LENGTH="70000").unread == 130_000
+
+
 def test_a_body_that_breaks_off(made):
     class Broken:
         def read(self, size):
