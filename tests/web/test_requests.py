@@ -1,4 +1,5 @@
 """What each request is answered, over WSGI and ASGI, in this process."""
+import asyncio
 import base64
 import queue
 import sys
@@ -89,10 +90,12 @@ def test_the_token_comes_with_each_status(ask, path, status):
 
 
 @pytest.mark.parametrize("path", ["/raises-after-start", "/raises-at-a-part"])
-def test_a_failure_after_the_start(made, path):
+def test_a_failure_after_the_start(made, path, caplog):
     answer = web.by_wsgi(made())(path=path, headers=authorized(negotiate(token())))
     assert answer.status == 500 and answer.token
     assert int(answer.one("Content-Length")) == len(answer.body)
+    # (the server sees no exception)
+    assert "the application failed" in caplog.text and "Traceback" in caplog.text
 
 
 def test_an_application_that_writes(made):
@@ -162,6 +165,21 @@ def test_an_answer_that_breaks_off_is_the_servers(made):
     assert next(parts) == b"begun"
     with pytest.raises(KeyError):
         next(parts)
+
+
+def test_an_answer_over_asgi_that_breaks_off_is_the_servers(made):
+    sent = []
+
+    async def app(scope, receive, send):
+        await send({"type": "http.response.start", "status": 200, "headers": []})
+        raise KeyError
+
+    async def send(message):
+        sent.append(message["type"])
+    headers = [(b"authorization", negotiate(token()).encode())]
+    with pytest.raises(KeyError):
+        asyncio.run(made().asgi(app)({"type": "http", "method": "GET", "path": "/", "headers": headers}, None, send))
+    assert sent == ["http.response.start"]
 
 
 def test_without_a_token_a_failure_is_the_servers(made):
