@@ -15,7 +15,7 @@ from ._library import Bytes, Handle, Secret, filled, octets, read, text_of
 from ._messages import Messages, Side
 from ._shown import fit_for_a_line
 from ._tokens import ContextFlags, KrbError, Says, bindings_of, open_answer, read_verdict, wrap_request
-from ._values import CONFOUNDER, KEY_SIZES, Key, Moment, When, chosen, clock_of_request
+from ._values import CONFOUNDER, KEY_SIZES, LAST_SECOND, Key, Moment, When, chosen, clock_of_request
 
 
 @dataclass(frozen=True)
@@ -260,7 +260,9 @@ class Client(Secret):
         True
         """
         here = clock_of_request(now)
-        moment = Moment(*divmod(1_000_000 * here.seconds + here.micros + round(1_000_000 * clock_offset), 1_000_000))
+        at = 1_000_000 * here.seconds + here.micros + round(1_000_000 * clock_offset)
+        # (an error may name the last moment that there is, and then nobody's ticket is valid)
+        moment = Moment(*divmod(min(at, 1_000_000 * LAST_SECOND), 1_000_000))
         subkey = self._subkey or Key.random(self._type_at(moment))
         request, pending = make_request(self._cache, self._service, now=moment, subkey=subkey,
                                         wants_reply=self._wants_reply, context=self._context, bindings=self._bindings)

@@ -8,7 +8,7 @@ import pytest
 from fevstunik import (
     Acceptor, Client, Code, ContextFlags, CredentialCache, Fault, Keytab, KrbError, Mechanism, Moment, Refused, Says,
     Service, ServiceError, Token, Verdict, login, tls_server_end_point)
-
+from fevstunik._values import LAST_SECOND
 from support import c_cases, der, fixture
 
 NAME, NOW = "host/web@EX", 1_700_000_100
@@ -221,6 +221,17 @@ def test_login_with_a_wrong_clock(cache, service):
     with pytest.raises(ServiceError) as raised:
         login(cache, NAME, send, now=NOW + 400)
     assert len(sent) == 1 and raised.value.clock_offset == -400
+
+
+def test_an_error_of_the_last_moment(cache):
+    """Whoever forges it makes no other exception than an honest one would."""
+    client = Client(cache, NAME)
+    _, _, error = opened(client.first(now=NOW))
+    with pytest.raises(ServiceError) as raised:
+        client.finish(error(Refused(Code.SKEW).error(NAME, now=Moment(LAST_SECOND, 999_999))))
+    with pytest.raises(Fault) as expired:
+        client.first(now=NOW + 1, clock_offset=raised.value.clock_offset)
+    assert expired.value.code == Code.CREDENTIAL_EXPIRED
 
 
 def test_login_that_is_refused_without_an_error(cache):

@@ -214,6 +214,9 @@ def test_stamps():
         assert accepted.stamp().keep_until == Moment(AT + 1200, 5)
         assert accepted.stamp(900).keep_until == Moment(AT + 1800, 5)
         assert accepted.stamp().data == accepted.stamp(900).data
+        for wrong in (-1, 2**32):
+            with pytest.raises(OverflowError):
+                accepted.stamp(wrong)
 
 
 def test_moments():

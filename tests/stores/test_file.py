@@ -1,5 +1,6 @@
 """The store in a file to which stamps are appended: what becomes of it when it has grown, and what is refused. What it
 has in common with the store over SQLite is in test_files.py."""
+import os
 import random
 import resource
 import threading
@@ -177,6 +178,20 @@ def test_a_process_that_was_killed_while_it_replaced_it(path, small):
     assert found == Counter(stamps(b"b", 20))
     assert not all_added(idle, stamps(b"a", 20) + stamps(b"b", 20)) and idle.add(b"c", LATER)
     assert [it.name for it in path.parent.iterdir()] == [store.path.name]
+
+
+def test_a_stamp_that_is_added_just_before_the_file_is_closed(path, small, monkeypatch):
+    """By a process that has seen no end of it: the next file has the stamp."""
+    store, other, added, write = File(path), File(path), [], os.write
+
+    def closing(file, data):
+        if data == _file._CLOSED:
+            added.append(other.add(b"late", LATER))
+        return write(file, data)
+
+    monkeypatch.setattr("fevstunik.stores._file.os.write", closing)
+    assert all_added(store, stamps(b"a", 80)) and added == [True]
+    assert not any(it.add(b"late", LATER) for it in (store, other, File(path)))
 
 
 def test_a_file_that_was_removed_after_it_was_replaced(path, small):

@@ -15,7 +15,7 @@ keytab = "web.keytab"
 service = "host/web@EX"
 first_life = true
 users = { realms = { "EX" = "{user}" } }
-sessions = {}
+sessions = { logout = "/logout" }
 """
 
 
@@ -79,6 +79,8 @@ def test_a_session(site):
     answer = site.ask(headers={"Cookie": cookie})
     assert (answer.status, answer.body, answer.token) == (200, b"{'REMOTE_USER': 'alice'}", None)
     assert answer.one("Set-Cookie") is None
+    out = site.ask(path="/logout", headers={"Cookie": cookie})
+    assert (out.status, out.body) == (200, b"You have logged out.\n") and "Max-Age=0" in out.one("Set-Cookie")
 
 
 def test_refusals(site):

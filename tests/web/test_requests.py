@@ -1,6 +1,8 @@
 """What each request is answered, over WSGI and ASGI, in this process."""
+import asyncio
 import base64
 import queue
+import sys
 import threading
 
 import pytest
@@ -88,15 +90,69 @@ def test_the_token_comes_with_each_status(ask, path, status):
 
 
 @pytest.mark.parametrize("path", ["/raises-after-start", "/raises-at-a-part"])
-def test_a_failure_after_the_start(made, path):
+def test_a_failure_after_the_start(made, path, caplog):
     answer = web.by_wsgi(made())(path=path, headers=authorized(negotiate(token())))
     assert answer.status == 500 and answer.token
     assert int(answer.one("Content-Length")) == len(answer.body)
+    # (the server sees no exception)
+    assert "the application failed" in caplog.text and "Traceback" in caplog.text
 
 
 def test_an_application_that_writes(made):
     answer = web.by_wsgi(made())(path="/writes", headers=authorized(negotiate(token())))
     assert (answer.status, answer.body) == (200, b"written, andyielded") and answer.token
+
+
+def test_an_answer_of_no_parts(made):
+    """As Flask makes it of a page without a body: an iterator, and not a list."""
+    def app(environ, start_response):
+        start_response("204 No Content", [])
+        return iter(())
+    environ, started = {"REQUEST_METHOD": "GET", "PATH_INFO": "/", "HTTP_AUTHORIZATION": negotiate(token())}, []
+    assert not list(made().wsgi(app)(environ, lambda *words: started.append(words)))
+    (status, headers), = started
+    assert status == "204 No Content" and [name for name, _ in headers] == ["WWW-Authenticate"]
+
+
+class Parts:
+    """An answer of two parts that counts how often it is closed."""
+    closed = 0
+
+    def __iter__(self):
+        return iter((b"one", b"two"))
+
+    def close(self):
+        self.closed += 1
+
+
+@pytest.mark.parametrize("read", [0, 1, 2])
+def test_an_answer_is_closed(made, read):
+    """Once, also if the server has read nothing of it. (Django gives its connections back then.)"""
+    def app(environ, start_response):
+        start_response("200 OK", [])
+        return given
+    environ, given = {"REQUEST_METHOD": "GET", "PATH_INFO": "/", "HTTP_AUTHORIZATION": negotiate(token())}, Parts()
+    answer = made().wsgi(app)(environ, lambda *_: None)
+    parts = iter(answer)
+    assert [next(parts) for _ in range(read)] == [b"one", b"two"][:read] and given.closed == 0
+    answer.close()
+    assert given.closed == 1
+
+
+def test_an_application_that_begins_again_too_late(made):
+    """The server has sent the status by then (PEP 3333)."""
+    def app(environ, start_response):
+        start_response("200 OK", [])
+        yield b"begun"
+        try:
+            raise KeyError
+        except KeyError:
+            start_response("500 Failed", [], sys.exc_info())
+    environ = {"REQUEST_METHOD": "GET", "PATH_INFO": "/", "HTTP_AUTHORIZATION": negotiate(token())}
+    parts = iter(made().wsgi(app)(environ, lambda *_: None))
+    assert next(parts) == b"begun"
+    with pytest.raises(KeyError):
+        next(parts)
 
 
 def test_an_answer_that_breaks_off_is_the_servers(made):
@@ -105,10 +161,25 @@ def test_an_answer_that_breaks_off_is_the_servers(made):
         yield b"begun"
         raise KeyError
     environ = {"REQUEST_METHOD": "GET", "PATH_INFO": "/", "HTTP_AUTHORIZATION": negotiate(token())}
-    parts = made().wsgi(app)(environ, lambda *_: None)
+    parts = iter(made().wsgi(app)(environ, lambda *_: None))
     assert next(parts) == b"begun"
     with pytest.raises(KeyError):
         next(parts)
+
+
+def test_an_answer_over_asgi_that_breaks_off_is_the_servers(made):
+    sent = []
+
+    async def app(scope, receive, send):
+        await send({"type": "http.response.start", "status": 200, "headers": []})
+        raise KeyError
+
+    async def send(message):
+        sent.append(message["type"])
+    headers = [(b"authorization", negotiate(token()).encode())]
+    with pytest.raises(KeyError):
+        asyncio.run(made().asgi(app)({"type": "http", "method": "GET", "path": "/", "headers": headers}, None, send))
+    assert sent == ["http.response.start"]
 
 
 def test_without_a_token_a_failure_is_the_servers(made):
@@ -328,6 +399,11 @@ def test_a_body_of_no_length(made, length):
     assert ask("POST", body=bytes(1000), CONTENT_LENGTH=length, **{"wsgi.input_terminated": True}).unread == 0
     answer = ask("POST", body=bytes(1000), CONTENT_LENGTH=length)
     assert (answer.status, answer.unread) == (401, 1000)
+
+
+def test_no_more_than_the_body_is_read(made):
+    """What is after it is the next request's, or never comes."""
+    assert web.by_wsgi(made())("POST", body=bytes(200_000), CONTENT_LENGTH="70000").unread == 130_000
 
 
 def test_a_body_that_breaks_off(made):

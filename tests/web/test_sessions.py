@@ -87,10 +87,11 @@ def test_the_end(made, over, clock, hours, ticket, ends):
 
 
 def test_logout(made, over):
-    ask = over(made(sessions=Sessions(logout="/logout")))
-    answer = ask(path="/logout")
+    gate = made(sessions=Sessions(logout="/logout"))
+    answer = over(gate)(path="/logout")
     assert (answer.status, answer.body) == (200, b"You have logged out.\n")
     assert answer.one("Set-Cookie") == "__Host-fevstunik=; Path=/; HttpOnly; SameSite=Lax; Secure; Max-Age=0"
+    assert gate.counts == {"LOGOUT": 1}
 
 
 def test_processes_share_a_key(made, over, tmp_path):

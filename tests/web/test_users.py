@@ -146,8 +146,9 @@ def test_certificates_are_read_again(made, over, certificates, tmp_path, monkeyp
     def asked(index):
         return ask(headers=[("Authorization", negotiate(token(bindings=hashes[index])))]).status
     assert [asked(0), asked(1)] == [200, 401]
-    path.write_text("no certificate")
-    assert [asked(0), asked(1)] == [200, 401]
+    for spoil in lambda: path.write_text("no certificate"), path.unlink:
+        spoil()
+        assert [asked(0), asked(1)] == [200, 401]
     path.write_bytes(paths[1].read_bytes())
     assert [asked(0), asked(1)] == [401, 200]
 

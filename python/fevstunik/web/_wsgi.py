@@ -2,7 +2,7 @@
 from __future__ import annotations
 
 import logging
-from collections.abc import Callable, Iterable, Iterator
+from collections.abc import Callable, Generator, Iterable, Iterator
 from contextlib import suppress
 from http import HTTPStatus
 from typing import Any
@@ -57,7 +57,7 @@ class _Answering:
         if self._held is not None and self._is_whole(parts):
             self._send()
             return parts
-        return self._watched(parts)
+        return _Parts(parts, self._watched(parts))
 
     def _is_whole(self, parts: Iterable[bytes]) -> bool:
         """Whether nothing can fail any more, or the server knows how to send it, such as a file."""
@@ -81,7 +81,7 @@ class _Answering:
             self._write = self._start(status, [*headers, *self._headers]) or (lambda _: None)
         return self._write
 
-    def _watched(self, parts: Iterable[bytes]) -> Iterator[bytes]:
+    def _watched(self, parts: Iterable[bytes]) -> Generator[bytes, None, None]:
         try:
             for part in parts:
                 self._send()
@@ -89,10 +89,6 @@ class _Answering:
             self._send()
         except Exception:
             yield from self._failed()
-        finally:
-            close = getattr(parts, "close", None)
-            if close is not None:
-                close()
 
     def _failed(self) -> Iterable[bytes]:
         """A page in place of the application's answer, unless that has begun: then the failure is the server's."""
@@ -100,6 +96,22 @@ class _Answering:
             raise
         _log.exception("the application failed")
         return _page(Answer(HTTPStatus.INTERNAL_SERVER_ERROR, "FAILED", self._headers), self._environ, self._start)
+
+
+class _Parts:
+    """An answer as the server reads it. It closes the application's, also if the server has read nothing of it."""
+
+    def __init__(self, parts: Iterable[bytes], watched: Generator[bytes, None, None]) -> None:
+        self._parts, self._watched = parts, watched
+
+    def __iter__(self) -> Iterator[bytes]:
+        return self._watched
+
+    def close(self) -> None:
+        self._watched.close()
+        close = getattr(self._parts, "close", None)
+        if close is not None:
+            close()
 
 
 def _drop_body(environ: dict[str, Any]) -> None:
