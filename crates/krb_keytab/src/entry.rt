@@ -6,7 +6,7 @@ ghost use Rattle.krb_keytab.specs.Inner.KeyHash.{key_hash};
 ghost use Rattle.krb_keytab.specs.Size.{name_size};
 ghost use Rattle.krb_keytab.specs.Written.{record_length};
 
-use crate::key::Key;
+use crate::key_bytes::KeyBytes;
 use crate::part::Part;
 use crate::step::SIZE_LENGTH;
 use krb_name::{Components, Named, Principal};
@@ -25,7 +25,7 @@ pub struct Entry {
     timestamp: u32,
     kvno: u32,
     etype: i16,
-    key: Key,
+    key: KeyBytes,
 }
 
 impl Model for Entry {
@@ -69,7 +69,7 @@ impl Entry {
         if !lengths_fit(&principal, &key) {
             return None;
         }
-        Some(Entry::from_parts(principal, timestamp, kvno, etype, Key::from(key)))
+        Some(Entry::from_parts(principal, timestamp, kvno, etype, KeyBytes::from(key)))
     }
 
     // Makes an entry of parts whose lengths fit.
@@ -78,7 +78,7 @@ impl Entry {
         timestamp: u32,
         kvno: u32,
         etype: i16,
-        key: Key,
+        key: KeyBytes,
     ) -> Entry
         requires { LengthsFit principal key }
         ensures { result ≡ record {

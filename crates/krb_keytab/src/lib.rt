@@ -23,7 +23,7 @@ mod field;
 mod finding;
 mod found;
 mod holes;
-mod key;
+mod key_bytes;
 mod key_index;
 mod keytab;
 pub mod laws;

@@ -5,7 +5,7 @@ ghost use Rattle.krb_keytab.specs.Entry.{KeytabEntry, LengthsFit};
 ghost use Rattle.krb_keytab.specs.Format.{full_kvno};
 
 use crate::entry::Entry;
-use crate::key::Key;
+use crate::key_bytes::KeyBytes;
 use crate::listed::Listed;
 use krb_name::{Bytes, Principal};
 use std::alloc::{AllocError, Global};
@@ -55,7 +55,7 @@ impl<'a> EntryView<'a> {
             name_type: self.name_type,
             components: self.components.to_components(alloc)?,
         };
-        let key = Key::from_slice(alloc, self.key)?;
+        let key = KeyBytes::from_slice(alloc, self.key)?;
         Ok(Entry::from_parts(principal, self.timestamp, self.kvno, self.etype, key))
     }
 }

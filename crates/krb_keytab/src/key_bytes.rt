@@ -8,22 +8,22 @@ use std::marker::Model;
 
 /// The bytes of a key. Up to 16 are held in place, as many as a key of enctype 17 or 19 has. A
 /// contract sees them as their list.
-pub(crate) struct Key {
+pub(crate) struct KeyBytes {
     bytes: SmallVec<u8, 16>,
 }
 
-impl Model for Key {
+impl Model for KeyBytes {
     ghost Value = { List ℕ };
 
     ghost view = { λ k. k.bytes.items };
 }
 
-impl Key {
+impl KeyBytes {
     /// Makes a copy of `bytes`.
-    pub(crate) fn from_slice(alloc: Global, bytes: &[u8]) -> Result<Key, AllocError>
+    pub(crate) fn from_slice(alloc: Global, bytes: &[u8]) -> Result<KeyBytes, AllocError>
         ensures { IfOk result (λ key. key ≡ bytes.now) }
     {
-        Ok(Key {
+        Ok(KeyBytes {
             bytes: SmallVec::from_slice(alloc, bytes)?,
         })
     }
@@ -36,20 +36,20 @@ impl Key {
     }
 }
 
-impl From<Vec<u8>> for Key {
+impl From<Vec<u8>> for KeyBytes {
     ghost from_gives = { λ bytes key. key ≡ bytes.items };
 
-    fn from(bytes: Vec<u8>) -> Key {
-        Key {
+    fn from(bytes: Vec<u8>) -> KeyBytes {
+        KeyBytes {
             bytes: SmallVec::from_vec(bytes),
         }
     }
 }
 
 // Written by hand, so that callers see a call and not the cases of a `SmallVec`.
-impl Drop for Key {
+impl Drop for KeyBytes {
     fn drop(self) {
-        let Key { bytes } = self;
+        let KeyBytes { bytes } = self;
         drop(bytes);
     }
 }
