@@ -8,7 +8,7 @@ ghost use Rattle.krb_explain.specs.Message.{form_name};
 use krb_msg::tag;
 
 /// A kind of message.
-#[derive(Clone, Copy)]
+#[derive(Clone, Copy, Debug, PartialEq, Eq)]
 pub enum Form {
     /// A client's request, `AP-REQ` (RFC 4120, section 5.5.1).
     Request,

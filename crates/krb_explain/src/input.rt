@@ -12,23 +12,28 @@ use base64::DecodeAllocError;
 use base64::engine::general_purpose::STANDARD;
 use hex::FromHexError;
 use std::alloc::{AllocError, Global};
+use thiserror::Error;
 
 /// Why a text doesn't spell bytes.
-#[derive(Clone, Copy)]
+#[derive(Clone, Copy, Debug, PartialEq, Eq, Error)]
 pub enum InputFault {
     /// There are no digits.
+    #[error("there are no digits")]
     NoBytes,
     /// The byte at this offset is neither white space nor a character of hexadecimal or base64.
+    #[error("no digit at {at}")]
     Symbol {
         /// An offset in the text.
         at: usize,
     },
     /// The digits aren't whole: of hexadecimal there is one too few, or base64 isn't padded as it must be.
+    #[error("the digits aren't whole at their end, {at}")]
     End {
         /// The length of the text.
         at: usize,
     },
     /// There is no memory for the bytes.
+    #[error("out of memory")]
     OutOfMemory,
 }
 
