@@ -431,8 +431,10 @@ EXEMPT = {
 
 @pytest.mark.parametrize("path, passes", EXEMPT.items())
 def test_exempt_paths(made, over, path, passes):
-    answer = over(made(exempt=["/health", "/static/"]))(path=path)
+    gate = made(exempt=["/health", "/static/"])
+    answer = over(gate)(path=path)
     assert (answer.status, answer.body) == (200, b"nobody") if passes else answer.status == 401
+    assert gate.counts == {"EXEMPT" if passes else "NO_TOKEN": 1}
 
 
 def test_a_mount_that_the_client_chooses(made):
