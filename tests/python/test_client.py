@@ -6,8 +6,8 @@ import subprocess
 import pytest
 
 from fevstunik import (
-    Acceptor, Client, Code, ContextFlags, CredentialCache, Fault, Keytab, KrbError, Mechanism, Moment, Refused, Says,
-    Service, ServiceError, Token, Verdict, login, tls_server_end_point)
+    Acceptor, Client, Code, ContextFlags, CredentialCache, Fault, Keytab, KrbError, Mechanism, Messages, Moment,
+    Refused, Says, Service, ServiceError, Side, Token, Verdict, login, tls_server_end_point)
 from fevstunik._values import LAST_SECOND
 from support import c_cases, der, fixture
 
@@ -56,21 +56,33 @@ OF_TYPE_20 = c_cases.ticket(der.enc_ticket_part(0, der.key(20, LONG_KEY), b"EX",
 
 def credential(kind, end=fixture.ENDTIME, client=b"alice"):
     """A ticket in a cache, with a session key of a type."""
-    key, ticket = {19: (fixture.SESSION_KEY, fixture.ticket()), 20: (LONG_KEY, OF_TYPE_20)}[kind]
+    key, ticket = {19: (fixture.SESSION_KEY, fixture.ticket()), 20: (LONG_KEY, OF_TYPE_20),
+                   18: (LONG_KEY, fixture.ticket())}[kind]
     names = fixture.principal(1, b"EX", client), fixture.principal(3, b"EX", b"host", b"web")
     return fixture.credential(*names, kind, key, (fixture.AUTHTIME, 0, end, 0), ticket)
 
 
 @pytest.mark.parametrize("held, kind", [
     ([credential(20, NOW + 1), credential(19)], 20), ([credential(19), credential(20)], 19),
-    ([credential(20, NOW), credential(19)], 19), ([credential(20, client=b"bob"), credential(19)], 19)],
-    ids=["the first", "the first, which is shorter", "one that hasn't ended", "the owner's"])
+    ([credential(20, NOW), credential(19)], 19), ([credential(20, client=b"bob"), credential(19)], 19),
+    ([credential(18), credential(19)], 19)],
+    ids=["the first", "the first, which is shorter", "one that hasn't ended", "the owner's", "one of a usable key"])
 def test_the_type_of_the_subkey(service, held, kind):
     """It is that of the session key of the ticket that is used."""
     head = b"\x05\x04\0\0" + fixture.principal(1, b"EX", b"alice")
     request, _, _ = opened(Client(CredentialCache(head + b"".join(held)), NAME).first(now=NOW))
     accepted = service.accept(request, NOW)
     assert (accepted.session_key.kind, accepted.subkey.kind) == (kind, kind)
+
+
+def test_messages_after_a_number_of_the_service(cache, service):
+    """Replies of other libraries have one."""
+    client = Client(cache, NAME, context=None)
+    accepted = service.accept(client.first(now=NOW), NOW)
+    agreed = client.finish(accepted.reply(seq=7))
+    theirs = Messages(Side.SERVICE, accepted.session_key, client_subkey=accepted.subkey, client_seq=accepted.seq or 0,
+                      service_seq=7)
+    assert agreed.messages().unwrap(theirs.wrap(b"hello")).number == 7
 
 
 @pytest.mark.parametrize("answered", FORMS.values(), ids=FORMS)

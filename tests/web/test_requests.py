@@ -167,19 +167,21 @@ def test_an_answer_that_breaks_off_is_the_servers(made):
         next(parts)
 
 
-def test_an_answer_over_asgi_that_breaks_off_is_the_servers(made):
+@pytest.mark.parametrize("kind, begun", [("http", ["http.response.start"]), ("websocket", [])])
+def test_an_answer_over_asgi_that_breaks_off_is_the_servers(made, kind, begun):
     sent = []
 
     async def app(scope, receive, send):
-        await send({"type": "http.response.start", "status": 200, "headers": []})
+        for it in begun:
+            await send({"type": it, "status": 200, "headers": []})
         raise KeyError
 
     async def send(message):
         sent.append(message["type"])
     headers = [(b"authorization", negotiate(token()).encode())]
     with pytest.raises(KeyError):
-        asyncio.run(made().asgi(app)({"type": "http", "method": "GET", "path": "/", "headers": headers}, None, send))
-    assert sent == ["http.response.start"]
+        asyncio.run(made().asgi(app)({"type": kind, "method": "GET", "path": "/", "headers": headers}, None, send))
+    assert sent == begun
 
 
 def test_without_a_token_a_failure_is_the_servers(made):
@@ -431,8 +433,10 @@ EXEMPT = {
 
 @pytest.mark.parametrize("path, passes", EXEMPT.items())
 def test_exempt_paths(made, over, path, passes):
-    answer = over(made(exempt=["/health", "/static/"]))(path=path)
+    gate = made(exempt=["/health", "/static/"])
+    answer = over(gate)(path=path)
     assert (answer.status, answer.body) == (200, b"nobody") if passes else answer.status == 401
+    assert gate.counts == {"EXEMPT" if passes else "NO_TOKEN": 1}
 
 
 def test_a_mount_that_the_client_chooses(made):
