@@ -1,7 +1,7 @@
 -- Bytes that come piece by piece, and are at hand or passed over.
-use Rattle.std.proofs.Common.{◌≡◌, ℕ, ◌+◌, ◌-◌, ◌≤◌, List, ◌++◌, length, take, replicate, Option, Result, Ok, sym, ap, ◌∙◌, append_assoc, arith}
+use Rattle.std.proofs.Common.{◌≡◌, ℕ, ◌+◌, ◌-◌, ◌≤◌, List, ◌++◌, length, take, Option, Result, Ok, ap, ◌∙◌, append_assoc, arith}
 use Rattle.std.specs.Prelude.{max}
-use Rattle.std.proofs.lemmas.List.{length-append, take-take, take_all, take_at, take-append-le}
+use Rattle.std.proofs.lemmas.List.{length-append, length-take, take-take, take-append-le}
 use Rattle.std.proofs.Math.Seq.{take-append-add}
 use Rattle.std.proofs.KnownBytes.{Consumes-trans}
 use Rattle.krb_file.specs.Flow.{counted}
@@ -45,19 +45,20 @@ one_more Comes join remaining failure_count lender old mid new count left came f
 
 -- ---- one read into the room after the bytes at hand
 
--- the front of that room is what was there
-pub room_behind : (old all room : List ℕ) (at most more : ℕ) → at ≡ length old → all ≡ room → room ≡ take (at + most) old ++ replicate more 0 → take at all ≡ old
-room_behind old all room at most more a v r =
-    ap (take at) (v ∙ r ∙ ap (λ (t : List ℕ). t ++ replicate more 0) (take_all (at + most) old (omega (arith, a)))) ∙ take_at old (replicate more 0) at (sym a)
-
--- what the room is cut to: what was there, and then what came
-pub came_behind : (old front buffer tail rest : List ℕ) (at room came : ℕ) → at ≡ length old → front ≡ old → at + came ≤ room → came ≤ length buffer
-    → take (at + came) (take room ((front ++ (buffer ++ tail)) ++ rest)) ≡ old ++ take came buffer
-came_behind old front buffer tail rest at room came a f fits some =
-    let parts : (front ++ (buffer ++ tail)) ++ rest ≡ old ++ (buffer ++ (tail ++ rest)) =
-    append_assoc front (buffer ++ tail) rest ∙ ap (λ (t : List ℕ). t ++ ((buffer ++ tail) ++ rest)) f ∙ ap (λ (t : List ℕ). old ++ t) (append_assoc buffer tail rest) in
+-- what was there, and then what came
+pub came_at : (old front buffer tail rest : List ℕ) (at room came : ℕ) → at ≤ length old → front ≡ take at old → came ≤ length buffer → at + came ≤ room
+    → take (at + came) (take room ((front ++ (buffer ++ tail)) ++ rest)) ≡ take at old ++ take came buffer
+came_at old front buffer tail rest at room came a f some fits =
+    let held = take at old in
+    let count : at ≡ length held = omega (arith, length-take at old) in
+    let parts : (front ++ (buffer ++ tail)) ++ rest ≡ held ++ (buffer ++ (tail ++ rest)) =
+    append_assoc front (buffer ++ tail) rest ∙ ap (λ (t : List ℕ). t ++ ((buffer ++ tail) ++ rest)) f ∙ ap (λ (t : List ℕ). held ++ t) (append_assoc buffer tail rest) in
     take-take (at + came) room ((front ++ (buffer ++ tail)) ++ rest) fits
     ∙ ap (take (at + came)) parts
-    ∙ ap (λ (n : ℕ). take (n + came) (old ++ (buffer ++ (tail ++ rest)))) a
-    ∙ take-append-add old (buffer ++ (tail ++ rest)) came
-    ∙ ap (λ (t : List ℕ). old ++ t) (take-append-le came buffer (tail ++ rest) some)
+    ∙ ap (λ (n : ℕ). take (n + came) (held ++ (buffer ++ (tail ++ rest)))) count
+    ∙ take-append-add held (buffer ++ (tail ++ rest)) came
+    ∙ ap (λ (t : List ℕ). held ++ t) (take-append-le came buffer (tail ++ rest) some)
+
+pub came_within : (old front buffer tail rest : List ℕ) (at room came : ℕ) → at ≤ length old → front ≡ take at old → came ≤ length buffer → at + came ≤ room
+    → at + came ≤ length (take room ((front ++ (buffer ++ tail)) ++ rest))
+came_within old front buffer tail rest at room came a f some fits = simp (length-take, length-append) (omega (arith, ap length f, length-take at old))

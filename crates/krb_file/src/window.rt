@@ -1,13 +1,13 @@
 //! The bytes of a source that are held.
 
-ghost use Rattle.std.specs.Prelude.{◌≡◌, ◌+◌, ◌-◌, ◌^◌, ◌<◌, ◌≤◌, [], length, is_ok, if◌then◌else◌};
+ghost use Rattle.std.specs.Prelude.{◌≡◌, ◌+◌, ◌-◌, ◌^◌, ◌<◌, ◌≤◌, ℕ, [], length, take, is_ok, if◌then◌else◌, OnOk};
 ghost use Rattle.krb_file.specs.Flow.{counted, failed_reads};
 ghost use Rattle.krb_file.specs.Window.{Keeps, Skips, Fills, Passes, RunsOut};
-ghost use Rattle.krb_file.specs.Inner.Window.{ReadsBehind, ComesOnce};
+ghost use Rattle.krb_file.specs.Inner.Window.{ReadsAt, ComesOnce};
 
 use crate::reading::ReadFault;
 use crate::source::{Source, SourceFailed};
-use std::alloc::Global;
+use std::alloc::{AllocError, Global};
 use std::marker::Model;
 
 // How many bytes are asked of a source at a time, if they are kept and if they aren't.
@@ -22,20 +22,27 @@ const PASSED: usize = 4_096;
 #[derive(Drop)]
 pub struct Window<S> {
     source: S,
+    // Those that are held, and then room for others, which has been filled before.
     bytes: Vec<u8>,
+    len: usize,
     peak: usize,
     given: usize,
 }
 
 impl<S> Model for Window<S> {
-    ghost use Rattle.std.specs.Prelude.{◌≤◌, length};
+    ghost use Rattle.std.specs.Prelude.{◌≤◌, length, take};
     ghost use Rattle.krb_file.specs.Window.{AtHand};
 
     ghost Value = { AtHand S };
 
-    ghost view = { λ w. record { source = w.source; bytes = w.bytes.items; peak = w.peak; given = w.given } };
+    ghost view = { λ w. record {
+      source = w.source;
+      bytes = take w.len w.bytes.items;
+      peak = w.peak;
+      given = w.given;
+    } };
 
-    ghost invariant = { λ w. length w.bytes.items ≤ w.peak };
+    ghost invariant = { λ w. (w.len ≤ length w.bytes.items) × (w.len ≤ w.peak) };
 }
 
 impl<S: Source> Window<S> {
@@ -46,6 +53,7 @@ impl<S: Source> Window<S> {
         Window {
             source,
             bytes: Vec::new(alloc),
+            len: 0,
             peak: 0,
             given: 0,
         }
@@ -65,6 +73,7 @@ impl<S: Source> Window<S> {
         let Window {
             source,
             bytes: _,
+            len: _,
             peak: _,
             given: _,
         } = self;
@@ -75,7 +84,7 @@ impl<S: Source> Window<S> {
     pub fn bytes(&self) -> &[u8]
         ensures { result.now ≡ self.now.bytes }
     {
-        self.bytes.as_slice()
+        &self.bytes[..self.len]
     }
 
     /// Returns how many bytes were held at once at most.
@@ -97,7 +106,7 @@ impl<S: Source> Window<S> {
     pub fn clear(&mut self)
         ensures { self.new ≡ record self.old { bytes = [] } }
     {
-        self.bytes.clear();
+        self.len = 0;
     }
 
     /// Takes `count` bytes of the source, appends them to those held, and returns whether so many
@@ -192,8 +201,9 @@ impl<S: Source> Window<S> {
             ≡ counted (S.failure_count self.old.source) (failed_reads result) }
         ensures lent { S.lender self.new.source ≡ S.lender self.old.source }
     {
-        let came = read_behind(&mut self.source, &mut self.bytes, most.min(PIECE))?;
-        self.peak = self.peak.max(self.bytes.len());
+        let came = read_at(&mut self.source, &mut self.bytes, self.len, most.min(PIECE))?;
+        self.len += came;
+        self.peak = self.peak.max(self.len);
         self.given += came;
         Ok(came)
     }
@@ -215,30 +225,37 @@ impl<S: Source> Window<S> {
     }
 }
 
-// Asks a source once for at most `most` bytes, and appends those that come to `bytes`.
-fn read_behind<S: Source>(
+// Asks a source once for at most `most` bytes, and puts those that come at a place in `bytes`. What is
+// before that place stays.
+fn read_at<S: Source>(
     source: &mut S,
     bytes: &mut Vec<u8>,
+    at: usize,
     most: usize,
 ) -> Result<usize, ReadFault>
     requires some { 0 < most }
     requires most { most ≤ 65536 }
-    ensures behind { ReadsBehind (S.remaining source.old) (S.remaining source.new)
-        bytes.old.items bytes.new.items most result }
+    requires at { at ≤ length bytes.old.items }
+    ensures at { ReadsAt (S.remaining source.old) (S.remaining source.new)
+        bytes.old.items bytes.new.items at most result }
     ensures failed { S.failure_count source.new
         ≡ counted (S.failure_count source.old) (failed_reads result) }
     ensures lent { S.lender source.new ≡ S.lender source.old }
 {
-    let old = bytes.len();
-    bytes.resize(old + most, 0)?;
-    match source.read(&mut bytes[old..]) {
-        Ok(came) => {
-            bytes.truncate(old + came);
-            Ok(came)
-        }
-        Err(SourceFailed) => {
-            bytes.truncate(old);
-            Err(ReadFault::Read)
-        }
+    let end = at + most;
+    make_room(bytes, end)?;
+    Ok(source.read(&mut bytes[at..end])?)
+}
+
+// Makes the bytes at least so many. Those that are there stay.
+fn make_room(bytes: &mut Vec<u8>, len: usize) -> Result<(), AllocError>
+    ensures room { OnOk result (len ≤ length bytes.new.items) }
+    ensures longer { length bytes.old.items ≤ length bytes.new.items }
+    ensures kept { (at : ℕ) → at ≤ length bytes.old.items
+        → take at bytes.new.items ≡ take at bytes.old.items }
+{
+    if bytes.len() < len {
+        bytes.resize(len, 0)?;
     }
+    Ok(())
 }

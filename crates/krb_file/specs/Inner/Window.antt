@@ -1,5 +1,5 @@
 -- What one read, or some of them, leave at hand.
-use Rattle.std.specs.Prelude.{◌≡◌, ℕ, ◌+◌, ◌≤◌, max, List, [], ◌++◌, length, Option, Result, Ok, Err}
+use Rattle.std.specs.Prelude.{◌≡◌, ℕ, ◌+◌, ◌≤◌, max, List, [], ◌++◌, length, take, Option, Result, Ok, Err}
 use Rattle.std.specs.Io.KnownBytes.{Consumes, IsAtEnd}
 use Rattle.krb_file.specs.Window.{AtHand, Skips}
 
@@ -8,10 +8,17 @@ abbrev pub OneRead : {E : Type 0} → Result ℕ E → ℕ → List ℕ → Opti
 OneRead (Ok count) most piece to = (length piece ≡ count) × (count ≤ most) × (count ≡ 0 → IsAtEnd to)
 OneRead (Err _) most piece to = piece ≡ []
 
-pub record ReadsBehind {E : Type 0} (from to : Option (List ℕ)) (old new : List ℕ) (most : ℕ) (answer : Result ℕ E) : Type 0 where
+-- how many bytes one read gave
+abbrev pub came_of : {E : Type 0} → Result ℕ E → ℕ
+came_of (Ok count) = count
+came_of (Err _) = 0
+
+-- one read put what it gave at a place in a list, and what is before that stays
+pub record ReadsAt {E : Type 0} (from to : Option (List ℕ)) (old new : List ℕ) (at most : ℕ) (answer : Result ℕ E) : Type 0 where
   pub piece : List ℕ
   pub consumed : Consumes from to piece
-  pub bytes : new ≡ old ++ piece
+  pub within : at + came_of answer ≤ length new
+  pub bytes : take (at + came_of answer) new ≡ take at old ++ piece
   pub one : OneRead answer most piece to
 
 -- what one read gave, and what became of what is held
