@@ -39,7 +39,7 @@ def blocks(name, language):
 @pytest.mark.parametrize("name", OF_THE_EXAMPLE)
 def test_code(name):
     """Each block of code stands in the example."""
-    program = (EXAMPLE / "src/main.rt").read_text()
+    program = (EXAMPLE / "src/hello.rt").read_text()
     assert blocks(name, "rust")
     assert [it for it in blocks(name, "rust") if it not in program] == []
 
@@ -51,8 +51,8 @@ def doc_blocks(text):
 
 
 def test_crate_examples():
-    """Each block of code in the documentation of a crate stands in a function of krb_doc_examples."""
-    programs = "".join(it.read_text() for it in (TOP / "crates/krb_doc_examples/src").glob("*.rt"))
+    """Each block of code in the documentation of a crate stands in a function of krb_example."""
+    programs = "".join(it.read_text() for it in (EXAMPLE / "src").glob("*.rt"))
     found = [(path, it) for path in sorted((TOP / "crates").glob("*/src/**/*.rt"))
              for it in doc_blocks(path.read_text())]
     assert [str(path.relative_to(TOP)) for path, it in found if textwrap.indent(it, "    ") not in programs] == []
