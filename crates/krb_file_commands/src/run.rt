@@ -10,7 +10,7 @@ use crate::fault_lines::{FaultLine, fault_line, file_line, memory_line, same_lin
 use crate::new_file::{OWNER_ALONE, close_to_others};
 use crate::one_file::is_open_file;
 use krb_file::{ReadSource, WriteSink};
-use std::fs::{File, OpenOptions};
+use std::fs::{File, OpenFile, OpenOptions};
 use std::io;
 use std::io::{BufReader, Read, Write};
 use std::os::unix::fs::OpenOptionsExt;
@@ -37,7 +37,10 @@ pub fn run_product<R: AllocGlobal + Files + Print + Eprint, P: Product>(
     };
     let ended = match out {
         Some(path) => match make_out(rt, &opened, path) {
-            Ok(made) => run_into(rt, product, command, opened, made),
+            Ok(mut made) => {
+                let ended = run_into(rt, product, command, opened, &mut made);
+                on_disk(rt, ended, &made, path)
+            }
             Err(status) => return status,
         },
         None => run_into(rt, product, command, opened, io::writer(rt)),
@@ -60,6 +63,31 @@ fn run_into<R: AllocGlobal + Eprint, P: Product, F: Read + Drop, W: Write + Drop
     let mut source = source_of(rt, file, command)?;
     let mut sink = WriteSink::new(writer);
     Ok(produce(rt.alloc(), &mut source, &mut sink, product))
+}
+
+// Waits until the disk has what ended well in OUT: some file systems report only then that there was no room. If it can't have
+// that, it is printed, and the exit status is the error.
+fn on_disk<R: Eprint, F: OpenFile, E: Drop>(
+    rt: &R,
+    ended: Result<Result<usize, E>, u8>,
+    out: &F,
+    path: &str,
+) -> Result<Result<usize, E>, u8>
+    requires { IfErr ended (λ status. status ≡ 3) }
+    ensures { IfErr result (λ status. status ≡ 3) }
+{
+    match ended {
+        Ok(Ok(_)) if !is_on_disk(out) => Err(complain(rt, file_line(path), FAILED)),
+        _ => ended,
+    }
+}
+
+// Waits until the disk has what a file holds, and returns whether it has. What isn't a file on a disk has nothing to wait for.
+fn is_on_disk<F: OpenFile>(file: &F) -> bool {
+    match file.metadata() {
+        Ok(found) => !found.is_file() || file.sync_all().is_ok(),
+        Err(_) => false,
+    }
 }
 
 /// Opens a file. If it can't be opened, that is printed, and the exit status is the error.
