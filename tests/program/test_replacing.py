@@ -343,3 +343,14 @@ def test_failing_calls(checks, program, tmp_path, command):
         which = "new" if ran.returncode == 0 or unprinted else "old"
         checks.equal(f"{name} failed: {ran.returncode} {ran.stderr[:200]}", state, (which, []))
         checks.equal(f"{name} failed, and that is reported", told or ran.returncode == 0, True)
+
+
+@pytest.mark.packages
+@pytest.mark.parametrize("words", ["convert-keytab o out", "convert-ccache c out"])
+def test_a_disk_without_room(program, tmp_path, words):
+    """Without --replace, a fault that shows only when OUT is synced is reported, as that of a quota over NFS."""
+    laid_out(tmp_path, {"o": OTHER, "c": CACHE})
+    inject = ["-e", "trace=fsync", "-e", "inject=fsync:error=EDQUOT"]
+    command = [*TRACED, *inject, program, *words.split()]
+    ran = subprocess.run(command, cwd=tmp_path, capture_output=True, text=True, timeout=300)
+    assert (ran.returncode, ran.stdout, ran.stderr) == (3, "", "krbtool: out: File\n")
