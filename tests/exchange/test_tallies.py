@@ -1,4 +1,4 @@
-"""Tallies of times, and the times of one owner, in lists of calls that grow past several buckets, against a sorted list."""
+"""Tallies of times, and the times of one owner, in lists of calls that fill several buckets, against a sorted list."""
 import random
 from bisect import bisect_left, insort
 
