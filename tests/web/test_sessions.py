@@ -103,6 +103,16 @@ def test_processes_share_a_key(made, over, tmp_path):
     assert with_cookie(over(made(sessions=Sessions())), cookie) == 401
 
 
+def test_a_new_key_is_on_the_disk_before_it_has_its_name(made, tmp_path, monkeypatch):
+    """Else a power cut could leave a file without the key, and the service wouldn't start again."""
+    key, synced = tmp_path / "session.key", []
+    sync, link = os.fsync, os.link
+    monkeypatch.setattr(os, "fsync", lambda file: synced.append(os.fstat(file).st_size) or sync(file))
+    monkeypatch.setattr(os, "link", lambda *words: synced.append("linked") or link(*words))
+    made(sessions=Sessions(key=key))
+    assert synced[:2] == [32, "linked"] and key.stat().st_size == 32
+
+
 def test_a_new_key_ends_all(made, over, tmp_path, monkeypatch):
     key = tmp_path / "session.key"
     ask = over(made(sessions=Sessions(key=key)))

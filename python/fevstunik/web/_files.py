@@ -150,10 +150,12 @@ def session_key(path: str) -> Key:
 
 
 def _make_key(path: str) -> None:
-    """Make the file whole or not at all. Of several processes that do so at once, one makes it."""
+    """Make the file whole or not at all, also if the power fails. Of several processes that do so at once, one makes
+    it."""
     with tempfile.NamedTemporaryFile(dir=os.path.dirname(os.path.abspath(path))) as file:
         file.write(os.urandom(_KEY_SIZE))
         file.flush()
+        os.fsync(file.fileno())
         try:
             os.link(file.name, path)
         except FileExistsError:
