@@ -91,7 +91,7 @@ class _Side(Secret):
         self._layers, self._size = Layer(layers), size
         self._messages: Messages | None = None
         self._layer: Layer | None = None
-        self._theirs, self._read, self._is_over = 0, b"", False
+        self._theirs, self._read, self._is_over = 0, bytearray(), False
 
     @property
     def is_done(self) -> bool:
@@ -153,18 +153,21 @@ class _Side(Secret):
         try:
             return b"".join(self._texts())
         except BaseException:
-            self._is_over, self._read = True, b""
+            self._is_over, self._read = True, bytearray()
             raise
 
     def _texts(self) -> Iterator[bytes]:
-        while len(self._read) >= 4:
-            size = int.from_bytes(self._read[:4], "big")
+        # (what was read is dropped once, so that many small tokens take no longer than a large one)
+        at = 0
+        while len(self._read) >= at + 4:
+            size = int.from_bytes(self._read[at:at + 4], "big")
             if size > self._size:
                 raise SaslError(f"a token of {size} bytes comes, and this side takes {self._size}")
-            if len(self._read) < 4 + size:
-                return
-            token, self._read = self._read[4:4 + size], self._read[4 + size:]
+            if len(self._read) < at + 4 + size:
+                break
+            token, at = bytes(self._read[at + 4:at + 4 + size]), at + 4 + size
             yield self._text(token, self.layer == Layer.CONFIDENTIALITY)
+        del self._read[:at]
 
     def _text(self, token: bytes, is_sealed: bool) -> bytes:
         """The text of a token. It may be sealed though that wasn't agreed on, but not the other way round."""

@@ -4,6 +4,7 @@ import asyncio
 import copy
 import pickle
 import threading
+import time
 
 import pytest
 
@@ -347,6 +348,14 @@ def test_data_again():
     assert server.decode(one) == b"one"
     with pytest.raises(SaslError, match="MESSAGE_REPEAT"):
         server.decode(one)
+
+
+def test_many_tokens_at_once():
+    """They take a time that grows with their number, and not with its square. What isn't whole is kept."""
+    server, client = logged_in()
+    sent, before = b"".join(client.encode(b"x") for _ in range(80_000)), time.process_time()
+    assert server.decode(sent[:-1]) == b"x" * 79_999
+    assert server.decode(sent[-1:]) == b"x" and time.process_time() - before < 20
 
 
 def test_plain_data_under_confidentiality():
