@@ -92,7 +92,7 @@ def _target(sent: bytes) -> bytes:
 
 class _Connection:
     def __init__(self, stream: socket.socket, peer: Any, app: App) -> None:
-        self._stream, self._app, self._read = stream, app, b""
+        self._stream, self._app, self._read = stream, app, bytearray()
         self._peer = (str(peer[0]), str(peer[1])) if isinstance(peer, tuple) else ("", "")
 
     def run(self) -> None:
@@ -124,16 +124,23 @@ class _Connection:
 
     def _until_end(self) -> bytes | None:
         """A request's head, without its last line, or None if the connection ends before it."""
-        until = time.monotonic() + _PATIENCE
-        while b"\r\n\r\n" not in self._read:
+        until, looked = time.monotonic() + _PATIENCE, 0
+        while (end := self._read.find(b"\r\n\r\n", looked)) < 0:
             if len(self._read) > _HEAD:
                 raise _Bad("431 Request Header Fields Too Large")
+            # (however small the pieces are, a byte is looked at a few times at most)
+            looked = max(len(self._read) - 3, 0)
             more = self._more(until)
             if not more:
                 return None
             self._read += more
-        head, _, self._read = self._read.partition(b"\r\n\r\n")
-        return head
+        return self._taken(end + 4)[:end]
+
+    def _taken(self, size: int) -> bytes:
+        """The first bytes of what was read, which is then shorter by them."""
+        taken = bytes(self._read[:size])
+        del self._read[:size]
+        return taken
 
     def _body(self, head: _Head) -> bytes:
         size, until = head.size, time.monotonic() + _PATIENCE
@@ -144,8 +151,7 @@ class _Connection:
             if not more:
                 raise ConnectionError
             self._read += more
-        body, self._read = self._read[:size], self._read[size:]
-        return body
+        return self._taken(size)
 
     def _environ(self, head: _Head, body: bytes) -> dict[str, Any]:
         path, _, query = head.target.partition(b"?")
