@@ -1,6 +1,7 @@
 """Who is let in, by which name, and on which channel."""
 import ssl
 import subprocess
+import time
 
 import pytest
 
@@ -65,6 +66,13 @@ def test_wrong_kinds(terms):
 def test_the_realm_of_a_name():
     """A separator with a backslash before it belongs to a component or to the realm."""
     assert _users.realm_of(r"a\@b/\\@E\@X\/Y@Z") == "E@X/Y@Z"
+
+
+def test_a_name_of_many_components():
+    """With a backslash in it, too, it is read in one go: a foreign KDC may name its clients so."""
+    before = time.process_time()
+    assert _users._unescaped(r"\\/" + "a/" * 400_000 + r"\x41@EX") == (("\\", *"a" * 400_000, "A"), "EX")
+    assert time.process_time() - before < 20
 
 
 ANYBODY = {"realms": {}, "others": "{user}@{realm}"}

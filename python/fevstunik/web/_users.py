@@ -3,7 +3,7 @@ from __future__ import annotations
 
 import re
 import string
-from collections.abc import Iterable, Mapping
+from collections.abc import Iterable, Iterator, Mapping
 from dataclasses import dataclass, field
 from functools import lru_cache
 
@@ -189,11 +189,7 @@ def parts_of(name: str) -> tuple[tuple[str, ...], str]:
 
 def _unescaped(name: str) -> tuple[tuple[str, ...], str]:
     before, _, realm = _split(name, "@")
-    components, more = [], "/"
-    while more:
-        first, more, before = _split(before, "/")
-        components.append(_plain(first))
-    return tuple(components), _plain(realm)
+    return tuple(map(_plain, _separated(before))), _plain(realm)
 
 
 def realm_of(name: str) -> str:
@@ -207,6 +203,17 @@ def _split(text: str, separator: str) -> tuple[str, str, str]:
     while at < len(text) and text[at] != separator:
         at += 2 if text[at] == "\\" else 1
     return text[:at], text[at:at + 1], text[at + 1:]
+
+
+def _separated(text: str) -> Iterator[str]:
+    """What is between the slashes that aren't escaped."""
+    start = at = 0
+    while at < len(text):
+        if text[at] == "/":
+            yield text[start:at]
+            start = at + 1
+        at += 2 if text[at] == "\\" else 1
+    yield text[start:]
 
 
 def _plain(escaped: str) -> str:
